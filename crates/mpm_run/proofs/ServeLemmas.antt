@@ -1,140 +1,60 @@
 -- What a server that was run shows, and why one wasn't.
-use Rattle.std.proofs.Common.{◌≡◌, ◌∙◌, ◌⊎◌, inl, inr, ℕ, false, List, ◌++◌, length, Option, None, Some, option_map, IfSome, IsNone, IsSome, Result, Ok, Err, refl, sym, ap, subst, arith}
+use Rattle.listener.proofs.LeftLemmas.{store-since}
+use Rattle.std.proofs.Common.{◌≡◌, ◌∙◌, ◌⊎◌, inl, inr, ℕ, false, List, ◌++◌, Option, None, Some, IfSome, IsNone, IsSome, Result, Ok, Err, refl, sym, subst, arith}
 use Rattle.mpm_base.specs.Count.{NeverFalls}
-use Rattle.mpm_base.specs.Front.{Binds, FrontSeen, FrontTold}
-use Rattle.mpm_base.specs.Store.{ReadsFile, StoreCounts, StoreSeen, StoreTold, answers_with, is_failure, is_refusal, telling_store}
+use Rattle.mpm_base.specs.Front.{Binds, FrontSeen}
+use Rattle.mpm_base.specs.Store.{ReadsFile, StoreSeen, StoreTold, answers_with, is_failure, is_refusal}
 use Rattle.mpm_base.specs.declared.store.File.{File}
 use Rattle.mpm_base.specs.declared.store.StoreFault.{StoreFault}
-use Rattle.mpm_base.specs.declared.script_line.ScriptLine.{ScriptLine}
 use Rattle.mpm_config.specs.Config.{Configuration}
-use Rattle.mpm_script.specs.Clients.{clients_of}
-use Rattle.script_front.specs.Editions.{conf_name, editions_of}
-use Rattle.script_front.specs.ScriptFront.{SeenFront, front_seen, new_front}
-use Rattle.stand_ins.specs.PlainStore.{SeenStore, no_store_counts}
 use Rattle.file_table.specs.declared.load_fault.LoadFault.{LoadFault}
 use Rattle.file_table.specs.declared.load_fault.LoadFault.TheVariants as fault
 use Rattle.file_table.specs.Load.{IsWithinLimits, LeavesStore, MayLoad}
 use Rattle.file_table.specs.Site.{IsSiteOf, SeenSite}
-use Rattle.conn_machine.specs.declared.event.Entry.{Entry}
-use Rattle.conn_machine.specs.declared.event.Why.TheVariants as why
 use Rattle.conn_machine.specs.declared.state.Going.{Going}
-use Rattle.conn_machine.specs.declared.state.Going.TheVariants.{Halted}
-use Rattle.conn_state.specs.Answered.{SeenEnded}
-use Rattle.conn_state.specs.Known.{KnownOutside}
-use Rattle.board.specs.Board.{AreOfOutside, EndedOfOutside, SeenBoard}
-use Rattle.board.specs.Book.{SeenBook}
-use Rattle.board.specs.Editions.{GenerationsKeepTheirEditions, KeepsEditions}
-use Rattle.mpm_run.specs.Calls.{Call, HadAccepted, HasAccepted, KeepsFiles, LoadsSite}
-use Rattle.mpm_run.specs.Commands.{DoesLines}
-use Rattle.mpm_run.specs.Configured.{most_config}
-use Rattle.mpm_run.specs.ExitStatuses.{EndsAs, EndsSiteRefused, EndsUnbound, EndsUnread, HasRunServer, IsUnbound, KeepsLines, LeavesFront}
-use Rattle.mpm_run.specs.ExitStatusesInside.{HasRunBy, HasRunScript, LeavesUnbound, RefusesRun}
-use Rattle.mpm_run.specs.FirstNumbers.{numbers_of, opened_by}
-use Rattle.mpm_run.specs.Generations.{Opening, renewed}
+use Rattle.board.specs.Board.{SeenBoard}
+use Rattle.run_opening.specs.Calls.{Call, HadConfigAccepted, HasConfigAccepted, KeepsFiles, LoadsSite}
+use Rattle.restart_control.specs.Reload.{most_config, order_of}
+use Rattle.run_opening.specs.Configured.{warnings_of}
+use Rattle.run_report.specs.Endings.{EndsAs, MayEndWith}
+use Rattle.mpm_run.specs.ExitStatuses.{EndsSiteRefused, EndsUnbound, EndsUnread, HasRunServer, IsUnbound, LeavesFront, EndsConfigRefused}
+use Rattle.listener.specs.RunsInside.{HasRunBy}
+use Rattle.mpm_run.specs.ExitStatusesInside.{LeavesUnbound, RefusesFolder, IsOpenedStatus, EndsServe}
+use Rattle.run_opening.specs.RefusalsInside.{RefusesRun}
+use Rattle.listener.specs.FirstNumbers.{numbers_of, opened_by}
+use Rattle.listener.specs.Generations.{Opening}
 use Rattle.command_words.specs.Invocations.{IsServeWords}
-use Rattle.mpm_run.specs.Listen.{HasClosedAll, IsRunFrom}
-use Rattle.mpm_run.specs.OrdersInside.{known_outside}
-use Rattle.mpm_run.specs.Outside.{KeepsOutside}
-use Rattle.mpm_run.specs.Served.{all_entries, whole_book}
-use Rattle.mpm_run.specs.Sites.{IsSiteRefusedOf, order_of}
-use Rattle.mpm_run.specs.SitesInside.{RefusesFolder}
-use Rattle.mpm_run.specs.Standing.{HasStood, standing}
-use Rattle.mpm_run.specs.Stops.{TakesEach}
-use Rattle.mpm_run.specs.Stores.{IsRenewed, KeepsStore, RisesBy}
-use Rattle.mpm_run.specs.Tells.{AllReceive}
-use Rattle.mpm_run.specs.Texts.{front_fault}
-use Rattle.mpm_run.proofs.ConfigLemmas.{accepted-still}
-use Rattle.mpm_run.proofs.CountLemmas.{rises-behind, where-stays}
-use Rattle.mpm_run.proofs.EndLemmas.{clients-names}
-use Rattle.mpm_run.proofs.RunLemmas.{known-receive}
-use Rattle.mpm_run.proofs.ServedLemmas.{ordered-reopened, served-reopened, serves-editions}
+use Rattle.listener.specs.Outside.{KeepsOutside}
+use Rattle.listener.specs.Served.{all_entries, whole_book}
+use Rattle.run_opening.specs.Sites.{IsSiteRefusedOf}
+use Rattle.run_report.specs.Texts.{front_fault}
+use Rattle.run_opening.proofs.ConfigLemmas.{accepted-still}
+use Rattle.run_report.proofs.CountLemmas.{rises-behind, where-stays}
+use Rattle.listener.proofs.ServedLemmas.{ordered-reopened, served-reopened}
+use Rattle.run_report.specs.EndingsInside.{IsEnd}
+use Rattle.run_report.proofs.EndingLemmas.{may-end}
+use Rattle.run_opening.specs.Refusals.{EndsSilently}
 
--- ## A store that was asked before
+-- ## With which exit status
 
--- a count that rose by so many behind one that didn't fall
-rises-by-behind : (many a b c : ℕ) → NeverFalls a b → RisesBy many b c → RisesBy many a c
-rises-by-behind many a b c first (inl more) = inl (omega (arith, first, more))
-rises-by-behind many a b c first (inr full) = inr full
+-- with these statuses a run ends that came to its end
+good-status : (status : ℕ) → (status ≡ 0) ⊎ (status ≡ 5) ⊎ (status ≡ 6) → IsOpenedStatus status
+good-status status (inl zero) = inl zero
+good-status status (inr (inl five)) = inr (inr (inl five))
+good-status status (inr (inr six)) = inr (inr (inr six))
 
--- what became of the store since it was asked holds since before too
-renewed-since : (renewals : ℕ) (history : List Entry) (old mid new : StoreSeen) → mid.told ≡ old.told → NeverFalls old.counts.faults mid.counts.faults
-    → IsRenewed renewals history mid new → IsRenewed renewals history old new
-renewed-since renewals history old mid new same faults is = record {
-  told = subst (λ (told : Option StoreTold). new.told ≡ option_map (renewed renewals) told) same is.told;
-  failed = rises-by-behind _ old.counts.faults mid.counts.faults new.counts.faults faults is.failed;
-}
+failed-status : (status : ℕ) → (status ≡ 4) ⊎ (status ≡ 6) → IsOpenedStatus status
+failed-status status (inl four) = inr (inl four)
+failed-status status (inr six) = inr (inr (inr six))
 
-store-since : (going : Going) (history : List Entry) (old mid new : StoreSeen) → mid.told ≡ old.told → NeverFalls old.counts.faults mid.counts.faults
-    → KeepsStore going history mid new → KeepsStore going history old new
-store-since going history old mid new same faults (inl is) = inl (renewed-since _ history old mid new same faults is)
-store-since going history old mid new same faults (inr broken) = inr (broken.0, renewed-since _ history old mid new same faults broken.1)
-
--- ## A run
-
--- what it did with its command lines, where its front tells
-keeps-lines : (told : Option FrontTold) (history : List Entry) (b : SeenBoard) → IfSome told (DoesLines b.book.state.going history)
-    → IfSome told (TakesEach b.book.state.going history) → IfSome told (KeepsLines history b)
-keeps-lines None history b done each = tt
-keeps-lines (Some t) history b done each = record { done = done; each = each }
-
--- the laws of editions, and of connections that ended
-module _ (keep : GenerationsKeepTheirEditions) (join : (known : Option KnownOutside) (book : SeenBook) (ended ended' : List SeenEnded) → EndedOfOutside known book ended → EndedOfOutside known book ended' → EndedOfOutside known book (ended ++ ended')) (stay : (known : Option KnownOutside) (old new : SeenBook) (ended : List SeenEnded) → KeepsEditions old new → EndedOfOutside known old ended → EndedOfOutside known new ended) where
-  -- a run that opened so, over the store and the front that it left so
-  pub has-run-by : (o : Opening) (store : StoreSeen) (f : FrontSeen) (b : SeenBoard) → IsRunFrom (numbers_of o.config) b
-      → HasStood (Some (known_outside o)) o (numbers_of o.config) (standing 0 store f b.book) → HasClosedAll b → AreOfOutside (Some (known_outside o)) b
-      → HasRunBy o store f b
-  has-run-by o store f b run stood closed outside =
-      let n = numbers_of o.config in
-      record {
-        has_run = record {
-          run = run;
-          folded = stood.folded;
-          closed = closed;
-          ordered = stood.ordered;
-          served = serves-editions keep join stay o n b stood.folded stood.outside outside.ended;
-        };
-        done = keeps-lines f.told (all_entries n b.book stood.folded) b stood.lines stood.each;
-        given = stood.given;
-        store_is = stood.store;
-      }
-
-  -- the run of a script, whose clients the type knows, over a store with its editions, of which no call failed
-  pub has-run_script : (lines : List ScriptLine) (c : Configuration) (site : SeenSite) (told : StoreTold) (counts : StoreCounts) (f f' : SeenFront) (b : SeenBoard)
-      (store : SeenStore) → let o : Opening = record { name = conf_name; config = c; site = site; store = telling_store told counts; front = front_seen f } in
-      told ≡ editions_of lines → counts.faults ≡ 0 → f.told.clients ≡ clients_of lines → f'.told.clients ≡ clients_of lines
-      → (b.book.state.going ≡ Halted why.FrontEnded → b.book.state.accepted ≡ f'.told.accepted) → IsRunFrom (numbers_of c) b
-      → HasStood (Some (known_outside o)) o (numbers_of c) (standing 0 (telling_store store.told store.counts) (front_seen f') b.book) → HasClosedAll b
-      → AreOfOutside (Some (known_outside o)) b → HasRunScript lines c site b f' store
-  has-run_script lines c site told counts f f' b store is none clients clients' taken run stood closed outside =
-      let o : Opening = record { name = conf_name; config = c; site = site; store = telling_store told counts; front = front_seen f } in
-      let known = Some (known_outside o) in
-      let n = numbers_of c in
-      let first = telling_store (editions_of lines) no_store_counts in
-      let front = front_seen (new_front lines) in
-      let same : first.told ≡ o.store.told = ap (λ (t : StoreTold). Some t) (sym is) in
-      let entries = all_entries n b.book stood.folded in
-      record {
-        has_run = record {
-          run = run;
-          folded = stood.folded;
-          closed = closed;
-          ordered = ordered-reopened o first front 0 0 (opened_by n) entries same stood.ordered;
-          served =
-              served-reopened o first front (whole_book n entries) (stood.folded.ended ++ b.ended) same
-              (serves-editions keep join stay o n b stood.folded stood.outside outside.ended);
-        };
-        receive =
-            subst (λ (sent : List (List ℕ)). AllReceive sent b.ended) clients
-            (known-receive known f.told.clients b.book b.ended refl run.agrees.answered outside.ended);
-        receive_before =
-            subst (λ (sent : List (List ℕ)). AllReceive sent stood.folded.ended) clients
-            (known-receive known f.told.clients (whole_book n stood.folded.entries) stood.folded.ended refl stood.folded.answered stood.outside);
-        taken = λ going unbegun. taken going ∙ stood.each going unbegun ∙ ap length clients' ∙ clients-names lines;
-        done = record { done = stood.lines; each = stood.each };
-        store_is =
-            store-since b.book.state.going entries first (telling_store told counts) (telling_store store.told store.counts) (sym same)
-            (omega (arith, none)) stood.store;
-      }
+-- with these each run
+pub opened-status : (going : Going) (status : ℕ) → IsEnd going → MayEndWith going status → IsOpenedStatus status
+opened-status going status (inl ended) may = good-status status (may-end going _ status ended may)
+opened-status going status (inr (inl asked)) may = good-status status (may-end going _ status asked may)
+opened-status going status (inr (inr (inl failed))) may = failed-status status (may-end going _ status failed may)
+opened-status going status (inr (inr (inr (inl no_memory)))) may = inr (inr (inr (may-end going _ status no_memory may)))
+opened-status going status (inr (inr (inr (inr (inl ending))))) may = good-status status (may-end going _ status ending.1 may)
+opened-status going status (inr (inr (inr (inr (inr overdue))))) may = good-status status (may-end going _ status overdue may)
 
 -- ## A server
 
@@ -149,11 +69,11 @@ loads-site call read c site same within loads = record {
 -- what was read and loaded for a server: its configuration was accepted, and its site loaded
 pub record IsReady (call : Call) (name : List ℕ) (c : Configuration) (site : SeenSite) : Type 0 where
   pub command : IsServeWords call.words name
-  pub accepted : HadAccepted call name c
+  pub accepted : HadConfigAccepted call name c
   pub loads : LoadsSite call c site
 
 pub is-ready : (call : Call) (read : StoreSeen) (name : List ℕ) (c : Configuration) (site : SeenSite) → IsServeWords call.words name
-    → HadAccepted call name c → read.told ≡ call.store.told → IsWithinLimits site → IfSome read.told (λ t. MayLoad (order_of c) t.files (Ok site))
+    → HadConfigAccepted call name c → read.told ≡ call.store.told → IsWithinLimits site → IfSome read.told (λ t. MayLoad (order_of c) t.files (Ok site))
     → IsReady call name c site
 is-ready call read name c site command accepted same within loads =
     record { command = command; accepted = accepted; loads = loads-site call read c site same within loads }
@@ -173,7 +93,7 @@ asked-only old read loaded name answer site reads leaves =
 pub serves : (o : Option SeenBoard) (call : Call) (name : List ℕ) (c : Configuration) (site : SeenSite) (loaded : StoreSeen) (f f' : FrontSeen)
     (calls : Option (List (ℕ × ℕ))) (status : ℕ) → IsReady call name c site → IsAskedOnly call.store loaded → (IsSome o → call.shown ≡ None)
     → IfSome o (HasRunBy (record { name = name; config = c; site = site; store = loaded; front = f }) call.store' f')
-    → IfSome o (KeepsOutside (numbers_of c) f f' calls) → IfSome o (λ b. EndsAs call.sink call.sink' c b status)
+    → IfSome o (KeepsOutside (numbers_of c) f f' calls) → IfSome o (λ b. EndsAs call.sink call.sink' (warnings_of c) b status)
     → IfSome o (HasRunServer call f f' calls status)
 serves None call name c site loaded f f' calls status ready asked shows run outside ends = tt
 serves (Some b) call name c site loaded f f' calls status ready asked shows run outside ends =
@@ -237,7 +157,7 @@ unbound None call name c site f f' ready kept refused =
 
 -- a call of the store failed
 pub folder-unread : (call : Call) (read : StoreSeen) (name : List ℕ) (c : Configuration) (e : LoadFault) (answer : Result (List ℕ) StoreFault) (status : ℕ)
-    → IsServeWords call.words name → HasAccepted call name c → ReadsFile call.store read name most_config answer
+    → IsServeWords call.words name → HasConfigAccepted call name c → ReadsFile call.store read name most_config answer
     → LeavesStore {T = SeenSite} read call.store' (Err e) → RefusesFolder call.sink call.sink' c e status call.shown → status ≡ 3 → EndsUnread call
 folder-unread call read name c fault.StoreFault answer status command accepted reads leaves refused three =
     let stays = where-stays (answers_with is_failure answer) call.store.counts.faults read.counts.faults reads.counted.faults in
@@ -264,7 +184,7 @@ lacks-site (Some t) told' c e name same means may =
 
 -- the folder has too many files, or one is too large
 pub folder-refused : (call : Call) (read : StoreSeen) (name : List ℕ) (c : Configuration) (e : LoadFault) (answer : Result (List ℕ) StoreFault) (status : ℕ)
-    → IsServeWords call.words name → HasAccepted call name c → ReadsFile call.store read name most_config answer
+    → IsServeWords call.words name → HasConfigAccepted call name c → ReadsFile call.store read name most_config answer
     → LeavesStore {T = SeenSite} read call.store' (Err e) → IfSome read.told (λ t. MayLoad (order_of c) t.files (Err e))
     → RefusesFolder call.sink call.sink' c e status call.shown → status ≡ 9 → EndsSiteRefused call
 folder-refused call read name c fault.StoreFault answer status command accepted reads leaves may refused nine = absurd (omega (arith, refused.0, nine))
@@ -299,3 +219,30 @@ folder-refused call read name c (fault.TooLarge file size) answer status command
       text = refused.1.writes;
     })
 folder-refused call read name c fault.NoMemory answer status command accepted reads leaves may refused nine = absurd refused
+
+-- ## How a server ends that never opened
+
+-- its configuration or its site is none, or memory lacked for them
+pub unserved : (call : Call) (f : FrontSeen) (calls : Option (List (ℕ × ℕ))) (status : ℕ) (left : Option SeenBoard) → IsNone left
+    → (status ≡ 1) ⊎ (status ≡ 3) ⊎ (status ≡ 6) ⊎ (status ≡ 9) → (status ≡ 1 → EndsConfigRefused call) → (status ≡ 3 → EndsUnread call)
+    → (status ≡ 6 → EndsSilently call.sink call.sink' call.shown) → (status ≡ 9 → EndsSiteRefused call) → EndsServe call f f calls calls status left
+unserved call f calls status None none known refused unread silent siteless = record {
+  known =
+      elim known [
+        | inl one ↦ inr (inl one)
+        | inr other ↦
+            elim other [
+              | inl three ↦ inr (inr (inl three))
+              | inr rest ↦ elim rest [ inl six ↦ inl (inr (inr (inr six))) | inr nine ↦ inr (inr (inr nine)) ]
+            ]
+      ];
+  server = tt;
+  opened = λ good. absurd (omega (arith, known, good));
+  unopened = λ nothing. record { front = inl refl; clock = refl };
+  misconfigured = refused;
+  unread = unread;
+  front_failed = λ four. absurd (omega (arith, known, four));
+  silent = λ six nothing. silent six;
+  site_refused = siteless;
+}
+unserved call f calls status (Some b) none known refused unread silent siteless = absurd (cc none)

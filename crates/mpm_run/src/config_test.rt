@@ -1,19 +1,16 @@
 //! The test of a configuration: `-t -f FILE`. It loads no files, and plays nothing.
 ghost use Rattle.std.specs.Prelude.{◌≡◌, ◌⊎◌, ◌++◌, ℕ, List, None, option_map};
-ghost use Rattle.mpm_base.specs.Count.{Rises};
-ghost use Rattle.mpm_run.specs.Calls.{seen_call};
-ghost use Rattle.mpm_run.specs.ExitStatuses.{EndsConfigRefused, EndsSilently, EndsTestUnwritten, EndsTested, EndsUnread};
-ghost use Rattle.mpm_run.specs.ExitStatusesInside.{IsTestStatus};
 ghost use Rattle.command_words.specs.Invocations.{IsTestWords};
-ghost use Rattle.mpm_run.specs.Texts.{syntax_ok};
+ghost use Rattle.mpm_base.specs.Count.{Rises};
+ghost use Rattle.mpm_run.specs.ExitStatusesInside.{EndsTest};
+ghost use Rattle.run_opening.specs.Calls.{seen_call};
+ghost use Rattle.run_opening.specs.Refusals.{EndsSilently};
+ghost use Rattle.run_report.specs.Texts.{syntax_ok};
 
-use crate::config_reading::{MOST_CONFIG, config_from};
-use crate::exit_status;
-use crate::outcome::{Ending, no_memory, unopened};
-use crate::refusal::refuse_config_of;
-use crate::texts::add_syntax_ok;
-use crate::writing::write_all;
 use mpm_base::{Octets, Sink, Store};
+use restart_control::MOST_CONFIG;
+use run_opening::{Ending, config_from, no_memory, refuse_config_of, unopened};
+use run_report::{add_syntax_ok, exit_status, write_all};
 use std::alloc::Global;
 
 /// Tests the configuration of that name in the store, and writes its warnings and that it is accepted, or why it isn't.
@@ -23,12 +20,10 @@ pub fn test_config<D: Store, K: Sink>(
     store: &mut D,
     out: &mut K,
 ) -> Ending<()>
-    ensures known { IsTestStatus result.status }
-    ensures tested { (words : List (List ℕ)) → IsTestWords words name.now → result.status ≡ 0 → EndsTested (seen_call words (D.seen store.old) (D.seen store.new) (K.seen out.old) (K.seen out.new) result.shown) }
-    ensures refused { (words : List (List ℕ)) → IsTestWords words name.now → result.status ≡ 1 → EndsConfigRefused (seen_call words (D.seen store.old) (D.seen store.new) (K.seen out.old) (K.seen out.new) result.shown) }
-    ensures unread { (words : List (List ℕ)) → IsTestWords words name.now → result.status ≡ 3 → EndsUnread (seen_call words (D.seen store.old) (D.seen store.new) (K.seen out.old) (K.seen out.new) result.shown) }
-    ensures unwritten { (words : List (List ℕ)) → IsTestWords words name.now → result.status ≡ 5 → EndsTestUnwritten (seen_call words (D.seen store.old) (D.seen store.new) (K.seen out.old) (K.seen out.new) result.shown) }
-    ensures silent { result.status ≡ 6 → EndsSilently (K.seen out.old) (K.seen out.new) result.shown }
+    ensures { (words : List (List ℕ)) → IsTestWords words name.now → EndsTest
+        (seen_call words (D.seen store.old) (D.seen store.new)
+        (K.seen out.old) (K.seen out.new) result.shown)
+        result.status }
 {
     let answer = store.read(alloc, name, MOST_CONFIG);
     match config_from(alloc, answer) {
@@ -41,13 +36,15 @@ pub fn test_config<D: Store, K: Sink>(
 fn pass<K: Sink>(told: Octets, out: &mut K) -> Ending<()>
     ensures known { (result.status ≡ 0) ⊎ (result.status ≡ 5) ⊎ (result.status ≡ 6) }
     ensures shown { result.shown ≡ None }
-    ensures written { result.status ≡ 0 → (K.seen out.new).told ≡ option_map (λ written. written ++ (told ++ syntax_ok)) (K.seen out.old).told }
+    ensures written { result.status ≡ 0 → (K.seen out.new).told
+        ≡ option_map (λ written. written ++ (told ++ syntax_ok)) (K.seen out.old).told }
     ensures failed { result.status ≡ 5 → Rises (K.seen out.old).faults (K.seen out.new).faults }
-    ensures silent { result.status ≡ 6 → EndsSilently (K.seen out.old) (K.seen out.new) result.shown }
+    ensures silent { result.status ≡ 6 →
+        EndsSilently (K.seen out.old) (K.seen out.new) result.shown }
 {
     let mut text = told;
     match add_syntax_ok(&mut text) {
-        Ok(()) if write_all(out, text.as_slice()) => unopened(exit_status::PLAYED, None),
+        Ok(()) if write_all(out, text.as_slice()) => unopened(exit_status::ACCEPTED, None),
         Ok(()) => unopened(exit_status::UNWRITTEN, None),
         Err(_) => no_memory(),
     }

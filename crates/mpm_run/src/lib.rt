@@ -1,44 +1,37 @@
-//! The run of the server: the listener, the top call and its report.
+//! The forms of the command line, and the top call.
 //!
 //! `run` is the one call that the program makes: it plays a script or a load, serves over the front that it is handed, tests a
-//! configuration, or sends a command. What it promises stands in `specs/ExitStatuses.antt`, `Calls.antt`, `Invocations.antt`,
-//! `Listen.antt`, `Configured.antt`, `FirstNumbers.antt`, `Sites.antt`, `Started.antt`, `Commands.antt`, `Stops.antt`, `Outside.antt`,
-//! `Times.antt`, `Watched.antt`, `Links.antt`, `Patient.antt` and `Tells.antt`. Of a run: it works by the configuration and the site
-//! that the script's lines write, or the store has; the history that the board keeps is a run of the connection machine, in the order of
-//! its passes, and each state on its way is sound; it begins where the entries that were folded end, which passes made from the opening
-//! state on, and of which the record is what one fold makes; the connections that ended in both agree with them; each connection that was
-//! taken ended, and each child is gone; where nothing was folded the children were started before all else, and each one where it was
-//! asked for; the front was bound once, watched each connection under its name, and listens no more in the end; each link that it handed
-//! out is that of one connection, but for one where the server was broken off; time passed to the clock's answers, and in the history that
-//! is kept only where nothing was left to be done; each slot that the front gave was signalled once, in order; and where nothing more
-//! could come the whole script was played.
+//! configuration, or sends a command. What it promises stands in `specs/ExitStatuses.antt`, and in the definitions that this cites:
+//!
+//! - of a command and its files, `Calls.antt`, `Configured.antt`, `Sites.antt` and `Refusals.antt` of `run_opening`, and `Invocations.antt` of
+//!   `command_words`;
+//! - of what is written, `Endings.antt`, `Report.antt`, `Texts.antt` and `Written.antt` of `run_report`;
+//! - of a run, `Runs.antt`, `Listen.antt`, `Served.antt`, `Generations.antt`, `Orders.antt`, `Commands.antt`, `Stops.antt`, `Stores.antt`,
+//!   `FirstNumbers.antt`, `StartedFirst.antt`, `Outside.antt`, `Unused.antt`, `Watched.antt`, `Links.antt`, `Tells.antt`, `Times.antt` and
+//!   `Patient.antt` of `listener`, and `AtRest.antt`, `ClosedDown.antt`, `Moments.antt` and `Started.antt` of `rounds`;
+//! - of a script, `Scripts.antt`, `Played.antt` and `ScriptRefusals.antt` of `script_run`.
+//!
+//! Of a run that opened they say this, whatever its exit status. It works by the configuration and the site that the script's lines write,
+//! or the store has, and then by the editions of each restart. The history that the board keeps is a run of the connection machine, in the
+//! order of its passes, and each state on its way is sound; it begins where the entries that were folded end, which passes made from the
+//! opening state on, and of which the record is what one fold makes. The connections that ended in both agree with them; each connection
+//! that was taken ended, and each child is gone. As far as the front, the clock and the store tell: where nothing was folded, and the front
+//! waited at all, the children were started before all else; the front was bound once, watched each link that the table took under the
+//! name of its connection, and listens no more in the end; each link that it handed out is that of one connection, but for one where
+//! memory lacked; time passed to the answers of the clock, but that the last tick may be missing where memory lacked; the slots that the
+//! front gave, of those that the table has, were signalled once, in order, but that signals may be missing at the end where memory lacked
+//! or the time of a graceful stop was over; in the history that is kept time passed only where nothing was left to be done, over a front
+//! that is patient; each command line that was read was done, once and in order, but for the last one where memory lacked; and where
+//! nothing more could come all that was to come was taken.
 #![tactic(auto)]
 
-mod closing;
 mod command_run;
-mod config_reading;
 mod config_test;
-mod counting;
-mod edition;
-mod exit_status;
-mod folding;
-mod listen;
-mod orders;
 mod outcome;
-mod refusal;
-mod report;
-mod reporting;
-mod round;
-mod run_numbers;
-mod script_run;
 mod serve_run;
-mod server;
-mod site_loading;
-mod texts;
 mod top_call;
-mod writing;
 
-pub use counting::tally;
-pub use outcome::{Outcome, Scripted, lacks_memory};
-pub use report::{Tally, report_text};
+pub use outcome::{Outcome, lacks_memory};
+pub use run_report::{Tally, report_text, tally};
+pub use script_run::Scripted;
 pub use top_call::run;

@@ -1,28 +1,12 @@
 //! How a run ended.
-ghost use Rattle.std.specs.Prelude.{◌≡◌, None, IsNone};
+ghost use Rattle.std.specs.Prelude.{◌≡◌};
 
-use crate::exit_status;
 use board::Board;
 use conn_state::Nothing;
 use mpm_base::Link;
-use mpm_config::Config;
-use script_front::{ScriptClock, ScriptFront};
-use stand_ins::{PlainStore, ScriptLink};
-
-/// What is left of a run over a script.
-#[derive(Drop)]
-pub struct Scripted {
-    /// The table of connections, as the run left it.
-    pub board: Board<ScriptLink, Nothing>,
-    /// The front that played the script.
-    pub front: ScriptFront,
-    /// The clock of the run.
-    pub clock: ScriptClock,
-    /// The store of the script, at the edition at which the run left it.
-    pub store: PlainStore,
-    /// The configuration by which the run opened.
-    pub config: Config,
-}
+use run_opening::Ending;
+use run_report::exit_status;
+use script_run::Scripted;
 
 /// How a run ended.
 #[derive(Drop)]
@@ -41,39 +25,6 @@ pub struct Outcome<L: Link> {
     pub scripted: Option<Scripted>,
 }
 
-/// How a command ended, and what is left of its run, where one opened.
-#[derive(Drop)]
-pub(crate) struct Ending<X> {
-    /// The exit status.
-    pub(crate) status: u8,
-    /// What `Outcome` shows.
-    pub(crate) shown: Option<u64>,
-    /// What is left.
-    pub(crate) left: Option<X>,
-}
-
-/// The end of a command whose run did not open, or that has none.
-pub(crate) fn unopened<X>(status: u8, shown: Option<u64>) -> Ending<X>
-    ensures status { result.status ≡ status }
-    ensures shown { result.shown ≡ shown }
-    ensures left { IsNone result.left }
-{
-    Ending {
-        status,
-        shown,
-        left: None,
-    }
-}
-
-/// The end of a command that found no memory.
-pub(crate) fn no_memory<X>() -> Ending<X>
-    ensures status { result.status ≡ 6 }
-    ensures shown { result.shown ≡ None }
-    ensures left { IsNone result.left }
-{
-    unopened(exit_status::NO_MEMORY, None)
-}
-
 /// How a run ended that found no memory to begin.
 pub fn lacks_memory<L: Link>() -> Outcome<L>
     ensures { result ≡ record { status = 6; shown = None; board = None; scripted = None } }
@@ -88,7 +39,12 @@ pub fn lacks_memory<L: Link>() -> Outcome<L>
 
 /// The outcome of a script.
 pub(crate) fn scripted_outcome<L: Link>(ending: Ending<Scripted>) -> Outcome<L>
-    ensures { result ≡ record { status = ending.status; shown = ending.shown; board = None; scripted = ending.left } }
+    ensures { result ≡ record {
+      status = ending.status;
+      shown = ending.shown;
+      board = None;
+      scripted = ending.left;
+    } }
 {
     let Ending {
         status,
@@ -105,7 +61,12 @@ pub(crate) fn scripted_outcome<L: Link>(ending: Ending<Scripted>) -> Outcome<L>
 
 /// The outcome of a server.
 pub(crate) fn served_outcome<L: Link>(ending: Ending<Board<L, Nothing>>) -> Outcome<L>
-    ensures { result ≡ record { status = ending.status; shown = ending.shown; board = ending.left; scripted = None } }
+    ensures { result ≡ record {
+      status = ending.status;
+      shown = ending.shown;
+      board = ending.left;
+      scripted = None;
+    } }
 {
     let Ending {
         status,
@@ -122,7 +83,12 @@ pub(crate) fn served_outcome<L: Link>(ending: Ending<Board<L, Nothing>>) -> Outc
 
 /// The outcome of a command that has no run.
 pub(crate) fn closed_outcome<L: Link>(ending: Ending<()>) -> Outcome<L>
-    ensures { result ≡ record { status = ending.status; shown = ending.shown; board = None; scripted = None } }
+    ensures { result ≡ record {
+      status = ending.status;
+      shown = ending.shown;
+      board = None;
+      scripted = None;
+    } }
 {
     Outcome {
         status: ending.status,

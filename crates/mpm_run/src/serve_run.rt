@@ -1,33 +1,33 @@
 //! The run of a server: `-f FILE`.
 ghost use Rattle.std.specs.Prelude.{◌≡◌, ◌⊎◌, ℕ, List, [], None, false, IfSome, IsNone, IsSome};
-ghost use Rattle.mpm_base.specs.Front.{Binds};
-ghost use Rattle.mpm_run.specs.Calls.{seen_call};
-ghost use Rattle.mpm_run.specs.Configured.{warnings_of};
-ghost use Rattle.mpm_run.specs.ExitStatuses.{EndsAs, EndsConfigRefused, EndsSilently, EndsSiteRefused, EndsUnbound, EndsUnread, HasRunServer, LeavesOutside};
-ghost use Rattle.mpm_run.specs.ExitStatusesInside.{HasRunBy, IsOpenedStatus, IsServedStatus, LeavesUnbound, RefusesRun};
-ghost use Rattle.mpm_run.specs.FirstNumbers as opening;
 ghost use Rattle.command_words.specs.Invocations.{IsServeWords};
-ghost use Rattle.mpm_run.specs.OrdersInside.{opening_by};
-ghost use Rattle.mpm_run.specs.Outside.{KeepsOutside, TellsStill};
-ghost use Rattle.mpm_run.specs.Sites.{head_limits_of};
-ghost use Rattle.mpm_run.specs.SitesInside.{RefusesFolder};
-ghost use Rattle.mpm_run.specs.Texts.{front_fault};
-ghost use Rattle.mpm_run.specs.Unused.{IsUnused};
+ghost use Rattle.mpm_base.specs.Front.{Binds};
+ghost use Rattle.mpm_run.specs.ExitStatusesInside.{EndsServe, IsOpenedStatus, LeavesUnbound, RefusesFolder};
+ghost use Rattle.listener.specs.FirstNumbers as opening;
+ghost use Rattle.listener.specs.Generations.{head_limits_of};
+ghost use Rattle.listener.specs.OrdersInside.{opening_by};
+ghost use Rattle.listener.specs.Outside.{KeepsOutside, TellsStill};
+ghost use Rattle.listener.specs.RunsInside.{HasRunBy};
+ghost use Rattle.listener.specs.Unused.{IsUnused};
+ghost use Rattle.run_opening.specs.Calls.{seen_call};
+ghost use Rattle.run_opening.specs.Configured.{warnings_of};
+ghost use Rattle.run_opening.specs.Refusals.{EndsSilently};
+ghost use Rattle.run_opening.specs.RefusalsInside.{RefusesRun};
+ghost use Rattle.run_report.specs.Endings.{EndsAs};
+ghost use Rattle.run_report.specs.Texts.{front_fault};
 
-use crate::config_reading::{MOST_CONFIG, config_from};
-use crate::edition::{Edition, NamedConfig};
-use crate::outcome::{Ending, no_memory};
-use crate::refusal::{refuse_config_of, refuse_front, refuse_site, refuse_unread};
-use crate::reporting::report_run;
-use crate::run_numbers::head_limits_of;
-use crate::server::{OpenFault, ServedRun, run_server};
-use crate::site_loading::load_site;
 use board::Board;
 use board::laws::{ended_connections_join, generations_keep_their_editions};
 use conn_state::Nothing;
 use file_table::LoadFault;
+use listener::{LoadedEdition, NamedConfig, OpenFault, ServedRun, head_limits_of, run_server};
 use mpm_base::{Clock, Front, Gate, Octets, Sink, Store};
 use mpm_config::Config;
+use restart_control::{MOST_CONFIG, load_site};
+use run_opening::{
+    Ending, config_from, no_memory, refuse_config_of, refuse_front, refuse_site, refuse_unread,
+};
+use run_report::report_run;
 use std::alloc::Global;
 use std::marker::Brand;
 use std::sync::{Arc, Wait};
@@ -46,16 +46,13 @@ pub fn serve_file<R: Wait, D: Store, F: Front, C: Clock, G: Gate, K: Sink>(
 ) -> Ending<Board<F::L, Nothing>>
     requires unused { IfSome (F.seen front.old).told IsUnused }
     requires unasked { IfSome (C.told clock.old) (λ calls. calls ≡ []) }
-    ensures server { (words : List (List ℕ)) → IsServeWords words name.now → IfSome result.left (λ b. HasRunServer (seen_call words (D.seen store.old) (D.seen store.new) (K.seen out.old) (K.seen out.new) result.shown) (F.seen front.old) (F.seen front.new) (C.told clock.new) result.status b) }
-    ensures telling { TellsStill (F.seen front.old) (F.seen front.new) (C.told clock.old) (C.told clock.new) }
-    ensures known { IsServedStatus result.status }
-    ensures opened { (result.status ≡ 0) ⊎ (result.status ≡ 5) → IsSome result.left }
-    ensures misconfigured { (words : List (List ℕ)) → IsServeWords words name.now → result.status ≡ 1 → EndsConfigRefused (seen_call words (D.seen store.old) (D.seen store.new) (K.seen out.old) (K.seen out.new) result.shown) }
-    ensures unread { (words : List (List ℕ)) → IsServeWords words name.now → result.status ≡ 3 → EndsUnread (seen_call words (D.seen store.old) (D.seen store.new) (K.seen out.old) (K.seen out.new) result.shown) }
-    ensures front_failed { (words : List (List ℕ)) → IsServeWords words name.now → result.status ≡ 4 → IsSome result.left ⊎ EndsUnbound (seen_call words (D.seen store.old) (D.seen store.new) (K.seen out.old) (K.seen out.new) result.shown) (F.seen front.old) (F.seen front.new) }
-    ensures site_refused { (words : List (List ℕ)) → IsServeWords words name.now → result.status ≡ 9 → EndsSiteRefused (seen_call words (D.seen store.old) (D.seen store.new) (K.seen out.old) (K.seen out.new) result.shown) }
-    ensures unopened { (words : List (List ℕ)) → IsServeWords words name.now → IsNone result.left → LeavesOutside (seen_call words (D.seen store.old) (D.seen store.new) (K.seen out.old) (K.seen out.new) result.shown) (F.seen front.old) (F.seen front.new) (C.told clock.old) (C.told clock.new) result.status }
-    ensures silent { result.status ≡ 6 → IsNone result.left → EndsSilently (K.seen out.old) (K.seen out.new) result.shown }
+    ensures telling { TellsStill (F.seen front.old) (F.seen front.new)
+        (C.told clock.old) (C.told clock.new) }
+    ensures ends { (words : List (List ℕ)) → IsServeWords words name.now → EndsServe
+        (seen_call words (D.seen store.old) (D.seen store.new)
+        (K.seen out.old) (K.seen out.new) result.shown)
+        (F.seen front.old) (F.seen front.new) (C.told clock.old) (C.told clock.new)
+        result.status result.left }
 {
     let answer = store.read(alloc, name, MOST_CONFIG);
     let (config, told) = match config_from(alloc, answer) {
@@ -69,7 +66,7 @@ pub fn serve_file<R: Wait, D: Store, F: Front, C: Clock, G: Gate, K: Sink>(
     let Ok(site) = Arc::new(alloc, site) else {
         return no_memory();
     };
-    let edition = Edition {
+    let edition = LoadedEdition {
         limits: head_limits_of(&config),
         site,
         stop_ms: config.now.stop_ms,
@@ -92,8 +89,11 @@ fn refuse_folder<X, K: Sink>(
 ) -> Ending<X>
     ensures known { (result.status ≡ 3) ⊎ (result.status ≡ 9) ⊎ (result.status ≡ 6) }
     ensures left { IsNone result.left }
-    ensures refused { (result.status ≡ 3) ⊎ (result.status ≡ 9) → RefusesFolder (K.seen out.old) (K.seen out.new) config.entry.now fault result.status result.shown }
-    ensures silent { result.status ≡ 6 → EndsSilently (K.seen out.old) (K.seen out.new) result.shown }
+    ensures refused { (result.status ≡ 3) ⊎ (result.status ≡ 9) →
+        RefusesFolder (K.seen out.old) (K.seen out.new) config.entry.now fault
+        result.status result.shown }
+    ensures silent { result.status ≡ 6 →
+        EndsSilently (K.seen out.old) (K.seen out.new) result.shown }
 {
     config.show();
     match fault {
@@ -109,7 +109,7 @@ fn serve_edition<R: Wait, D: Store, F: Front, C: Clock, G: Gate, K: Sink>(
     rt: &R,
     alloc: Global,
     config: NamedConfig<'_>,
-    edition: Edition,
+    edition: LoadedEdition,
     told: &Octets,
     store: &mut D,
     front: &mut F,
@@ -122,18 +122,30 @@ fn serve_edition<R: Wait, D: Store, F: Front, C: Clock, G: Gate, K: Sink>(
     requires timeout { edition.stop_ms ≡ config.config.now.current.stop_ms }
     requires unused { IfSome (F.seen front.old).told IsUnused }
     requires unasked { IfSome (C.told clock.old) (λ calls. calls ≡ []) }
-    ensures run { IfSome result.left (λ b. HasRunBy (opening_by config.entry edition (D.seen store.old) (F.seen front.old)) (D.seen store.new) (F.seen front.new) b) }
+    ensures run { IfSome result.left (λ b.
+        HasRunBy (opening_by config.entry edition (D.seen store.old) (F.seen front.old))
+        (D.seen store.new) (F.seen front.new) b) }
     ensures store { IsNone result.left → D.seen store.new ≡ D.seen store.old }
-    ensures outside { IfSome result.left (KeepsOutside (opening.numbers_of config.entry.config.now) (F.seen front.old) (F.seen front.new) (C.told clock.new)) }
-    ensures ends { IfSome result.left (λ b. EndsAs (K.seen out.old) (K.seen out.new) config.entry.config.now b result.status) }
-    ensures telling { TellsStill (F.seen front.old) (F.seen front.new) (C.told clock.old) (C.told clock.new) }
+    ensures outside { IfSome result.left
+        (KeepsOutside (opening.numbers_of config.entry.config.now)
+        (F.seen front.old) (F.seen front.new) (C.told clock.new)) }
+    ensures ends { IfSome result.left (λ b.
+        EndsAs (K.seen out.old) (K.seen out.new) (warnings_of config.entry.config.now) b
+        result.status) }
+    ensures telling { TellsStill (F.seen front.old) (F.seen front.new)
+        (C.told clock.old) (C.told clock.new) }
     ensures shown { IsSome result.left → result.shown ≡ None }
     ensures known { IsOpenedStatus result.status }
     ensures opened { (result.status ≡ 0) ⊎ (result.status ≡ 5) → IsSome result.left }
-    ensures unbound { result.status ≡ 4 → IsNone result.left → Binds (F.seen front.old) (F.seen front.new) config.entry.config.now.listen config.entry.config.now.control false × RefusesRun (K.seen out.old) (K.seen out.new) None front_fault result.shown }
-    ensures front { IsNone result.left → LeavesUnbound (F.seen front.old) (F.seen front.new) config.entry.config.now result.status }
+    ensures unbound { result.status ≡ 4 → IsNone result.left →
+        Binds (F.seen front.old) (F.seen front.new)
+        config.entry.config.now.listen config.entry.config.now.control false
+        × RefusesRun (K.seen out.old) (K.seen out.new) None front_fault result.shown }
+    ensures front { IsNone result.left →
+        LeavesUnbound (F.seen front.old) (F.seen front.new) config.entry.config.now result.status }
     ensures clock { IsNone result.left → C.told clock.new ≡ C.told clock.old }
-    ensures silent { result.status ≡ 6 → IsNone result.left → EndsSilently (K.seen out.old) (K.seen out.new) result.shown }
+    ensures silent { result.status ≡ 6 → IsNone result.left →
+        EndsSilently (K.seen out.old) (K.seen out.new) result.shown }
 {
     let answer = run_server::<R, D, F::L, F, C, G, K, Brand>(
         rt,

@@ -2,7 +2,8 @@
 //!
 //! `read_command` reads a command line: exactly one of three words, which stand in `specs/CommandWord.antt` of `mpm_base`, and `spelling`
 //! spells one. `reload` goes to the next edition of a store and answers the plan of a new generation, its configuration and its site, or
-//! for each refusal its cause (`specs/Reload.antt`).
+//! for each refusal its cause (`specs/Reload.antt`). `load_site` makes the site of a configuration, for a server that starts as for one that
+//! restarts.
 #![tactic(auto)]
 
 ghost use Rattle.std.specs.Prelude.{◌≡◌, ◌≢◌, MatchResult};
@@ -16,7 +17,9 @@ mod site_loading;
 
 pub use mpm_base::CommandWord as Command;
 pub use plan::{Plan, reload};
+pub use reading::MOST_CONFIG;
 pub use reload_fault::ReloadFault;
+pub use site_loading::load_site;
 use thiserror::Error;
 
 /// The line asks for nothing that the server does.

@@ -9,8 +9,8 @@ use mpm_base::{Octets, Store, StoreFault};
 use mpm_config::{ConfFault, Config, Warnings, read_config};
 use std::alloc::Global;
 
-/// The most bytes that a configuration has.
-const MOST_CONFIG: u64 = 1_048_576;
+/// The most bytes that a configuration may have.
+pub const MOST_CONFIG: u64 = 1_048_576;
 
 /// The configuration of that name, and its warnings.
 pub(crate) fn read_named<D: Store>(

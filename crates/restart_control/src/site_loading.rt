@@ -12,13 +12,10 @@ use std::alloc::Global;
 
 /// The site of the files under the configuration's DocumentRoot. TooMany or TooLarge where they are more, or larger, than a site takes,
 /// StoreFault where a call of the store failed, NoMemory where memory lacks.
-pub(crate) fn load_site<D: Store>(
-    alloc: Global,
-    store: &mut D,
-    config: &Config,
-) -> Result<Site, LoadFault>
+pub fn load_site<D: Store>(alloc: Global, store: &mut D, config: &Config) -> Result<Site, LoadFault>
     ensures leaves { LeavesStore (D.seen store.old) (D.seen store.new) result }
-    ensures site { IfSome (D.seen store.old).told (λ t. MayLoad (order_of config.entry.now) t.files result) }
+    ensures site { IfSome (D.seen store.old).told (λ t.
+        MayLoad (order_of config.entry.now) t.files result) }
     ensures limits { IfOk result IsWithinLimits }
 {
     config.show();

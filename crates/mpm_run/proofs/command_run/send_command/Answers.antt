@@ -1,65 +1,74 @@
-use Rattle.std.proofs.Common.{◌≡◌, true, false, None, inl, inr, refl, ap, sym, ◌∙◌}
+use Rattle.std.proofs.Common.{◌≡◌, true, false, None, inl, inr, refl, ap, sym, ◌∙◌, arith}
 use Rattle.mpm_config.specs.Config.{Configuration}
 use Rattle.mpm_run.proofs.ConfigLemmas.{config-refused, config-unread, ends-uncontrolled, has-dialled}
+use Rattle.mpm_run.proofs.FormLemmas.{send-unconfigured}
 use Rattle.mpm_run.proofs.InvocationLemmas.{send-config}
 use Rattle.mpm_run.proofs.command_run.send_command.Goals as goal
 
-pub returns-in-Err-clause-refused : goal.returns-in-Err-clause-refused
-returns-in-Err-clause-refused g c words command one =
-    config-refused _ c.args.name.now c.read-answer.result c.in-Err.why c.refuse_config_of.result.status (send-config words c.args.command c.args.name.now command)
-    c.read-answer.ensures c.in-Err.ensures (c.refuse_config_of.ensures.refused (inl one)) one
+pub returns-in-Err-clause-ends : goal.returns-in-Err-clause-ends
+returns-in-Err-clause-ends g c words command =
+    let refused = c.refuse_config_of.ensures in
+    let status = c.refuse_config_of.result.status in
+    send-unconfigured _ status refused.known
+    (λ one. config-refused _ c.args.name.now c.read-answer.result c.in-Err.why status (send-config words c.args.command c.args.name.now command)
+    c.read-answer.ensures c.in-Err.ensures (refused.refused (inl one)) one)
+    (λ three. config-unread _ c.args.name.now c.read-answer.result c.in-Err.why status (send-config words c.args.command c.args.name.now command)
+    c.read-answer.ensures c.in-Err.ensures (refused.refused (inr three)) three)
+    refused.silent (g.F.Front.seen c.args.front.now)
 
-pub returns-in-Err-clause-unread : goal.returns-in-Err-clause-unread
-returns-in-Err-clause-unread g c words command three =
-    config-unread _ c.args.name.now c.read-answer.result c.in-Err.why c.refuse_config_of.result.status (send-config words c.args.command c.args.name.now command)
-    c.read-answer.ensures c.in-Err.ensures (c.refuse_config_of.ensures.refused (inr three)) three
-
-pub returns-in_default-clause-uncontrolled : goal.returns-in_default-clause-uncontrolled
-returns-in_default-clause-uncontrolled g c words command ten =
-    ends-uncontrolled _ c.args.command c.args.name.now c.read-answer.result (c.in-Ok.config, c.in-Ok.field-0-1) command c.read-answer.ensures c.in-Ok.ensures
-    (sym (ap (λ (x : Configuration). x.control) c.config.view_is) ∙ c.in_default.is) (c.refuse_uncontrolled.ensures.refused ten)
-
-pub returns-then-dial-clause-sent : goal.returns-then-dial-clause-sent
-returns-then-dial-clause-sent g c words command zero =
+pub returns-in_default-clause-ends : goal.returns-in_default-clause-ends
+returns-in_default-clause-ends g c words command =
+    let refused = c.refuse_uncontrolled.ensures in
     record {
-      dialled =
-          has-dialled _ c.args.command c.args.name.now c.in-Some.port c.read-answer.result (c.in-Ok.config, c.in-Ok.field-0-1) (g.F.Front.seen c.args.front.now)
-          (g.F.Front.seen c.dial.new.self) c.spelling.result.now true command c.read-answer.ensures c.in-Ok.ensures
-          (sym (ap (λ (x : Configuration). x.control) c.config.view_is) ∙ c.in-Some.is) c.unopened.ensures.shown c.spelling.ensures c.if-dial.ensures.dials;
-      unwritten = refl;
+      known = elim refused.known [ inl ten ↦ inr (inr (inr (inr (inr ten)))) | inr six ↦ inr (inr (inr (inr (inl six)))) ];
+      front = inl refl;
+      sent = λ zero. absurd (omega (arith, refused.known, zero));
+      misconfigured = λ one. absurd (omega (arith, refused.known, one));
+      unread = λ three. absurd (omega (arith, refused.known, three));
+      undialled = λ four. absurd (omega (arith, refused.known, four));
+      silent = refused.silent;
+      uncontrolled =
+          λ ten. ends-uncontrolled _ c.args.command c.args.name.now c.read-answer.result (c.in-Ok.config, c.in-Ok.field-0-1) command c.read-answer.ensures
+          c.in-Ok.ensures (sym (ap (λ (x : Configuration). x.control) c.config.view_is) ∙ c.in_default.is) (refused.refused ten);
     }
 
-pub returns-then-dial-clause-front : goal.returns-then-dial-clause-front
-returns-then-dial-clause-front g c words command =
-    inr (inl (
-      c.unopened.ensures.status,
-      has-dialled _ c.args.command c.args.name.now c.in-Some.port c.read-answer.result (c.in-Ok.config, c.in-Ok.field-0-1) (g.F.Front.seen c.args.front.now)
-          (g.F.Front.seen c.dial.new.self) c.spelling.result.now true command c.read-answer.ensures c.in-Ok.ensures
-          (sym (ap (λ (x : Configuration). x.control) c.config.view_is) ∙ c.in-Some.is) c.unopened.ensures.shown c.spelling.ensures c.if-dial.ensures.dials,
-    ))
-
-pub returns-clause-undialled : goal.returns-clause-undialled
-returns-clause-undialled g c words command four =
-    let refused = c.refuse_front.ensures.refused four in
+pub returns-then-dial-clause-ends : goal.returns-then-dial-clause-ends
+returns-then-dial-clause-ends g c words command =
+    let dialled =
+    has-dialled _ c.args.command c.args.name.now c.in-Some.port c.read-answer.result (c.in-Ok.config, c.in-Ok.field-0-1) (g.F.Front.seen c.args.front.now)
+    (g.F.Front.seen c.dial.new.self) c.spelling.result.now true command c.read-answer.ensures c.in-Ok.ensures
+    (sym (ap (λ (x : Configuration). x.control) c.config.view_is) ∙ c.in-Some.is) c.unopened.ensures.shown c.spelling.ensures c.if-dial.ensures.dials in
+    let zero = c.unopened.ensures.status in
     record {
-      dialled =
-          has-dialled _ c.args.command c.args.name.now c.in-Some.port c.read-answer.result (c.in-Ok.config, c.in-Ok.field-0-1) (g.F.Front.seen c.args.front.now)
-          (g.F.Front.seen c.dial.new.self) c.spelling.result.now false command c.read-answer.ensures c.in-Ok.ensures
-          (sym (ap (λ (x : Configuration). x.control) c.config.view_is) ∙ c.in-Some.is) refused.shows c.spelling.ensures c.if-dial.ensures.dials;
-      text = refused.writes;
+      known = inl zero;
+      front = inr (inl (zero, dialled));
+      sent = λ zero. record { dialled = dialled; unwritten = refl };
+      misconfigured = λ one. absurd (omega (arith, zero, one));
+      unread = λ three. absurd (omega (arith, zero, three));
+      undialled = λ four. absurd (omega (arith, zero, four));
+      silent = λ six. absurd (omega (arith, zero, six));
+      uncontrolled = λ ten. absurd (omega (arith, zero, ten));
     }
 
-pub returns-clause-front : goal.returns-clause-front
-returns-clause-front g c words command =
+pub returns-clause-ends : goal.returns-clause-ends
+returns-clause-ends g c words command =
+    let refused = c.refuse_front.ensures in
     let shows : c.refuse_front.result.shown ≡ None =
-    elim c.refuse_front.ensures.known [
-      | inl four ↦ (c.refuse_front.ensures.refused four).shows
-      | inr six ↦ (c.refuse_front.ensures.silent six).1
+    elim refused.known [
+      | inl four ↦ (refused.refused four).shows
+      | inr six ↦ (refused.silent six).1
     ] in
-    inr (inr (record {
-      status_is = c.refuse_front.ensures.known;
-      failed =
-          inr (has-dialled _ c.args.command c.args.name.now c.in-Some.port c.read-answer.result (c.in-Ok.config, c.in-Ok.field-0-1) (g.F.Front.seen c.args.front.now)
-          (g.F.Front.seen c.dial.new.self) c.spelling.result.now false command c.read-answer.ensures c.in-Ok.ensures
-          (sym (ap (λ (x : Configuration). x.control) c.config.view_is) ∙ c.in-Some.is) shows c.spelling.ensures c.if-dial.ensures.dials);
-    }))
+    let dialled =
+    has-dialled _ c.args.command c.args.name.now c.in-Some.port c.read-answer.result (c.in-Ok.config, c.in-Ok.field-0-1) (g.F.Front.seen c.args.front.now)
+    (g.F.Front.seen c.dial.new.self) c.spelling.result.now false command c.read-answer.ensures c.in-Ok.ensures
+    (sym (ap (λ (x : Configuration). x.control) c.config.view_is) ∙ c.in-Some.is) shows c.spelling.ensures c.if-dial.ensures.dials in
+    record {
+      known = elim refused.known [ inl four ↦ inr (inr (inr (inl four))) | inr six ↦ inr (inr (inr (inr (inl six)))) ];
+      front = inr (inr (record { status_is = refused.known; failed = inr dialled }));
+      sent = λ zero. absurd (omega (arith, refused.known, zero));
+      misconfigured = λ one. absurd (omega (arith, refused.known, one));
+      unread = λ three. absurd (omega (arith, refused.known, three));
+      undialled = λ four. record { dialled = dialled; text = (refused.refused four).writes };
+      silent = refused.silent;
+      uncontrolled = λ ten. absurd (omega (arith, refused.known, ten));
+    }

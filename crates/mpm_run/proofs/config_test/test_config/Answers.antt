@@ -1,24 +1,32 @@
+use Rattle.std.proofs.Common.{◌≡◌, ◌⊎◌, ℕ, inl, inr, arith}
 use Rattle.mpm_run.proofs.ConfigLemmas.{config-refused, config-unread, ends-test-unwritten, ends-tested}
+use Rattle.mpm_run.proofs.FormLemmas.{test-unconfigured}
 use Rattle.mpm_run.proofs.InvocationLemmas.{test-config}
-use Rattle.std.proofs.Common.{inl, inr}
 use Rattle.mpm_run.proofs.config_test.test_config.Goals as goal
 
-pub returns-in-Ok-clause-tested : goal.returns-in-Ok-clause-tested
-returns-in-Ok-clause-tested g c words command zero =
-    ends-tested _ c.args.name.now c.read-answer.result (c.in-Ok.field-0-0, c.in-Ok.told) command c.read-answer.ensures c.in-Ok.ensures c.pass.ensures.shown
-    (c.pass.ensures.written zero)
+pub returns-in-Ok : goal.returns-in-Ok
+returns-in-Ok g c words command =
+    let known = c.pass.ensures.known in
+    record {
+      known = elim known [ inl zero ↦ inl zero | inr other ↦ elim other [ inl five ↦ inr (inr (inr (inl five))) | inr six ↦ inr (inr (inr (inr six))) ] ];
+      tested =
+          λ zero. ends-tested _ c.args.name.now c.read-answer.result (c.in-Ok.field-0-0, c.in-Ok.told) command c.read-answer.ensures c.in-Ok.ensures
+          c.pass.ensures.shown (c.pass.ensures.written zero);
+      misconfigured = λ one. absurd (omega (arith, known, one));
+      unread = λ three. absurd (omega (arith, known, three));
+      unwritten =
+          λ five. ends-test-unwritten _ c.args.name.now c.read-answer.result (c.in-Ok.field-0-0, c.in-Ok.told) command c.read-answer.ensures c.in-Ok.ensures
+          c.pass.ensures.shown (c.pass.ensures.failed five);
+      silent = c.pass.ensures.silent;
+    }
 
-pub returns-in-Ok-clause-unwritten : goal.returns-in-Ok-clause-unwritten
-returns-in-Ok-clause-unwritten g c words command five =
-    ends-test-unwritten _ c.args.name.now c.read-answer.result (c.in-Ok.field-0-0, c.in-Ok.told) command c.read-answer.ensures c.in-Ok.ensures
-    c.pass.ensures.shown (c.pass.ensures.failed five)
-
-pub returns-clause-refused : goal.returns-clause-refused
-returns-clause-refused g c words command one =
-    config-refused _ c.args.name.now c.read-answer.result c.in-Err.why c.refuse_config_of.result.status (test-config words c.args.name.now command)
-    c.read-answer.ensures c.in-Err.ensures (c.refuse_config_of.ensures.refused (inl one)) one
-
-pub returns-clause-unread : goal.returns-clause-unread
-returns-clause-unread g c words command three =
-    config-unread _ c.args.name.now c.read-answer.result c.in-Err.why c.refuse_config_of.result.status (test-config words c.args.name.now command)
-    c.read-answer.ensures c.in-Err.ensures (c.refuse_config_of.ensures.refused (inr three)) three
+pub returns : goal.returns
+returns g c words command =
+    let refused = c.refuse_config_of.ensures in
+    let status = c.refuse_config_of.result.status in
+    test-unconfigured _ status refused.known
+    (λ one. config-refused _ c.args.name.now c.read-answer.result c.in-Err.why status (test-config words c.args.name.now command)
+    c.read-answer.ensures c.in-Err.ensures (refused.refused (inl one)) one)
+    (λ three. config-unread _ c.args.name.now c.read-answer.result c.in-Err.why status (test-config words c.args.name.now command)
+    c.read-answer.ensures c.in-Err.ensures (refused.refused (inr three)) three)
+    refused.silent

@@ -1,9 +1,9 @@
 use Rattle.std.proofs.Common.{◌≡◌, ℕ, List, None, ap, sym, subst, ◌∙◌, arith}
 use Rattle.mpm_config.specs.Config.{Configuration}
 use Rattle.file_table.specs.declared.load_fault.LoadFault.{LoadFault}
-use Rattle.mpm_run.specs.ExitStatusesInside.{RefusesRun}
-use Rattle.mpm_run.specs.SitesInside.{RefusesFolder}
-use Rattle.mpm_run.specs.Texts.{site_refused, store_fault}
+use Rattle.run_opening.specs.RefusalsInside.{RefusesRun}
+use Rattle.mpm_run.specs.ExitStatusesInside.{RefusesFolder}
+use Rattle.run_report.specs.Texts.{site_refused, store_fault}
 use Rattle.mpm_run.proofs.serve_run.refuse_folder.Goals as goal
 
 pub returns-in-StoreFault-clause-refused : goal.returns-in-StoreFault-clause-refused

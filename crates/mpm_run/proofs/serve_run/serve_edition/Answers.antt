@@ -1,8 +1,11 @@
+use Rattle.run_opening.specs.Configured.{warnings_of}
 use Rattle.std.proofs.Common.{◌∙◌, ℕ, List, subst}
-use Rattle.mpm_run.specs.ExitStatusesInside.{WritesAll}
-use Rattle.mpm_run.specs.OrdersInside.{opening_by}
-use Rattle.mpm_run.proofs.EndLemmas.{ends-as, opened-status, stopped-end}
-use Rattle.mpm_run.proofs.ServeLemmas.{has-run-by}
+use Rattle.run_report.specs.EndingsInside.{WritesAll}
+use Rattle.listener.specs.OrdersInside.{opening_by}
+use Rattle.run_report.proofs.EndingLemmas.{ends-as}
+use Rattle.listener.proofs.LeftLemmas.{stopped-end}
+use Rattle.mpm_run.proofs.ServeLemmas.{opened-status}
+use Rattle.listener.proofs.LeftLemmas.{has-run-by}
 use Rattle.mpm_run.proofs.serve_run.serve_edition.Goals as goal
 
 pub returns-in-Ok-clause-run : goal.returns-in-Ok-clause-run
@@ -18,7 +21,7 @@ returns-in-Ok-clause-ends g c =
     let mid = g.K.Sink.seen c.run_server-answer.new.out in
     let served = c.in-Ok.served in
     let kept = c.in-Ok.ensures in
-    ends-as old mid (g.K.Sink.seen c.report_run-status.new.out) c.args.config.config.now served.board served.written c.report_run-status.result
+    ends-as old mid (g.K.Sink.seen c.report_run-status.new.out) (warnings_of c.args.config.config.now) served.board served.written c.report_run-status.result
     (subst (λ (text : List ℕ). WritesAll old mid text served.written) (c.as_slice.ensures ∙ c.requires.told) kept.written) kept.faults
     (stopped-end (g.F.Front.seen c.args.front.now) (g.F.Front.seen c.run_server-answer.new.front) served.board.book.state kept.outside.stopped)
     c.report_run-status.ensures.stopped c.report_run-status.ensures.report c.report_run-status.ensures.lacking

@@ -1,78 +1,73 @@
-use Rattle.std.proofs.Common.{IfSome, ◌∙◌, ap, inl, inr, subst}
+use Rattle.std.proofs.Common.{◌≡◌, ◌⊎◌, IfSome, ◌∙◌, ap, inl, inr, subst, arith}
 use Rattle.mpm_base.specs.Store.{StoreSeen}
 use Rattle.file_table.specs.Site.{SeenSite}
-use Rattle.mpm_run.specs.ExitStatusesInside.{HasRunBy}
-use Rattle.mpm_run.proofs.ConfigLemmas.{config-refused, config-unread, had-accepted, has-accepted}
+use Rattle.run_opening.proofs.ConfigLemmas.{had-accepted, has-accepted}
+use Rattle.listener.specs.RunsInside.{HasRunBy}
+use Rattle.mpm_run.proofs.ConfigLemmas.{config-refused, config-unread}
 use Rattle.mpm_run.proofs.InvocationLemmas.{serve-config}
-use Rattle.mpm_run.proofs.ServeLemmas.{asked-only, folder-refused, folder-unread, is-ready, leaves-front, serves, unbound}
+use Rattle.mpm_run.proofs.ServeLemmas.{asked-only, folder-refused, folder-unread, is-ready, leaves-front, serves, unbound, unserved}
 use Rattle.mpm_run.proofs.serve_run.serve_file.Goals as goal
 
-pub returns-in-Err-clause-misconfigured : goal.returns-in-Err-clause-misconfigured
-returns-in-Err-clause-misconfigured g c words command one =
-    config-refused _ c.args.name.now c.read-answer.result c.in-Err.why c.refuse_config_of.result.status (serve-config words c.args.name.now command)
-    c.read-answer.ensures c.in-Err.ensures (c.refuse_config_of.ensures.refused (inl one)) one
+pub returns-in-Err-clause-ends : goal.returns-in-Err-clause-ends
+returns-in-Err-clause-ends g c words command =
+    let refused = c.refuse_config_of.ensures in
+    let status = c.refuse_config_of.result.status in
+    unserved _ (g.F.Front.seen c.args.front.now) (g.C.Clock.told c.args.clock.now) status c.refuse_config_of.result.left refused.left
+    (elim refused.known [ inl one ↦ inl one | inr other ↦ elim other [ inl three ↦ inr (inl three) | inr six ↦ inr (inr (inl six)) ] ])
+    (λ one. config-refused _ c.args.name.now c.read-answer.result c.in-Err.why status (serve-config words c.args.name.now command)
+    c.read-answer.ensures c.in-Err.ensures (refused.refused (inl one)) one)
+    (λ three. config-unread _ c.args.name.now c.read-answer.result c.in-Err.why status (serve-config words c.args.name.now command)
+    c.read-answer.ensures c.in-Err.ensures (refused.refused (inr three)) three)
+    refused.silent (λ nine. absurd (omega (arith, refused.known, nine)))
 
-pub returns-in-Err-clause-unread : goal.returns-in-Err-clause-unread
-returns-in-Err-clause-unread g c words command three =
-    config-unread _ c.args.name.now c.read-answer.result c.in-Err.why c.refuse_config_of.result.status (serve-config words c.args.name.now command)
-    c.read-answer.ensures c.in-Err.ensures (c.refuse_config_of.ensures.refused (inr three)) three
-
-pub returns-in-Err-load_site-clause-unread : goal.returns-in-Err-load_site-clause-unread
-returns-in-Err-load_site-clause-unread g c words command three =
+pub returns-in-Err-load_site-clause-ends : goal.returns-in-Err-load_site-clause-ends
+returns-in-Err-load_site-clause-ends g c words command =
     let read = g.D.Store.seen c.read-answer.new.self in
     let leaves = c.in-Err-load_site.ensures.leaves in
-    folder-unread _ read c.args.name.now c.in-Ok.read.0 c.in-Err-load_site.fault c.read-answer.result c.refuse_folder.result.status command
-    (has-accepted _ read c.args.name.now c.read-answer.result c.in-Ok.read c.read-answer.ensures leaves.told c.in-Ok.ensures)
-    c.read-answer.ensures leaves (c.refuse_folder.ensures.refused (inl three)) three
+    let refused = c.refuse_folder.ensures in
+    let status = c.refuse_folder.result.status in
+    let accepted = has-accepted _ read c.args.name.now c.read-answer.result c.in-Ok.read c.read-answer.ensures leaves.told c.in-Ok.ensures in
+    unserved _ (g.F.Front.seen c.args.front.now) (g.C.Clock.told c.args.clock.now) status c.refuse_folder.result.left refused.left
+    (elim refused.known [ inl three ↦ inr (inl three) | inr other ↦ elim other [ inl nine ↦ inr (inr (inr nine)) | inr six ↦ inr (inr (inl six)) ] ])
+    (λ one. absurd (omega (arith, refused.known, one)))
+    (λ three. folder-unread _ read c.args.name.now c.in-Ok.read.0 c.in-Err-load_site.fault c.read-answer.result status command
+    accepted c.read-answer.ensures leaves (refused.refused (inl three)) three)
+    refused.silent
+    (λ nine. folder-refused _ read c.args.name.now c.in-Ok.read.0 c.in-Err-load_site.fault c.read-answer.result status command
+    accepted c.read-answer.ensures leaves c.in-Err-load_site.ensures.site (refused.refused (inr nine)) nine)
 
-pub returns-in-Err-load_site-clause-site_refused : goal.returns-in-Err-load_site-clause-site_refused
-returns-in-Err-load_site-clause-site_refused g c words command nine =
-    let read = g.D.Store.seen c.read-answer.new.self in
-    let leaves = c.in-Err-load_site.ensures.leaves in
-    folder-refused _ read c.args.name.now c.in-Ok.read.0 c.in-Err-load_site.fault c.read-answer.result c.refuse_folder.result.status command
-    (has-accepted _ read c.args.name.now c.read-answer.result c.in-Ok.read c.read-answer.ensures leaves.told c.in-Ok.ensures)
-    c.read-answer.ensures leaves c.in-Err-load_site.ensures.site (c.refuse_folder.ensures.refused (inr nine)) nine
-
-pub returns-clause-server : goal.returns-clause-server
-returns-clause-server g c words command =
+pub returns-clause-ends : goal.returns-clause-ends
+returns-clause-ends g c words command =
     let old = g.D.Store.seen c.args.store.now in
     let read = g.D.Store.seen c.read-answer.new.self in
     let asked = g.D.Store.seen c.load_site.new.store in
     let loaded = c.in-Ok-load_site.ensures in
     let ended = c.serve_edition.ensures in
-    serves c.serve_edition.result.left _ c.args.name.now c.in-Ok.read.0 c.in-Ok-load_site.site asked (g.F.Front.seen c.args.front.now)
-    (g.F.Front.seen c.serve_edition.new.front) (g.C.Clock.told c.serve_edition.new.clock) c.serve_edition.result.status
-    (is-ready _ read c.args.name.now c.in-Ok.read.0 c.in-Ok-load_site.site command
-    (had-accepted _ read c.args.name.now c.read-answer.result c.in-Ok.read c.read-answer.ensures c.in-Ok.ensures)
-    c.read-answer.ensures.told_stays loaded.limits loaded.site)
-    (asked-only old read asked c.args.name.now c.read-answer.result c.in-Ok-load_site.site c.read-answer.ensures loaded.leaves) ended.shown
-    (subst (λ (site : SeenSite). IfSome c.serve_edition.result.left (HasRunBy (record { name = c.args.name.now; config = c.in-Ok.read.0; site = site; store = asked; front = g.F.Front.seen c.args.front.now }) (g.D.Store.seen c.serve_edition.new.store) (g.F.Front.seen c.serve_edition.new.front))) c.in-Ok-new.ensures.ok ended.run)
-    ended.outside ended.ends
-
-pub returns-clause-front_failed : goal.returns-clause-front_failed
-returns-clause-front_failed g c words command four =
-    let read = g.D.Store.seen c.read-answer.new.self in
-    let loaded = c.in-Ok-load_site.ensures in
-    unbound c.serve_edition.result.left _ c.args.name.now c.in-Ok.read.0 c.in-Ok-load_site.site (g.F.Front.seen c.args.front.now)
-    (g.F.Front.seen c.serve_edition.new.front)
-    (is-ready _ read c.args.name.now c.in-Ok.read.0 c.in-Ok-load_site.site command
-    (had-accepted _ read c.args.name.now c.read-answer.result c.in-Ok.read c.read-answer.ensures c.in-Ok.ensures)
-    c.read-answer.ensures.told_stays loaded.limits loaded.site)
-    (λ none. ap (λ (s : StoreSeen). s.told) (c.serve_edition.ensures.store none) ∙ loaded.leaves.told ∙ c.read-answer.ensures.told_stays)
-    (c.serve_edition.ensures.unbound four)
-
-pub returns-clause-unopened : goal.returns-clause-unopened
-returns-clause-unopened g c words command none =
-    let read = g.D.Store.seen c.read-answer.new.self in
-    let loaded = c.in-Ok-load_site.ensures in
+    let status = c.serve_edition.result.status in
+    let front = g.F.Front.seen c.args.front.now in
+    let front' = g.F.Front.seen c.serve_edition.new.front in
+    let had = had-accepted _ read c.args.name.now c.read-answer.result c.in-Ok.read c.read-answer.ensures c.in-Ok.ensures in
+    let ready = is-ready _ read c.args.name.now c.in-Ok.read.0 c.in-Ok-load_site.site command had c.read-answer.ensures.told_stays loaded.limits loaded.site in
     record {
-      front =
-          leaves-front _ c.args.name.now c.in-Ok.read.0 c.in-Ok-load_site.site (g.F.Front.seen c.args.front.now) (g.F.Front.seen c.serve_edition.new.front)
-          c.serve_edition.result.status
-          (is-ready _ read c.args.name.now c.in-Ok.read.0 c.in-Ok-load_site.site command
-          (had-accepted _ read c.args.name.now c.read-answer.result c.in-Ok.read c.read-answer.ensures c.in-Ok.ensures)
-          c.read-answer.ensures.told_stays loaded.limits loaded.site)
-          (ap (λ (s : StoreSeen). s.told) (c.serve_edition.ensures.store none) ∙ loaded.leaves.told ∙ c.read-answer.ensures.told_stays)
-          (c.serve_edition.ensures.front none);
-      clock = c.serve_edition.ensures.clock none;
+      known = inl ended.known;
+      server =
+          serves c.serve_edition.result.left _ c.args.name.now c.in-Ok.read.0 c.in-Ok-load_site.site asked front front'
+          (g.C.Clock.told c.serve_edition.new.clock) status ready
+          (asked-only old read asked c.args.name.now c.read-answer.result c.in-Ok-load_site.site c.read-answer.ensures loaded.leaves) ended.shown
+          (subst (λ (site : SeenSite). IfSome c.serve_edition.result.left (HasRunBy (record { name = c.args.name.now; config = c.in-Ok.read.0; site = site; store = asked; front = front }) (g.D.Store.seen c.serve_edition.new.store) front')) c.in-Ok-new.ensures.ok ended.run)
+          ended.outside ended.ends;
+      opened = ended.opened;
+      unopened = λ none. record {
+        front =
+            leaves-front _ c.args.name.now c.in-Ok.read.0 c.in-Ok-load_site.site front front' status ready
+            (ap (λ (s : StoreSeen). s.told) (ended.store none) ∙ loaded.leaves.told ∙ c.read-answer.ensures.told_stays) (ended.front none);
+        clock = ended.clock none;
+      };
+      misconfigured = λ one. absurd (omega (arith, ended.known, one));
+      unread = λ three. absurd (omega (arith, ended.known, three));
+      front_failed =
+          λ four. unbound c.serve_edition.result.left _ c.args.name.now c.in-Ok.read.0 c.in-Ok-load_site.site front front' ready
+          (λ none. ap (λ (s : StoreSeen). s.told) (ended.store none) ∙ loaded.leaves.told ∙ c.read-answer.ensures.told_stays) (ended.unbound four);
+      silent = ended.silent;
+      site_refused = λ nine. absurd (omega (arith, ended.known, nine));
     }

@@ -1,0 +1,117 @@
+-- How a run stands as it opens, what the type knows of its editions then, and by which of them it serves.
+use Rattle.std.proofs.Common.{◌≡◌, inl, ℕ, suc, ◌+◌, false, List, [], ◌∷◌, take, Option, None, Some, option_map, IfSome, refl, sym, ap, subst, arith}
+use Rattle.mpm_base.specs.Front.{FrontSeen, FrontTold}
+use Rattle.mpm_base.specs.Store.{StoreSeen, StoreTold}
+use Rattle.conn_state.specs.Known.{KnownOutside}
+use Rattle.board.specs.Book.{SeenBook}
+use Rattle.board.specs.Editions.{orders_in}
+use Rattle.listener.specs.Commands.{asked_by}
+use Rattle.listener.specs.FirstNumbersInside.{opened_book}
+use Rattle.listener.specs.FoldsInside.{FoldsJoin}
+use Rattle.listener.specs.Generations.{Opening, known_edition, made_edition, renewed, head_limits_of}
+use Rattle.listener.specs.ListenInside.{IsKnownOfFront, clients_known}
+use Rattle.listener.specs.OrdersInside.{KnowsComing, ServesNewest, known_outside, opening_by}
+use Rattle.listener.specs.StandingInside.{DoesAllBut, HasStood, StandsSo, later_edition, standing}
+use Rattle.listener.specs.declared.edition.LoadedEdition.{LoadedEdition}
+use Rattle.listener.specs.declared.edition.NamedConfig.{NamedConfig}
+use Rattle.listener.specs.declared.run_numbers.RunNumbers.{RunNumbers}
+use Rattle.listener.proofs.StartedLemmas.{IsIdle}
+
+-- ## What the type knows
+
+-- what its front tells of its clients
+pub known-front : (known : Option KnownOutside) (o : Opening) → known ≡ Some (known_outside o) → IsKnownOfFront known o.front.told
+known-front known o is = ap clients_known is
+
+-- what is known of an edition behind so many further ones
+later-known : (o : Opening) (number further : ℕ) → number ≡ suc further
+    → known_edition o number ≡ later_edition o.name o.config o.store.told further
+later-known o number further is =
+    let one : further + 1 ≡ suc further = omega (arith) in
+    subst (λ (n : ℕ). known_edition o n ≡ later_edition o.name o.config o.store.told further) (sym is)
+    (subst (λ (n : ℕ). known_edition o (suc further) ≡ option_map (λ (t : StoreTold). made_edition o.config o.name (renewed n t).files) o.store.told) (sym one) refl)
+
+-- each edition that is still to come
+pub knows-coming : (known : Option KnownOutside) (c : NamedConfig) (e : LoadedEdition) (store : StoreSeen) (front : FrontSeen) (n : RunNumbers) (b : SeenBook)
+    → known ≡ Some (known_outside (opening_by c e store front)) → b ≡ opened_book n → KnowsComing known b c store.told
+knows-coming known c e store front n b is opened =
+    let o = opening_by c e store front in
+    let none : orders_in b ≡ 0 = ap orders_in opened in
+    subst (λ (k : Option KnownOutside). KnowsComing k b c store.told) (sym is)
+    (λ further. later-known o (orders_in b + (further + 1)) further (omega (arith, none)))
+
+-- the first generation is served by what the server opened by
+pub serves-first : (known : Option KnownOutside) (c : NamedConfig) (e : LoadedEdition) (store : StoreSeen) (front : FrontSeen) (n : RunNumbers) (b : SeenBook)
+    → known ≡ Some (known_outside (opening_by c e store front)) → b ≡ opened_book n → e.limits ≡ head_limits_of c.config.now
+    → ServesNewest known b e
+serves-first known c e store front n b is opened limits =
+    subst (λ (k : Option KnownOutside). ServesNewest k b e) (sym is)
+    (subst (λ (x : SeenBook). ServesNewest (Some (known_outside (opening_by c e store front))) x e) (sym opened)
+    (record { number = 0; found = refl; is_of = record { limits_are = limits; site_is = refl } }))
+
+-- ## How a run stands
+
+-- of no lines none asks for anything
+none-asked : (lines : List (List ℕ)) → asked_by false (take 0 lines) ≡ []
+none-asked [] = refl
+none-asked (line ∷ lines) = refl
+
+-- no command line was read, and none was done
+lines-opened : (told : Option FrontTold) (calls : Option (List (ℕ × ℕ))) → IsIdle told calls → IfSome told (DoesAllBut [] [])
+lines-opened None calls idle = tt
+lines-opened (Some t) calls idle =
+    λ few. record { does = subst (λ (n : ℕ). asked_by false (take n t.lines) ≡ []) (sym idle.front.read) (none-asked t.lines); last = tt }
+
+-- a store that wasn't renewed tells the same
+unrenewed : (told : Option StoreTold) → told ≡ option_map (renewed 0) told
+unrenewed None = refl
+unrenewed (Some t) = refl
+
+-- so it stands where nothing was done yet
+pub stands-opened : FoldsJoin → (known : Option KnownOutside) (c : NamedConfig) (e : LoadedEdition) (store : StoreSeen) (old front : FrontSeen)
+    (calls : Option (List (ℕ × ℕ))) (n : RunNumbers) (b : SeenBook) → b ≡ opened_book n → e.stop_ms ≡ c.config.now.current.stop_ms
+    → front.counts.commands ≡ old.counts.commands → IsIdle front.told calls
+    → StandsSo known (opening_by c e store old) n [] 0 (standing e.stop_ms store front b)
+stands-opened joins known c e store old front calls n b opened timeout same idle =
+    subst (λ (x : SeenBook). StandsSo known (opening_by c e store old) n [] 0 (standing e.stop_ms store front x)) (sym opened)
+    (record {
+      passes = refl;
+      folded = record {
+        entries = [];
+        ended = [];
+        made = tt;
+        few = λ p past. refl;
+        asked = tt;
+        base_is = refl;
+        record_is = sym (joins.nothing n.slots n.children n.passes n.shape);
+        closed = refl;
+        answered = tt;
+      };
+      outside = tt;
+      ordered = tt;
+      timeout = ap (λ (ms : ℕ). Some ms) (sym timeout);
+      lines = lines-opened front.told calls idle;
+      given = inl (omega (arith, same));
+      ending = refl;
+      renewals = 0;
+      each = omega (arith);
+      no_more = omega (arith);
+      store = record { told = unrenewed store.told; failed = inl (omega (arith)) };
+    })
+
+-- in the end it has stood so by the numbers of the configuration, over the board that is left
+pub stood-behind : (known : Option KnownOutside) (o : Opening) (n n' : RunNumbers) (ms : ℕ) (store : StoreSeen) (front : FrontSeen) (b b' : SeenBook)
+    → n ≡ n' → b' ≡ b → HasStood known o n (standing ms store front b) → HasStood known o n' (standing 0 store front b')
+stood-behind known o n n' ms store front b b' numbers_are same stood =
+    subst (λ (m : RunNumbers). HasStood known o m (standing 0 store front b')) numbers_are
+    (subst (λ (x : SeenBook). HasStood known o n (standing 0 store front x)) (sym same)
+    (record {
+      passes = stood.passes;
+      folded = stood.folded;
+      outside = stood.outside;
+      ordered = stood.ordered;
+      lines = stood.lines;
+      each = stood.each;
+      given = stood.given;
+      store = stood.store;
+    }))

@@ -1,0 +1,20 @@
+use Rattle.std.proofs.Common.{◌≡◌, IfSome}
+use Rattle.worker_group.specs.Service.{IsUp}
+use Rattle.listener.specs.ListenInside.{HasNoneToHeed, IsInStep}
+use Rattle.listener.specs.OrdersInside.{KnowsComing, ServesNewest}
+use Rattle.listener.proofs.HeedLemmas.{HasHeeded}
+use Rattle.listener.proofs.listener_state.Listener.heed.Given as goal
+
+-- each line that was read was done, and none of them stops the server
+abbrev pub invariant-loop : goal.invariant-loop
+invariant-loop g l =
+    record {
+      heeded : HasHeeded g.N.Known.known l.fn.self.config l.fn.self.edition.stop_ms l.self.edition.stop_ms (g.D.Store.seen l.fn.store)
+          (g.D.Store.seen l.store) (g.F.Front.seen l.fn.front) (g.F.Front.seen l.front) l.fn.self.board.book l.self.board.book;
+      knows : KnowsComing g.N.Known.known l.self.board.book l.self.config (g.D.Store.seen l.store).told;
+      serves : ServesNewest g.N.Known.known l.self.board.book l.self.edition;
+      up : IsUp l.self.board.book.state.going;
+      step : IsInStep (g.F.Front.seen l.front).told l.self.board.book.state;
+      none : IfSome (g.F.Front.seen l.front).told HasNoneToHeed;
+      others : l.self ≡ record l.fn.self { board = l.self.board; edition = l.self.edition };
+    }

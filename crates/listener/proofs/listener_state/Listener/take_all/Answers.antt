@@ -1,0 +1,188 @@
+use Rattle.std.proofs.Common.{ℕ, ◌<◌, refl, sym, ap, subst, ◌∙◌, rules}
+use Rattle.conn_machine.specs.States.{is_halted}
+use Rattle.listener.specs.OrdersInside.{ServesNewest}
+use Rattle.listener.specs.RoundInside.{TakesUntil}
+use Rattle.rounds.specs.PartsInside.{way_of}
+use Rattle.listener.proofs.EditionLemmas.{newest-acts}
+use Rattle.listener.proofs.FrontLemmas.{alike-mapped, arrives-next, follows-accept, follows-same, follows-trans, handed-known, handed-tells, named-follows, step-none, step-taken, takes-accept, takes-same, takes-trans}
+use Rattle.listener.proofs.LinkLemmas.{hands-ended}
+use Rattle.rounds.proofs.ActLemmas.{on-err}
+use Rattle.listener.proofs.RoundLemmas.{takes-more, takes-none}
+use Rattle.listener.proofs.TakenLemmas.{took-none}
+use Rattle.listener.proofs.WatchLemmas.{watched-accept}
+use Rattle.listener.proofs.listener_state.Listener.take_all.Goals as goal
+
+pub loop-init : goal.loop-init
+loop-init g c =
+    record {
+      takes = takes-none c.passes_act_in_steps.ensures.acts c.args.self.now.board.book c.requires.free;
+      going = refl;
+      newest = refl;
+      moment = refl;
+      step = c.requires.step;
+      follows = follows-same _;
+      front = takes-same _;
+      watched = λ before. before;
+      edition = refl;
+      ready = refl;
+      config = refl;
+    }
+
+pub take-requires-clause-passes : goal.take-requires-clause-passes
+take-requires-clause-passes g c κs within =
+    let takes = c.loop.invariant.takes in
+    subst (λ (n : ℕ). 0 < n) (sym takes.acts.passes) c.requires.passes
+
+pub take-requires-clause-free : goal.take-requires-clause-free
+take-requires-clause-free g c κs within =
+    let takes = c.loop.invariant.takes in
+    takes.acts.row
+
+pub take-requires-clause-up : goal.take-requires-clause-up
+take-requires-clause-up g c κs within = ap is_halted c.loop.invariant.going ∙ c.requires.up
+
+pub take-requires-clause-site : goal.take-requires-clause-site
+take-requires-clause-site g c κs within = c.in-Ok.ensures
+
+pub take-requires-clause-serves : goal.take-requires-clause-serves
+take-requires-clause-serves g c κs within =
+    let before = c.loop.invariant in
+    subst (ServesNewest g.N.Known.known c.loop.self.board.book) (sym before.edition)
+    (newest-acts c.generations_keep_their_editions.ensures g.N.Known.known 0 _ _ c.args.self.now.board.book c.loop.self.board.book c.args.self.now.edition
+    before.takes.acts before.newest c.requires.serves)
+
+pub take-requires-clause-arrival : goal.take-requires-clause-arrival
+take-requires-clause-arrival g c κs within =
+    let step = c.loop.invariant.step in
+    arrives-next (g.F.Front.seen c.loop.front).told (g.L.Link.seen c.in-Some-accept.link).told c.loop.self.board.book.state
+    c.in-Some-accept.ensures.accepts.hands.1 step
+
+pub take-requires-clause-client : goal.take-requires-clause-client
+take-requires-clause-client g c κs within =
+    handed-known g.N.Known.known (g.F.Front.seen c.loop.front).told (g.L.Link.seen c.in-Some-accept.link).told
+    (named-follows g.N.Known.known _ _ c.loop.invariant.follows c.requires.named) c.in-Some-accept.ensures.accepts.hands.1
+
+pub take-requires-clause-tells : goal.take-requires-clause-tells
+take-requires-clause-tells g c κs within =
+    alike-mapped _ (g.F.Front.seen c.loop.front).told (g.F.Front.seen c.accept.new.self).told (g.L.Link.seen c.in-Some-accept.link).told
+    c.in-Some-accept.ensures.accepts.told_is
+    (handed-tells (g.F.Front.seen c.loop.front).told (g.L.Link.seen c.in-Some-accept.link).told c.in-Some-accept.ensures.accepts.hands.1)
+
+pub loop-preserved : goal.loop-preserved
+loop-preserved g c =
+    let before = c.loop.invariant in
+    let taking = c.in_ok-take-in-Some-accept.ensures.takes in
+    record {
+      takes =
+          takes-more c.passes_act_in_steps.ensures.acts (record { name = taking.name; way = way_of taking.watched }) c.args.self.now.board.book c.loop.self.board.book
+          c.take.new.self.board.book before.takes (record { watched = taking.watched; way_is = refl }) taking.acts;
+      going = c.take.ensures.going ∙ before.going;
+      newest = c.take.ensures.newest ∙ before.newest;
+      moment = c.take.ensures.moment ∙ before.moment;
+      step =
+          c.in_ok-take-in-Some-accept.ensures.step
+          (step-taken c.in-Some-accept.link (g.F.Front.seen c.loop.front).told (g.F.Front.seen c.accept.new.self).told c.loop.self.board.book.state
+          c.take.new.self.board.book.state c.in-Some-accept.ensures.accepts.told_is c.in_ok-take-in-Some-accept.ensures.taken c.take.ensures.going before.step);
+      follows =
+          follows-trans _ _ _ before.follows
+          (follows-trans _ _ _ (follows-accept g.L.Link.seen _ _ _ c.accept.ensures.accepts)
+          c.take.ensures.follows);
+      front =
+          takes-trans _ _ _ before.front
+          (takes-trans _ _ _ (takes-accept _ _ _ c.accept.ensures.accepts.told_is) c.take.ensures.front);
+      watched =
+          λ first. c.take.ensures.watched (watched-accept _ _ _ _ c.accept.ensures.accepts.told_is (before.watched first));
+      edition = c.take.ensures.edition ∙ before.edition;
+      ready = c.take.ensures.ready ∙ before.ready;
+      config = c.take.ensures.config ∙ before.config;
+    }
+
+pub returns-in_err-take-in-Some-accept-clause-until : goal.returns-in_err-take-in-Some-accept-clause-until
+returns-in_err-take-in-Some-accept-clause-until g c =
+    let takes = c.loop.invariant.takes in
+    let until : TakesUntil c.in_err-take-in-Some-accept.field-0.0 c.args.self.now.board.book c.take.new.self.board.book =
+    record { book = c.loop.self.board.book; takes = takes; last = c.in_err-take-in-Some-accept.ensures.until } in
+    search (rules, until)
+
+pub returns-in_err-take-in-Some-accept-clause-moment : goal.returns-in_err-take-in-Some-accept-clause-moment
+returns-in_err-take-in-Some-accept-clause-moment g c =
+    let before = c.loop.invariant.moment in
+    c.take.ensures.moment ∙ before
+
+pub returns-in_err-take-in-Some-accept-clause-follows : goal.returns-in_err-take-in-Some-accept-clause-follows
+returns-in_err-take-in-Some-accept-clause-follows g c =
+    let before = c.loop.invariant.follows in
+    follows-trans _ _ _ before
+    (follows-trans _ _ _ (follows-accept g.L.Link.seen _ _ _ c.accept.ensures.accepts)
+    c.take.ensures.follows)
+
+pub returns-in_err-take-in-Some-accept-clause-front : goal.returns-in_err-take-in-Some-accept-clause-front
+returns-in_err-take-in-Some-accept-clause-front g c =
+    let before = c.loop.invariant.front in
+    takes-trans _ _ _ before
+    (takes-trans _ _ _ (takes-accept _ _ _ c.accept.ensures.accepts.told_is) c.take.ensures.front)
+
+pub returns-in_err-take-in-Some-accept-clause-going : goal.returns-in_err-take-in-Some-accept-clause-going
+returns-in_err-take-in-Some-accept-clause-going g c =
+    let before = c.loop.invariant.going in
+    c.take.ensures.going ∙ before
+
+pub returns-in_err-take-in-Some-accept-clause-newest : goal.returns-in_err-take-in-Some-accept-clause-newest
+returns-in_err-take-in-Some-accept-clause-newest g c =
+    let before = c.loop.invariant.newest in
+    c.take.ensures.newest ∙ before
+
+pub returns-in_err-take-in-Some-accept-clause-edition : goal.returns-in_err-take-in-Some-accept-clause-edition
+returns-in_err-take-in-Some-accept-clause-edition g c =
+    let before = c.loop.invariant.edition in
+    c.take.ensures.edition ∙ before
+
+pub returns-in_err-take-in-Some-accept-clause-ready : goal.returns-in_err-take-in-Some-accept-clause-ready
+returns-in_err-take-in-Some-accept-clause-ready g c =
+    let before = c.loop.invariant.ready in
+    c.take.ensures.ready ∙ before
+
+pub returns-in_err-take-in-Some-accept-clause-config : goal.returns-in_err-take-in-Some-accept-clause-config
+returns-in_err-take-in-Some-accept-clause-config g c =
+    let before = c.loop.invariant.config in
+    c.take.ensures.config ∙ before
+
+pub returns-in-None-accept : goal.returns-in-None-accept
+returns-in-None-accept g c =
+    let before = c.loop.invariant in
+    record {
+      takes = before.takes;
+      until = tt;
+      going = before.going;
+      newest = before.newest;
+      moment = before.moment;
+      step =
+          step-none (g.F.Front.seen c.loop.front).told (g.F.Front.seen c.accept.new.self).told c.accept.result c.loop.self.board.book.state
+          c.in-None-accept.is c.accept.ensures.accepts.told_is before.step;
+      taken =
+          took-none g.L.Link.seen (g.F.Front.seen c.loop.front) (g.F.Front.seen c.accept.new.self) c.accept.result
+          c.loop.self.board.book.state c.in-None-accept.is c.accept.ensures.accepts;
+      follows =
+          follows-trans _ _ _ before.follows
+          (follows-accept g.L.Link.seen _ _ _ c.accept.ensures.accepts);
+      front = takes-trans _ _ _ before.front (takes-accept _ _ _ c.accept.ensures.accepts.told_is);
+      watched = λ first. watched-accept _ _ _ _ c.accept.ensures.accepts.told_is (before.watched first);
+      links = tt;
+      edition = before.edition;
+      ready = before.ready;
+      config = before.config;
+      err = tt;
+    }
+
+pub returns-in_err-take-in-Some-accept-clause-watched : goal.returns-in_err-take-in-Some-accept-clause-watched
+returns-in_err-take-in-Some-accept-clause-watched g c =
+    let before = c.loop.invariant.watched in
+    λ first. c.take.ensures.watched (watched-accept _ _ _ _ c.accept.ensures.accepts.told_is (before first))
+
+pub returns-in_err-take-in-Some-accept-clause-links : goal.returns-in_err-take-in-Some-accept-clause-links
+returns-in_err-take-in-Some-accept-clause-links g c =
+    let step = c.loop.invariant.step in
+    on-err c.from_residual.result _
+    (hands-ended c.in-Some-accept.link (g.L.Link.seen c.in-Some-accept.link).told (g.F.Front.seen c.loop.front).told (g.F.Front.seen c.accept.new.self).told
+    (g.F.Front.seen c.take.new.front).told c.loop.self.board.book.state c.loop.self.board.book.state c.take.new.self.board.book.state
+    c.in-Some-accept.ensures.accepts.hands.1 step c.in-Some-accept.ensures.accepts.told_is refl c.take.ensures.going c.in_err-take-in-Some-accept.ensures.links)

@@ -1,0 +1,23 @@
+use Rattle.std.proofs.Common.{◌≡◌}
+use Rattle.mpm_base.specs.Front.{TellsOn}
+use Rattle.listener.specs.ListenInside.{Follows, IsInStep, IsWatching, OnlyTakes}
+use Rattle.listener.specs.RoundInside.{TakesSome}
+use Rattle.listener.proofs.listener_state.Listener.take_all.Given as goal
+
+-- connections were taken, and the table is in step with the front; no time passes, no
+-- generation begins, and the server goes on as it did
+abbrev pub invariant-loop : goal.invariant-loop
+invariant-loop g l =
+    record {
+      takes : TakesSome l.fn.self.board.book l.self.board.book;
+      going : l.self.board.book.state.going ≡ l.fn.self.board.book.state.going;
+      newest : l.self.board.book.state.newest ≡ l.fn.self.board.book.state.newest;
+      moment : l.self.board.book.state.moment ≡ l.fn.self.board.book.state.moment;
+      step : IsInStep (g.F.Front.seen l.front).told l.self.board.book.state;
+      follows : Follows (g.F.Front.seen l.fn.front) (g.F.Front.seen l.front);
+      front : TellsOn OnlyTakes (g.F.Front.seen l.fn.front).told (g.F.Front.seen l.front).told;
+      watched : IsWatching (g.F.Front.seen l.fn.front).told l.fn.self.board.book → IsWatching (g.F.Front.seen l.front).told l.self.board.book;
+      edition : l.self.edition ≡ l.fn.self.edition;
+      ready : l.self.ready ≡ l.fn.self.ready;
+      config : l.self.config ≡ l.fn.self.config;
+    }

@@ -1,0 +1,283 @@
+use Rattle.std.proofs.Common.{◌≡◌, Option, None, refl, sym, ap, subst, ◌∙◌}
+use Rattle.rounds.specs.declared.ends.End.{End}
+use Rattle.listener.specs.ListenInside.{TakesInTo}
+use Rattle.listener.specs.RoundInside.{GoesRound, RoundEnds}
+use Rattle.listener.specs.TurnsInside.{listener_of}
+use Rattle.rounds.specs.Moments.{moment_for}
+use Rattle.listener.proofs.CommandLemmas.{heeded-wait}
+use Rattle.listener.proofs.FoldedTurnLemmas.{turn-folded}
+use Rattle.listener.proofs.FrontLemmas.{follows-trans, follows-wait, named-follows, step-wait}
+use Rattle.listener.proofs.OverLemmas.{over-broken, over-ended, over-ended_for, over-failed, over-served, over-started, turn-served, turn-started}
+use Rattle.rounds.proofs.ActLemmas.{none-has}
+use Rattle.listener.proofs.TurnLemmas.{HasGoneRound, HasServedRows, HasTakenIn, between-started}
+use Rattle.listener.proofs.WaitLemmas.{has-waited}
+use Rattle.listener.proofs.listener_state.Listener.take_turns.Goals as goal
+
+pub loop-init : goal.loop-init
+loop-init g c =
+    let first =
+    listener_of c.args.self.now.board (g.F.Front.seen c.args.front.now) (g.C.Clock.told c.args.clock.now) c.args.self.now.ready c.args.self.now.edition
+    (g.D.Store.seen c.args.store.now) c.args.self.now.config in
+    let m =
+    listener_of c.start.new.self.board (g.F.Front.seen c.args.front.now) (g.C.Clock.told c.args.clock.now) c.start.new.self.ready c.start.new.self.edition
+    (g.D.Store.seen c.args.store.now) c.start.new.self.config in
+    let same : m ≡ record first { board = m.board } =
+    ap (λ (l : _). listener_of c.start.new.self.board (g.F.Front.seen c.args.front.now) (g.C.Clock.told c.args.clock.now) l.ready l.edition
+    (g.D.Store.seen c.args.store.now) l.config) c.start.ensures.others in
+    let between =
+    between-started c.generations_keep_their_editions.ensures c.passes_act_in_steps.ensures.acts g.N.Known.known first m c.requires.free c.requires.going c.requires.step
+    c.requires.informed c.requires.knows c.requires.serves same c.start.ensures.starts c.start.ensures.rest in
+    turn-started g.N.Known.known c.in_ok-first.first first m between c.requires.heeded c.in_ok-first.ensures.first same c.start.ensures.starts c.start.ensures.rest.moment
+    c.in_ok-first.ensures.until c.in_ok-first.ensures.quiet
+
+pub returns-in_err-first : goal.returns-in_err-first
+returns-in_err-first g c =
+    let first =
+    listener_of c.args.self.now.board (g.F.Front.seen c.args.front.now) (g.C.Clock.told c.args.clock.now) c.args.self.now.ready c.args.self.now.edition
+    (g.D.Store.seen c.args.store.now) c.args.self.now.config in
+    let m =
+    listener_of c.start.new.self.board (g.F.Front.seen c.args.front.now) (g.C.Clock.told c.args.clock.now) c.start.new.self.ready c.start.new.self.edition
+    (g.D.Store.seen c.args.store.now) c.start.new.self.config in
+    let same : m ≡ record first { board = m.board } =
+    ap (λ (l : _). listener_of c.start.new.self.board (g.F.Front.seen c.args.front.now) (g.C.Clock.told c.args.clock.now) l.ready l.edition
+    (g.D.Store.seen c.args.store.now) l.config) c.start.ensures.others in
+    let between =
+    between-started c.generations_keep_their_editions.ensures c.passes_act_in_steps.ensures.acts g.N.Known.known first m c.requires.free c.requires.going c.requires.step
+    c.requires.informed c.requires.knows c.requires.serves same c.start.ensures.starts c.start.ensures.rest in
+    over-started g.N.Known.known c.from_residual.result c.in_err-first.field-0.0 first m c.from_residual.ensures.1 between c.requires.heeded same c.start.ensures.starts
+    c.in_err-first.ensures.err
+
+pub take_in-requires-clause-named : goal.take_in-requires-clause-named
+take_in-requires-clause-named g c κs within =
+    named-follows g.N.Known.known (g.F.Front.seen c.args.front.now) (g.F.Front.seen c.take_pause-pause.new.front)
+    (follows-trans _ _ _ c.loop.invariant.between.kept.follows (follows-wait _ _ _ _ _ _ c.take_pause-pause.ensures.waits)) c.requires.named
+
+pub take_in-requires-clause-heeded : goal.take_in-requires-clause-heeded
+take_in-requires-clause-heeded g c κs within =
+    heeded-wait _ _ _ _ (g.F.Front.seen c.loop.front).told (g.F.Front.seen c.take_pause-pause.new.front).told c.take_pause-pause.ensures.waits.tells
+    c.loop.invariant.heeded
+
+pub take_in-requires-clause-step : goal.take_in-requires-clause-step
+take_in-requires-clause-step g c κs within =
+    step-wait _ _ _ _ (g.F.Front.seen c.loop.front).told (g.F.Front.seen c.take_pause-pause.new.front).told c.loop.self.board.book.state
+    c.take_pause-pause.ensures.waits.tells c.loop.invariant.between.step
+
+pub returns-in-Ended : goal.returns-in-Ended
+returns-in-Ended g c =
+    let first =
+    listener_of c.args.self.now.board (g.F.Front.seen c.args.front.now) (g.C.Clock.told c.args.clock.now) c.args.self.now.ready c.args.self.now.edition
+    (g.D.Store.seen c.args.store.now) c.args.self.now.config in
+    let a =
+    listener_of c.loop.self.board (g.F.Front.seen c.loop.front) (g.C.Clock.told c.loop.clock) c.loop.self.ready c.loop.self.edition
+    (g.D.Store.seen c.loop.store) c.loop.self.config in
+    let w =
+    listener_of c.loop.self.board (g.F.Front.seen c.take_pause-pause.new.front) (g.C.Clock.told c.take_pause-pause.new.clock) c.take_pause-pause.new.ready
+    c.loop.self.edition (g.D.Store.seen c.loop.store) c.loop.self.config in
+    let waited =
+    has-waited c.loop.rest c.take_pause-pause.result a w c.moment-present.result refl refl refl refl c.show.ensures.after c.show.ensures.sound
+    c.moment-present.ensures c.take_pause-pause.ensures.waits c.take_pause-pause.ensures.asks c.take_pause-pause.ensures.clock in
+    over-ended c.passes_act_in_steps.ensures.acts g.N.Known.known c.loop.rest c.take_pause-pause.result first a w c.loop.invariant waited c.in-Ended.is
+    (sym c.has_live.ensures ∙ c.if-not-has_live.true)
+
+pub returns-in-Failed : goal.returns-in-Failed
+returns-in-Failed g c =
+    let first =
+    listener_of c.args.self.now.board (g.F.Front.seen c.args.front.now) (g.C.Clock.told c.args.clock.now) c.args.self.now.ready c.args.self.now.edition
+    (g.D.Store.seen c.args.store.now) c.args.self.now.config in
+    let a =
+    listener_of c.loop.self.board (g.F.Front.seen c.loop.front) (g.C.Clock.told c.loop.clock) c.loop.self.ready c.loop.self.edition
+    (g.D.Store.seen c.loop.store) c.loop.self.config in
+    let w =
+    listener_of c.loop.self.board (g.F.Front.seen c.take_pause-pause.new.front) (g.C.Clock.told c.take_pause-pause.new.clock) c.take_pause-pause.new.ready
+    c.loop.self.edition (g.D.Store.seen c.loop.store) c.loop.self.config in
+    let waited =
+    has-waited c.loop.rest c.take_pause-pause.result a w c.moment-present.result refl refl refl refl c.show.ensures.after c.show.ensures.sound
+    c.moment-present.ensures c.take_pause-pause.ensures.waits c.take_pause-pause.ensures.asks c.take_pause-pause.ensures.clock in
+    over-failed c.passes_act_in_steps.ensures.acts g.N.Known.known c.loop.rest c.take_pause-pause.result first a w c.loop.invariant waited c.in-Failed.is
+
+pub returns-in_err-ended : goal.returns-in_err-ended
+returns-in_err-ended g c =
+    let first =
+    listener_of c.args.self.now.board (g.F.Front.seen c.args.front.now) (g.C.Clock.told c.args.clock.now) c.args.self.now.ready c.args.self.now.edition
+    (g.D.Store.seen c.args.store.now) c.args.self.now.config in
+    let a =
+    listener_of c.loop.self.board (g.F.Front.seen c.loop.front) (g.C.Clock.told c.loop.clock) c.loop.self.ready c.loop.self.edition
+    (g.D.Store.seen c.loop.store) c.loop.self.config in
+    let w =
+    listener_of c.loop.self.board (g.F.Front.seen c.take_pause-pause.new.front) (g.C.Clock.told c.take_pause-pause.new.clock) c.take_pause-pause.new.ready
+    c.loop.self.edition (g.D.Store.seen c.loop.store) c.loop.self.config in
+    let waited =
+    has-waited c.loop.rest c.take_pause-pause.result a w c.moment-present.result refl refl refl refl c.show.ensures.after c.show.ensures.sound
+    c.moment-present.ensures c.take_pause-pause.ensures.waits c.take_pause-pause.ensures.asks c.take_pause-pause.ensures.clock in
+    let b =
+    listener_of c.take_in.new.self.board (g.F.Front.seen c.take_in.new.front) (g.C.Clock.told c.take_pause-pause.new.clock) c.take_in.new.self.ready
+    c.take_in.new.self.edition (g.D.Store.seen c.take_in.new.store) c.take_in.new.self.config in
+    let took : HasTakenIn w b =
+    record {
+      up = c.take_in.ensures.up;
+      follows = c.take_in.ensures.follows;
+      front = c.take_in.ensures.front;
+      watched = c.take_in.ensures.watched;
+      calls = refl;
+      config = c.take_in.ensures.config;
+    } in
+    over-broken c.passes_act_in_steps.ensures.acts g.N.Known.known c.loop.rest c.take_pause-pause.result first a w c.loop.invariant waited
+    c.from_residual-in_err-ended.result c.in_err-ended.field-0.0 b c.from_residual-in_err-ended.ensures.1
+    (record { took = took; round = c.in_err-ended.ensures.broken; stands = c.in_err-ended.ensures.stands; listens = c.take_in.ensures.listens })
+    c.in_err-ended.ensures.unheeded c.in_err-ended.ensures.links c.in_err-ended.ensures.err
+
+pub returns-in-Some-ended : goal.returns-in-Some-ended
+returns-in-Some-ended g c =
+    let first =
+    listener_of c.args.self.now.board (g.F.Front.seen c.args.front.now) (g.C.Clock.told c.args.clock.now) c.args.self.now.ready c.args.self.now.edition
+    (g.D.Store.seen c.args.store.now) c.args.self.now.config in
+    let a =
+    listener_of c.loop.self.board (g.F.Front.seen c.loop.front) (g.C.Clock.told c.loop.clock) c.loop.self.ready c.loop.self.edition
+    (g.D.Store.seen c.loop.store) c.loop.self.config in
+    let w =
+    listener_of c.loop.self.board (g.F.Front.seen c.take_pause-pause.new.front) (g.C.Clock.told c.take_pause-pause.new.clock) c.take_pause-pause.new.ready
+    c.loop.self.edition (g.D.Store.seen c.loop.store) c.loop.self.config in
+    let waited =
+    has-waited c.loop.rest c.take_pause-pause.result a w c.moment-present.result refl refl refl refl c.show.ensures.after c.show.ensures.sound
+    c.moment-present.ensures c.take_pause-pause.ensures.waits c.take_pause-pause.ensures.asks c.take_pause-pause.ensures.clock in
+    let b =
+    listener_of c.take_in.new.self.board (g.F.Front.seen c.take_in.new.front) (g.C.Clock.told c.take_pause-pause.new.clock) c.take_in.new.self.ready
+    c.take_in.new.self.edition (g.D.Store.seen c.take_in.new.store) c.take_in.new.self.config in
+    let took : HasTakenIn w b =
+    record {
+      up = c.take_in.ensures.up;
+      follows = c.take_in.ensures.follows;
+      front = c.take_in.ensures.front;
+      watched = c.take_in.ensures.watched;
+      calls = refl;
+      config = c.take_in.ensures.config;
+    } in
+    let gone : HasGoneRound g.N.Known.known c.in_ok-ended.ended c.take_pause-pause.result w b =
+    record {
+      took = took;
+      round = c.in_ok-ended.ensures.round;
+      stands = c.in_ok-ended.ensures.stands;
+      moment = c.in_ok-ended.ensures.moment;
+      step = c.in_ok-ended.ensures.step;
+      knows = c.in_ok-ended.ensures.knows;
+      serves = c.in_ok-ended.ensures.serves;
+    } in
+    over-ended_for c.passes_act_in_steps.ensures.acts g.N.Known.known c.loop.rest c.take_pause-pause.result first a w c.loop.invariant waited c.in_ok-ended.ended _ b c.in-Some-ended.is gone c.in_ok-ended.ensures.ends
+
+pub serve-requires-clause-free : goal.serve-requires-clause-free
+serve-requires-clause-free g c κs within =
+    let on : GoesRound (moment_for c.take_pause-pause.result.moment) c.take_pause-pause.new.ready c.loop.self.board.book c.take_in.new.self.board.book =
+    subst (λ (o : Option End). RoundEnds o (moment_for c.take_pause-pause.result.moment) c.take_pause-pause.new.ready c.loop.self.board.book c.take_in.new.self.board.book)
+    c.in-None-ended.is c.in_ok-ended.ensures.round in
+    none-has c.passes_act_in_steps.ensures.acts 0 _ c.loop.self.board.book c.take_in.new.self.board.book c.loop.invariant.between.kept.free on.acts 1
+
+pub returns-in_err-rest : goal.returns-in_err-rest
+returns-in_err-rest g c =
+    let first =
+    listener_of c.args.self.now.board (g.F.Front.seen c.args.front.now) (g.C.Clock.told c.args.clock.now) c.args.self.now.ready c.args.self.now.edition
+    (g.D.Store.seen c.args.store.now) c.args.self.now.config in
+    let a =
+    listener_of c.loop.self.board (g.F.Front.seen c.loop.front) (g.C.Clock.told c.loop.clock) c.loop.self.ready c.loop.self.edition
+    (g.D.Store.seen c.loop.store) c.loop.self.config in
+    let w =
+    listener_of c.loop.self.board (g.F.Front.seen c.take_pause-pause.new.front) (g.C.Clock.told c.take_pause-pause.new.clock) c.take_pause-pause.new.ready
+    c.loop.self.edition (g.D.Store.seen c.loop.store) c.loop.self.config in
+    let waited =
+    has-waited c.loop.rest c.take_pause-pause.result a w c.moment-present.result refl refl refl refl c.show.ensures.after c.show.ensures.sound
+    c.moment-present.ensures c.take_pause-pause.ensures.waits c.take_pause-pause.ensures.asks c.take_pause-pause.ensures.clock in
+    let b =
+    listener_of c.take_in.new.self.board (g.F.Front.seen c.take_in.new.front) (g.C.Clock.told c.take_pause-pause.new.clock) c.take_in.new.self.ready
+    c.take_in.new.self.edition (g.D.Store.seen c.take_in.new.store) c.take_in.new.self.config in
+    let took : HasTakenIn w b =
+    record {
+      up = c.take_in.ensures.up;
+      follows = c.take_in.ensures.follows;
+      front = c.take_in.ensures.front;
+      watched = c.take_in.ensures.watched;
+      calls = refl;
+      config = c.take_in.ensures.config;
+    } in
+    let gone : HasGoneRound g.N.Known.known c.in_ok-ended.ended c.take_pause-pause.result w b =
+    record {
+      took = took;
+      round = c.in_ok-ended.ensures.round;
+      stands = c.in_ok-ended.ensures.stands;
+      moment = c.in_ok-ended.ensures.moment;
+      step = c.in_ok-ended.ensures.step;
+      knows = c.in_ok-ended.ensures.knows;
+      serves = c.in_ok-ended.ensures.serves;
+    } in
+    let on : HasGoneRound g.N.Known.known None c.take_pause-pause.result w b =
+    subst (λ (o : Option End). HasGoneRound g.N.Known.known o c.take_pause-pause.result w b) c.in-None-ended.is gone in
+    let ends : TakesInTo None w.front b.front b.board.book.state =
+    subst (λ (o : Option End). TakesInTo o w.front b.front b.board.book.state) c.in-None-ended.is c.in_ok-ended.ensures.ends in
+    let d =
+    listener_of c.serve.new.self.board (g.F.Front.seen c.take_in.new.front) (g.C.Clock.told c.take_pause-pause.new.clock) c.serve.new.self.ready
+    c.serve.new.self.edition (g.D.Store.seen c.take_in.new.store) c.serve.new.self.config in
+    let served : HasServedRows b d =
+    record {
+      serves = c.serve.ensures.serves;
+      rest = c.serve.ensures.rest;
+      others =
+          ap (λ (l : _). listener_of c.serve.new.self.board (g.F.Front.seen c.take_in.new.front) (g.C.Clock.told c.take_pause-pause.new.clock) l.ready l.edition
+          (g.D.Store.seen c.take_in.new.store) l.config) c.serve.ensures.others;
+    } in
+    over-served c.passes_act_in_steps.ensures.acts g.N.Known.known c.loop.rest c.take_pause-pause.result first a w c.loop.invariant waited b on c.generations_keep_their_editions.ensures
+    c.from_residual-in_err-rest.result c.in_err-rest.field-0.0 d c.from_residual-in_err-rest.ensures.1 served ends.2 c.in_err-rest.ensures.err
+
+pub loop-preserved : goal.loop-preserved
+loop-preserved g c =
+    let first =
+    listener_of c.args.self.now.board (g.F.Front.seen c.args.front.now) (g.C.Clock.told c.args.clock.now) c.args.self.now.ready c.args.self.now.edition
+    (g.D.Store.seen c.args.store.now) c.args.self.now.config in
+    let a =
+    listener_of c.loop.self.board (g.F.Front.seen c.loop.front) (g.C.Clock.told c.loop.clock) c.loop.self.ready c.loop.self.edition
+    (g.D.Store.seen c.loop.store) c.loop.self.config in
+    let w =
+    listener_of c.loop.self.board (g.F.Front.seen c.take_pause-pause.new.front) (g.C.Clock.told c.take_pause-pause.new.clock) c.take_pause-pause.new.ready
+    c.loop.self.edition (g.D.Store.seen c.loop.store) c.loop.self.config in
+    let waited =
+    has-waited c.loop.rest c.take_pause-pause.result a w c.moment-present.result refl refl refl refl c.show.ensures.after c.show.ensures.sound
+    c.moment-present.ensures c.take_pause-pause.ensures.waits c.take_pause-pause.ensures.asks c.take_pause-pause.ensures.clock in
+    let b =
+    listener_of c.take_in.new.self.board (g.F.Front.seen c.take_in.new.front) (g.C.Clock.told c.take_pause-pause.new.clock) c.take_in.new.self.ready
+    c.take_in.new.self.edition (g.D.Store.seen c.take_in.new.store) c.take_in.new.self.config in
+    let took : HasTakenIn w b =
+    record {
+      up = c.take_in.ensures.up;
+      follows = c.take_in.ensures.follows;
+      front = c.take_in.ensures.front;
+      watched = c.take_in.ensures.watched;
+      calls = refl;
+      config = c.take_in.ensures.config;
+    } in
+    let gone : HasGoneRound g.N.Known.known c.in_ok-ended.ended c.take_pause-pause.result w b =
+    record {
+      took = took;
+      round = c.in_ok-ended.ensures.round;
+      stands = c.in_ok-ended.ensures.stands;
+      moment = c.in_ok-ended.ensures.moment;
+      step = c.in_ok-ended.ensures.step;
+      knows = c.in_ok-ended.ensures.knows;
+      serves = c.in_ok-ended.ensures.serves;
+    } in
+    let on : HasGoneRound g.N.Known.known None c.take_pause-pause.result w b =
+    subst (λ (o : Option End). HasGoneRound g.N.Known.known o c.take_pause-pause.result w b) c.in-None-ended.is gone in
+    let ends : TakesInTo None w.front b.front b.board.book.state =
+    subst (λ (o : Option End). TakesInTo o w.front b.front b.board.book.state) c.in-None-ended.is c.in_ok-ended.ensures.ends in
+    let d =
+    listener_of c.serve.new.self.board (g.F.Front.seen c.take_in.new.front) (g.C.Clock.told c.take_pause-pause.new.clock) c.serve.new.self.ready
+    c.serve.new.self.edition (g.D.Store.seen c.take_in.new.store) c.serve.new.self.config in
+    let served : HasServedRows b d =
+    record {
+      serves = c.serve.ensures.serves;
+      rest = c.serve.ensures.rest;
+      others =
+          ap (λ (l : _). listener_of c.serve.new.self.board (g.F.Front.seen c.take_in.new.front) (g.C.Clock.told c.take_pause-pause.new.clock) l.ready l.edition
+          (g.D.Store.seen c.take_in.new.store) l.config) c.serve.ensures.others;
+    } in
+    let before =
+    turn-served c.passes_act_in_steps.ensures.acts g.N.Known.known c.loop.rest c.take_pause-pause.result first a w c.loop.invariant waited b on c.generations_keep_their_editions.ensures c.histories_join.ensures.state
+    c.in_ok-rest.rest d c.show-in-loop.ensures.after c.show-in-loop-2.ensures.after served ends.2 ends.0 ends.1
+    c.in_ok-rest.ensures.until c.in_ok-rest.ensures.quiet in
+    turn-folded g.N.Known.known d c.fold_history.new.board c.fold_history.ensures first c.in_ok-rest.rest before

@@ -1,0 +1,11 @@
+use Rattle.listener.specs.TurnsInside.{listener_of}
+use Rattle.listener.proofs.OverLemmas.{IsBeforeTurn}
+use Rattle.listener.proofs.listener_state.Listener.take_turns.Given as goal
+
+-- between two turns the server goes on, no pass has a connection, and all that the waits and the clock gave was done; no command line
+-- that was read stops it, the clock tells exactly where it did, the run stands as it did at first, and the newest generation is served by its edition
+abbrev pub invariant-loop : goal.invariant-loop
+invariant-loop g l =
+    IsBeforeTurn g.N.Known.known
+    (listener_of l.fn.self.board (g.F.Front.seen l.fn.front) (g.C.Clock.told l.fn.clock) l.fn.self.ready l.fn.self.edition (g.D.Store.seen l.fn.store) l.fn.self.config) l.rest
+    (listener_of l.self.board (g.F.Front.seen l.front) (g.C.Clock.told l.clock) l.self.ready l.self.edition (g.D.Store.seen l.store) l.self.config)

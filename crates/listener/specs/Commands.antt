@@ -1,0 +1,112 @@
+-- What command lines do to a run: each `graceful` is one order, taken or refused; the first `graceful-stop` has the server end; one that
+-- says `stop` stops it, and nothing is read behind that. Each other line is dropped.
+use Rattle.std.specs.Prelude.{◌≡◌, ◌≢◌, ◌⊎◌, ◌<◌, ℕ, Bool, true, false, not, ◌&&◌, ◌||◌, List, [], ◌∷◌, ◌++◌, take, bytes_eq, if◌then◌else◌, ⊤}
+use Rattle.std.specs.List.{flat_map}
+use Rattle.mpm_base.specs.CommandWord.{command_word}
+use Rattle.mpm_base.specs.Count.{greatest_count}
+use Rattle.mpm_base.specs.Front.{FrontSeen, FrontTold}
+use Rattle.mpm_base.specs.declared.script_line.CommandWord.{CommandWord}
+use Rattle.mpm_base.specs.declared.script_line.CommandWord.TheVariants as word
+use Rattle.conn_machine.specs.declared.event.Commanded.TheVariants.{Graceful, Refused, GracefulStop, Stop}
+use Rattle.conn_machine.specs.declared.event.Entry.{Entry}
+use Rattle.conn_machine.specs.declared.event.Event.{Event}
+use Rattle.conn_machine.specs.declared.event.Event.TheVariants as event
+use Rattle.conn_machine.specs.declared.event.Why.{Why}
+use Rattle.conn_machine.specs.declared.event.Why.TheVariants as why
+use Rattle.conn_machine.specs.declared.state.Going.{Going}
+use Rattle.conn_machine.specs.declared.state.Going.TheVariants.{Halted}
+use Rattle.conn_machine.specs.Events.{count_events}
+use Rattle.board.specs.Book.{HasEntryOf, SeenBook}
+use Rattle.listener.specs.Stores.{RisesBy}
+use Rattle.rounds.specs.ClosedDown.{IsBrokenOff}
+
+-- ## What was read
+
+-- the command line that stops the server
+abbrev pub stop_line : List ℕ
+stop_line = command_word word.Stop
+
+-- no line stops the server
+abbrev pub NoneStops : List (List ℕ) → Type 0
+NoneStops [] = ⊤
+NoneStops (line ∷ lines) = (line ≢ stop_line) × NoneStops lines
+
+-- the command lines of a front that were read
+abbrev pub lines_read : FrontTold → List (List ℕ)
+lines_read t = take t.read t.lines
+
+-- the last line that was read stops the server, and none before it does
+pub record StopsAtLast (t : FrontTold) : Type 0 where
+  pub before : List (List ℕ)
+  pub lines_are : lines_read t ≡ before ++ stop_line ∷ []
+  pub none : NoneStops before
+
+-- the server was stopped by a line exactly where one that was read stops it; then that is the last one, while fewer were read than the
+-- greatest count
+abbrev pub HeedsLines : Going → FrontTold → Type 0
+HeedsLines (Halted why.Asked) t = t.read < greatest_count → StopsAtLast t
+HeedsLines other t = NoneStops (lines_read t)
+
+-- ## What was done
+
+-- what the line asks for beside a stop, where a graceful stop was asked for before, or wasn't
+abbrev pub asked_in : Bool → List ℕ → List CommandWord
+asked_in ending line =
+    if bytes_eq line (command_word word.Graceful) then word.Graceful ∷ []
+    else if bytes_eq line (command_word word.GracefulStop) && not ending then word.GracefulStop ∷ [] else []
+
+-- a graceful stop was asked for, before the line or by it
+abbrev pub ending_with : List ℕ → Bool → Bool
+ending_with line ending = bytes_eq line (command_word word.GracefulStop) || ending
+
+-- what the lines ask for so, in order
+abbrev pub asked_by : Bool → List (List ℕ) → List CommandWord
+asked_by ending [] = []
+asked_by ending (line ∷ lines) = asked_in ending line ++ asked_by (ending_with line ending) lines
+
+-- what the event does of it: an order is a `graceful`
+abbrev pub done_in : Event → List CommandWord
+done_in (event.Command (Graceful shape)) = word.Graceful ∷ []
+done_in (event.Command (Refused reason)) = word.Graceful ∷ []
+done_in (event.Command (GracefulStop until)) = word.GracefulStop ∷ []
+done_in other = []
+
+-- what a history does of it, in order
+abbrev pub done_by : List Entry → List CommandWord
+done_by history = flat_map (λ e. done_in e.event) history
+
+-- the history does what all lines ask for that were read but the last one
+pub record LacksLast (history : List Entry) (t : FrontTold) : Type 0 where
+  pub before : List (List ℕ)
+  pub line : List ℕ
+  pub lines_are : lines_read t ≡ before ++ line ∷ []
+  pub done : asked_by false before ≡ done_by history
+
+-- the history does what the lines ask for that were read, each once and in order; where the server stopped for want of memory the last
+-- one may not have been done
+abbrev pub DoesLines : Going → List Entry → FrontTold → Type 0
+DoesLines going history t =
+    t.read < greatest_count → (asked_by false (lines_read t) ≡ done_by history) ⊎ (IsBrokenOff going × LacksLast history t)
+
+-- the event is what a command line asks for
+abbrev pub is_by_line : Event → Bool
+is_by_line (event.Command (Graceful shape)) = true
+is_by_line (event.Command (Refused reason)) = true
+is_by_line (event.Command (GracefulStop until)) = true
+is_by_line (event.Command (Stop why.Asked)) = true
+is_by_line other = false
+
+-- the front, whether it tells or not, gave a line at least for each of them
+abbrev pub GivesLines : List Entry → FrontSeen → FrontSeen → Type 0
+GivesLines history old new = RisesBy (count_events is_by_line history) old.counts.commands new.counts.commands
+
+-- the server begins to end
+abbrev pub is_graceful_stop : Event → Bool
+is_graceful_stop (event.Command (GracefulStop until)) = true
+is_graceful_stop other = false
+
+-- ## What the history has of it
+
+-- the history has an entry by which the server stops only for what the state tells
+abbrev pub TellsStop : SeenBook → Type 0
+TellsStop b = (why : Why) → HasEntryOf (event.Command (Stop why)) b.history → b.state.going ≡ Halted why

@@ -1,0 +1,105 @@
+-- What the listener keeps of its generations on its way, and what it does for a command line.
+use Rattle.std.specs.Prelude.{◌≡◌, ◌⊎◌, ℕ, ◌+◌, Bool, [], ◌∷◌, if◌then◌else◌, Option, None, Some}
+use Rattle.mpm_base.specs.CommandWord.{command_word}
+use Rattle.mpm_base.specs.Front.{Commands, FrontSeen, after_hush}
+use Rattle.mpm_base.specs.Store.{StoreSeen, StoreTold}
+use Rattle.mpm_base.specs.declared.script_line.CommandWord.{CommandWord}
+use Rattle.mpm_base.specs.declared.script_line.CommandWord.TheVariants as word
+use Rattle.conn_machine.specs.declared.event.Commanded.TheVariants.{Graceful, Refused}
+use Rattle.conn_machine.specs.declared.event.Event.TheVariants as event
+use Rattle.conn_machine.specs.Table.{next}
+use Rattle.conn_state.specs.Known.{KnownOutside}
+use Rattle.board.specs.Book.{SeenBook}
+use Rattle.board.specs.Editions.{IsOfGeneration, edition_of, orders_in}
+use Rattle.worker_group.specs.Acts.{Acts}
+use Rattle.restart_control.specs.declared.plan.Plan.{Plan}
+use Rattle.restart_control.specs.declared.reload_fault.ReloadFault.{ReloadFault}
+use Rattle.restart_control.specs.declared.reload_fault.ReloadFault.TheVariants as fault
+use Rattle.conn_machine.specs.declared.event.Refusal.{Refusal}
+use Rattle.conn_machine.specs.declared.event.Refusal.TheVariants as refusal
+use Rattle.listener.specs.Generations.{Opening, known_edition, head_limits_of}
+use Rattle.listener.specs.Outside.{clients_told}
+use Rattle.listener.specs.Orders.{shape_by}
+use Rattle.listener.specs.StandingInside.{KnowsLater, Standing, StandsBroken, StandsOn, standing}
+use Rattle.listener.specs.declared.edition.LoadedEdition.{LoadedEdition}
+use Rattle.listener.specs.declared.edition.NamedConfig.{NamedConfig}
+
+-- the limits and the site are those of the edition of the newest generation, where the type knows that
+abbrev pub ServesNewest : Option KnownOutside → SeenBook → LoadedEdition → Type 0
+ServesNewest known b e = IsOfGeneration known b b.state.newest e.limits e.site.value
+
+-- the type knows of each edition that is still to come what the store makes of it
+abbrev pub KnowsComing : Option KnownOutside → SeenBook → NamedConfig → Option StoreTold → Type 0
+KnowsComing known b c told = KnowsLater known (orders_in b) c.name.now c.config.now told
+
+-- how many lines were given besides, where the last one asks to stop
+abbrev pub owed_by : Bool → ℕ
+owed_by asked = if asked then 1 else 0
+
+-- why a restart is refused for the fault
+abbrev pub reason_for : ReloadFault → Refusal
+reason_for fault.Absent = refusal.Absent
+reason_for (fault.Conf f) = refusal.Conf
+reason_for (fault.Load f) = refusal.Site
+reason_for fault.StoreFault = refusal.Store
+reason_for fault.NoMemory = refusal.NoMemory
+
+-- how a server opens by the configuration and the edition, over this store and this front
+abbrev pub opening_by : NamedConfig → LoadedEdition → StoreSeen → FrontSeen → Opening
+opening_by c e store front =
+    record { name = c.name.now; config = c.config.now; site = e.site.value; store = store; front = front }
+
+-- what is known of the outside of a server that opens so: what its clients send, and its editions
+abbrev pub known_outside : Opening → KnownOutside
+known_outside o = record { clients = clients_told o.front.told; edition = known_edition o }
+
+-- ## A command line
+
+-- a generation began by the plan, with the number of its order as that of its edition, and connections are served by the plan from then on
+pub record Begins (plan : Plan) (old new : SeenBook) (e : LoadedEdition) : Type 0 where
+  pub acts : Acts 0 (event.Command (Graceful (shape_by plan.config)) ∷ []) None old new
+  pub state : new.state ≡ next old.state (event.Command (Graceful (shape_by plan.config)))
+  pub edition : edition_of new (old.state.newest + 1) ≡ Some (orders_in old + 1)
+  pub limits : e.limits ≡ head_limits_of plan.config
+  pub site : e.site.value ≡ plan.site
+  pub stop : e.stop_ms ≡ plan.config.current.stop_ms
+
+-- a restart was refused for the reason
+pub record Refuses (reason : Refusal) (old new : SeenBook) : Type 0 where
+  pub acts : Acts 0 (event.Command (Refused reason) ∷ []) None old new
+  pub state : new.state ≡ old.state
+
+-- the same for want of memory, and connections are served as before
+pub record LacksMemory (old new : SeenBook) (e e' : LoadedEdition) : Type 0 where
+  pub refuses : Refuses refusal.NoMemory old new
+  pub same : e' ≡ e
+
+-- what comes of a plan
+abbrev pub Carries : Plan → SeenBook → SeenBook → LoadedEdition → LoadedEdition → Type 0
+Carries plan old new e e' = Begins plan old new e' ⊎ LacksMemory old new e e'
+
+-- a run stands on over whichever front gave a line of that word, which was done
+abbrev pub StandsBehind : Option KnownOutside → NamedConfig → CommandWord → (FrontSeen → Standing) → (FrontSeen → Standing) → Type 0
+StandsBehind known c asked old new =
+    (f f' : FrontSeen) → Commands f f' (Some (command_word asked)) → StandsOn known c [] 0 (old f) (new f')
+
+-- the same of one that is broken off
+abbrev pub BreaksBehind : Option KnownOutside → NamedConfig → CommandWord → (FrontSeen → Standing) → (FrontSeen → Standing) → Type 0
+BreaksBehind known c asked old new =
+    (f f' : FrontSeen) → Commands f f' (Some (command_word asked)) → StandsBroken known c (old f) (new f')
+
+-- behind a line that asks for a graceful stop, which the front gave then, a run stands on from the one book to the other, over whichever store
+abbrev pub EndingStands : Option KnownOutside → NamedConfig → ℕ → FrontSeen → FrontSeen → SeenBook → SeenBook → Type 0
+EndingStands known c stop_ms front front' old new =
+    (f : FrontSeen) (store : StoreSeen) → Commands f front (Some (command_word word.GracefulStop))
+    → StandsOn known c [] 0 (standing stop_ms store f old) (standing stop_ms store front' new)
+
+-- the same of one that is broken off
+abbrev pub EndingBreaks : Option KnownOutside → NamedConfig → ℕ → FrontSeen → FrontSeen → SeenBook → SeenBook → Type 0
+EndingBreaks known c stop_ms front front' old new =
+    (f : FrontSeen) (store : StoreSeen) → Commands f front (Some (command_word word.GracefulStop))
+    → StandsBroken known c (standing stop_ms store f old) (standing stop_ms store front' new)
+
+-- the front is as it was, or listening was stopped
+abbrev pub MayHush : FrontSeen → FrontSeen → Type 0
+MayHush old new = (new ≡ old) ⊎ (new ≡ after_hush old)

@@ -1,0 +1,14 @@
+-- Which children a run starts at first, where the front waited at all.
+use Rattle.std.specs.Prelude.{◌≡◌, ◌≢◌, ℕ, [], min, ⊤}
+use Rattle.mpm_base.specs.Front.{FrontTold}
+use Rattle.board.specs.Book.{SeenBook}
+use Rattle.listener.specs.declared.run_numbers.RunNumbers.{RunNumbers}
+use Rattle.rounds.specs.Started.{BeginsWithStarts}
+
+-- how many children a run by these numbers starts at first: as many as its shape asks for, as far as there are so many
+abbrev pub first_children : RunNumbers → ℕ
+first_children n = min n.shape.target n.children
+
+-- where nothing was folded, and the front waited at all, these children were started before all else, in order of number
+abbrev pub IsStartedFirst : RunNumbers → SeenBook → FrontTold → Type 0
+IsStartedFirst n b t = b.folded.entries ≡ 0 → t.waits ≢ [] → BeginsWithStarts (first_children n) b.history

@@ -1,0 +1,400 @@
+//! The listener: waits for what comes, does what command lines ask for, takes connections, has them served, and stops the server when
+//! nothing more can come or it was asked to.
+//!
+//! Each part of a round says which events it adds under the listener's pass, in order (`specs/RoundInside.antt`). Of the
+//! state it says no more than where it stands in the end, and what the listener alone changes: the moment, how many connections
+//! were taken, which generation is the newest, and how the server goes on. What all orders did since the run opened goes on from
+//! where it stood (`specs/StandingInside.antt`).
+ghost use Rattle.std.specs.Prelude.{◌≡◌, ◌<◌, [], None, true, is_some, max, IfOk, IfErr, IfSome, MatchResult, OnErr, OnOk};
+ghost use Rattle.mpm_base.specs.Count.{next_count};
+ghost use Rattle.mpm_base.specs.Front.{TellsOn, Waits, after_hush};
+ghost use Rattle.conn_state.specs.Known.{IsOfClient};
+ghost use Rattle.board.specs.Finds.{acceptable, next_deadline_of};
+ghost use Rattle.board.specs.Book.{row_in};
+ghost use Rattle.worker_group.specs.Service.{IsUp, LeavesRest, RefusalLasts};
+ghost use Rattle.listener.specs.ListenInside.{AsksFor, Follows, HandsOut, HasNoneToHeed, IsArrival, IsInStep, IsKnownOfFront, IsWatching, ListensAsServed, OnlyReadsAndTakes, OnlyTakes, TakesInTo, TellsAlike, TookAll};
+ghost use Rattle.rounds.specs.TableInside.{IsOpening, IsRestful, asked_children};
+ghost use Rattle.listener.specs.OrdersInside.{KnowsComing, ServesNewest};
+ghost use Rattle.listener.specs.RoundInside.{BreaksOff, EndsTaking, FailsTaking, IsTaking, RoundEnds, TakesSome, TakesUntil};
+ghost use Rattle.rounds.specs.PartsInside.{ServesSome, StartsSome};
+ghost use Rattle.listener.specs.StandingInside.{StandsBroken, StandsOn, owed_at, standing};
+ghost use Rattle.rounds.specs.Started.{BeginsWithStarts};
+ghost use Rattle.listener.specs.TurnsInside.{AreOver, HasListened, MayListen, listener_of};
+ghost use Rattle.rounds.specs.Moments.{moment_for};
+
+use crate::folding::fold_history;
+use crate::listener_state::Listener;
+use board::BoardFault;
+use board::laws::generations_keep_their_editions;
+use conn_machine::laws_of_runs::{histories_go_on_by_one_entry, histories_join};
+use conn_state::{Conn, Known};
+use file_table::Site;
+use mpm_base::{Arrival, Bell, Clock, Front, Gate, Link, Moment, Ready, Store, Woke};
+use rounds::{
+    End, Rest, accept, close_down, find_rest, has_live, is_gone, is_overdue, let_go_of_conns,
+    pass_time, retire_all, serve_all, settle, show_state, signal_all, start_children,
+};
+use std::sync::{Arc, Wait};
+use worker_group::laws::passes_act_in_steps;
+
+/// What a wait of the front answered, and the moment behind it.
+#[derive(Clone, Copy, Debug, PartialEq, Eq)]
+pub struct Pause {
+    /// What the wait answered.
+    pub woke: Woke,
+    /// What the clock says where the wait gave a moment, and else the present one.
+    pub moment: Moment,
+}
+
+impl<'a, 'c, L: Link + Send, N: Known, B: Bell, G: Gate> Listener<'a, 'c, L, N, B, G> {
+    /// Starts the children, takes the connections that come, has them served, does what command lines ask for, and stops when nothing
+    /// more can come, a command line asks for it, or a graceful stop is at its end or out of time. The server stops before that for a wait
+    /// that failed, and for want of memory where a call that the listener must make was refused for that. However it stops, no further
+    /// connection is taken then, each one that waits is closed, and each child is let go of. How it ended is read off the board.
+    pub fn listen<R: Wait, D: Store, F: Front<L = L>, C: Clock>(
+        &mut self,
+        rt: &R,
+        store: &mut D,
+        front: &mut F,
+        clock: &mut C,
+    )
+        requires { MayListen N.known (listener_of self.old.board (F.seen front.old)
+            (C.told clock.old) self.old.ready self.old.edition (D.seen store.old) self.old.config) }
+        ensures { let first = listener_of self.old.board (F.seen front.old)
+            (C.told clock.old) self.old.ready self.old.edition (D.seen store.old) self.old.config in
+            let now = listener_of self.new.board (F.seen front.new)
+            (C.told clock.new) self.new.ready self.new.edition (D.seen store.new) self.new.config in
+            HasListened N.known first now }
+    {
+        let turns = self.take_turns(rt, store, front, clock);
+        self.hush(front);
+        close_down(&mut self.board, turns);
+    }
+
+    /// Stops listening, where the front still listens.
+    fn hush<F: Front<L = L>>(&self, front: &mut F)
+        requires listens { IfSome (F.seen front.old).told
+            (ListensAsServed self.now.board.book.state) }
+        ensures { F.seen front.new ≡ after_hush (F.seen front.old) }
+    {
+        if !self.board.state().going.is_serving() {
+            return;
+        }
+        front.hush();
+    }
+
+    /// Starts the children, and takes turns with the front until nothing more can come, a wait fails, a command line asks to stop, or a
+    /// graceful stop ends, each followed by the service of what is signalled, and by a fold of the history where it may be folded. Err where
+    /// the server has to stop before.
+    fn take_turns<R: Wait, D: Store, F: Front<L = L>, C: Clock>(
+        &mut self,
+        rt: &R,
+        store: &mut D,
+        front: &mut F,
+        clock: &mut C,
+    ) -> Result<End, BoardFault>
+        requires { MayListen N.known (listener_of self.old.board (F.seen front.old)
+            (C.told clock.old) self.old.ready self.old.edition (D.seen store.old) self.old.config) }
+        ensures { let first = listener_of self.old.board (F.seen front.old)
+            (C.told clock.old) self.old.ready self.old.edition (D.seen store.old) self.old.config in
+            let now = listener_of self.new.board (F.seen front.new)
+            (C.told clock.new) self.new.ready self.new.edition (D.seen store.new) self.new.config in
+            AreOver N.known result first now }
+    {
+        generations_keep_their_editions();
+        histories_join();
+        passes_act_in_steps();
+        let first = self.start()?;
+        let mut rest = first;
+        for _ in rt.forever() {
+            self.show();
+            let present = self.moment();
+            let pause = take_pause(rt, front, clock, &mut self.ready, rest, present);
+            match pause.woke {
+                Woke::Ended if !has_live(&self.board) => return Ok(End::Ended),
+                Woke::Failed => return Ok(End::Failed),
+                _ => (),
+            }
+            let ended = self.take_in(rt, store, front, pause.moment)?;
+            match ended {
+                Some(end) => return Ok(end),
+                None => (),
+            }
+            self.show();
+            rest = self.serve(rt)?;
+            self.show();
+            fold_history(&mut self.board);
+        }
+        unreachable!()
+    }
+
+    /// Starts the children, and finds what the first wait is told.
+    fn start(&mut self) -> Result<Rest, BoardFault>
+        requires passes { 0 < self.old.board.book.passes }
+        requires free { row_in 0 self.old.board.book ≡ None }
+        ensures starts { StartsSome self.old.board.book self.new.board.book }
+        ensures first { OnOk result
+            (IsOpening self.old.board.book → BeginsWithStarts
+            (asked_children self.old.board.book.base) self.new.board.book.history) }
+        ensures going { self.new.board.book.state.going ≡ self.old.board.book.state.going }
+        ensures rest { LeavesRest self.old.board.book self.new.board.book }
+        ensures others { self.new ≡ record self.old { board = self.new.board } }
+        ensures until { IfOk result
+            (λ rest. rest.until ≡ next_deadline_of self.new.board.book.state) }
+        ensures quiet { IfOk result (λ rest. IsRestful rest.quiet self.new.board.book.state) }
+        ensures err { IfErr result (λ fault. RefusalLasts fault self.new.board.book) }
+    {
+        let board = &mut self.board;
+        start_children(board)?;
+        Ok(find_rest(board))
+    }
+
+    /// Serves what is signalled, and finds what the next wait is told. That is found before the service, as a worker's service
+    /// goes on by itself; where nothing is left to be done then, nothing is served, and else the bell is rung, so that the next wait
+    /// comes back at once. Err where a call was refused.
+    fn serve<R: Wait>(&mut self, rt: &R) -> Result<Rest, BoardFault>
+        requires passes { 1 < self.old.board.book.passes }
+        requires free { row_in 1 self.old.board.book ≡ None }
+        ensures serves { ServesSome self.old.board self.new.board }
+        ensures rest { LeavesRest self.old.board.book self.new.board.book }
+        ensures until { IfOk result
+            (λ rest. rest.until ≡ next_deadline_of self.old.board.book.state) }
+        ensures quiet { IfOk result (λ rest. IsRestful rest.quiet self.old.board.book.state) }
+        ensures others { self.new ≡ record self.old { board = self.new.board } }
+        ensures err { IfErr result (λ fault. RefusalLasts fault self.new.board.book) }
+    {
+        let rest = find_rest(&self.board);
+        serve_all(rt, &self.hands, &mut self.board)?;
+        if !rest.quiet {
+            self.hands.bell.ring();
+        }
+        Ok(rest)
+    }
+
+    /// Lets time pass to the moment, signals what something came for, lets go of what retires, lingers or has drained, does what the
+    /// command lines ask for, lets go of children and starts some, and takes what has arrived. Why the turns end here, where they do: then
+    /// nothing is done behind that.
+    ///
+    /// A connection that a restart of this round lets go of is so in the next one, behind a wait that gives what came for it until then. So
+    /// it is served where something had come before the restart.
+    fn take_in<R: Wait, D: Store, F: Front<L = L>>(
+        &mut self,
+        rt: &R,
+        store: &mut D,
+        front: &mut F,
+        moment: Moment,
+    ) -> Result<Option<End>, BoardFault>
+        requires named { IsKnownOfFront N.known (F.seen front.old).told }
+        requires passes { 0 < self.old.board.book.passes }
+        requires knows { KnowsComing N.known self.old.board.book self.old.config
+            (D.seen store.old).told }
+        requires serves { ServesNewest N.known self.old.board.book self.old.edition }
+        requires free { row_in 0 self.old.board.book ≡ None }
+        requires up { IsUp self.old.board.book.state.going }
+        requires step { IsInStep (F.seen front.old).told self.old.board.book.state }
+        requires heeded { IfSome (F.seen front.old).told HasNoneToHeed }
+        ensures round { IfOk result
+            (λ ended. RoundEnds ended (moment_for moment) self.old.ready self.old.board.book
+            self.new.board.book) }
+        ensures broken { IfErr result
+            (λ fault. BreaksOff fault (moment_for moment) self.old.ready self.old.board.book
+            self.new.board.book) }
+        ensures stands { let old = standing self.old.edition.stop_ms
+            (D.seen store.old) (F.seen front.old) self.old.board.book in
+            let new = standing self.new.edition.stop_ms
+            (D.seen store.new) (F.seen front.new) self.new.board.book in
+            MatchResult result
+            (λ ended. StandsOn N.known self.old.config [] (owed_at ended) old new)
+            (λ fault. StandsBroken N.known self.old.config old new) }
+        ensures knows { OnOk result
+            (KnowsComing N.known self.new.board.book self.new.config (D.seen store.new).told) }
+        ensures serves { OnOk result (ServesNewest N.known self.new.board.book self.new.edition) }
+        ensures up { IsUp self.new.board.book.state.going }
+        ensures moment { OnOk result
+            (self.new.board.book.state.moment ≡ max self.old.board.book.state.moment
+            (moment_for moment)) }
+        ensures step { OnOk result (IsInStep (F.seen front.new).told self.new.board.book.state) }
+        ensures ends { IfOk result
+            (λ ended. TakesInTo ended (F.seen front.old) (F.seen front.new)
+            self.new.board.book.state) }
+        ensures unheeded { OnErr result (IfSome (F.seen front.new).told HasNoneToHeed) }
+        ensures follows { Follows (F.seen front.old) (F.seen front.new) }
+        ensures front { TellsOn OnlyReadsAndTakes (F.seen front.old).told (F.seen front.new).told }
+        ensures watched { IsWatching (F.seen front.old).told self.old.board.book
+            → IsWatching (F.seen front.new).told self.new.board.book }
+        ensures listens { IfSome (F.seen front.new).told
+            (ListensAsServed self.new.board.book.state) }
+        ensures links { OnErr result (HandsOut (F.seen front.new).told self.new.board.book.state) }
+        ensures ready { self.new.ready ≡ self.old.ready }
+        ensures config { self.new.config ≡ self.old.config }
+        ensures err { IfErr result (λ fault. RefusalLasts fault self.new.board.book) }
+    {
+        generations_keep_their_editions();
+        passes_act_in_steps();
+        pass_time(&mut self.board, moment)?;
+        if is_overdue(&self.board) {
+            return Ok(Some(End::Overdue));
+        }
+        signal_all(&mut self.board, self.ready.slots())?;
+        let_go_of_conns(&mut self.board, !self.ready.is_full())?;
+        let asked = self.heed(rt, store, front)?;
+        if asked {
+            return Ok(Some(End::Asked));
+        }
+        retire_all(&mut self.board);
+        if is_gone(&self.board) {
+            return Ok(Some(End::Gone));
+        }
+        start_children(&mut self.board)?;
+        self.take_all(rt, front)?;
+        Ok(None)
+    }
+
+    /// Takes the connections that have arrived, while a child admits one and a slot is vacant. Before the front is asked for one
+    /// there is a share of the site for it.
+    fn take_all<R: Wait, F: Front<L = L>>(
+        &mut self,
+        rt: &R,
+        front: &mut F,
+    ) -> Result<(), BoardFault>
+        requires named { IsKnownOfFront N.known (F.seen front.old).told }
+        requires passes { 0 < self.old.board.book.passes }
+        requires free { row_in 0 self.old.board.book ≡ None }
+        requires serves { ServesNewest N.known self.old.board.book self.old.edition }
+        requires up { IsUp self.old.board.book.state.going }
+        requires step { IsInStep (F.seen front.old).told self.old.board.book.state }
+        ensures takes { OnOk result (TakesSome self.old.board.book self.new.board.book) }
+        ensures until { IfErr result
+            (λ fault. TakesUntil fault self.old.board.book self.new.board.book) }
+        ensures going { self.new.board.book.state.going ≡ self.old.board.book.state.going }
+        ensures newest { self.new.board.book.state.newest ≡ self.old.board.book.state.newest }
+        ensures moment { self.new.board.book.state.moment ≡ self.old.board.book.state.moment }
+        ensures step { OnOk result (IsInStep (F.seen front.new).told self.new.board.book.state) }
+        ensures taken { OnOk result (TookAll (F.seen front.new).told self.new.board.book.state) }
+        ensures follows { Follows (F.seen front.old) (F.seen front.new) }
+        ensures front { TellsOn OnlyTakes (F.seen front.old).told (F.seen front.new).told }
+        ensures watched { IsWatching (F.seen front.old).told self.old.board.book
+            → IsWatching (F.seen front.new).told self.new.board.book }
+        ensures links { OnErr result (HandsOut (F.seen front.new).told self.new.board.book.state) }
+        ensures edition { self.new.edition ≡ self.old.edition }
+        ensures ready { self.new.ready ≡ self.old.ready }
+        ensures config { self.new.config ≡ self.old.config }
+        ensures err { IfErr result (λ fault. RefusalLasts fault self.new.board.book) }
+    {
+        generations_keep_their_editions();
+        passes_act_in_steps();
+        for _ in rt.forever() {
+            if self.board.can_accept().is_none() {
+                return Ok(());
+            }
+            let Ok(site) = self.edition.share() else {
+                return Err(BoardFault::NoMemory);
+            };
+            match front.accept() {
+                Arrival::Some(link) => self.take(front, link, site)?,
+                Arrival::None | Arrival::Failed => return Ok(()),
+            }
+        }
+        unreachable!()
+    }
+
+    /// Takes the connection of the link into the table, and has the front watch it under its name. Where the table refuses the
+    /// link the front turns it away, and where the front can't watch it its connection is closed.
+    fn take<F: Front<L = L>>(
+        &mut self,
+        front: &mut F,
+        link: L,
+        site: Arc<Site>,
+    ) -> Result<(), BoardFault>
+        requires passes { 0 < self.old.board.book.passes }
+        requires free { row_in 0 self.old.board.book ≡ None }
+        requires acceptable { is_some (acceptable self.old.board.book.state) ≡ true }
+        requires up { IsUp self.old.board.book.state.going }
+        requires arrival { IsArrival self.old.board.book.state.accepted (L.seen link).told }
+        requires tells { TellsAlike (F.seen front.old).told (L.seen link).told }
+        requires client { IsOfClient N.known (L.seen link).told }
+        requires site { site.value ≡ self.old.edition.site.value }
+        requires serves { ServesNewest N.known self.old.board.book self.old.edition }
+        requires healthy { (L.seen link).counts.faults ≡ 0 }
+        ensures takes { OnOk result
+            (IsTaking (L.seen link).told (F.seen front.old).told (F.seen front.new).told
+            self.old.board.book self.new.board.book) }
+        ensures until { IfErr result
+            (λ fault. FailsTaking fault self.old.board.book self.new.board.book) }
+        ensures going { self.new.board.book.state.going ≡ self.old.board.book.state.going }
+        ensures newest { self.new.board.book.state.newest ≡ self.old.board.book.state.newest }
+        ensures moment { self.new.board.book.state.moment ≡ self.old.board.book.state.moment }
+        ensures taken { OnOk result
+            (self.new.board.book.state.accepted ≡ next_count self.old.board.book.state.accepted) }
+        ensures step { OnOk result
+            (IsInStep (F.seen front.old).told self.new.board.book.state → IsInStep
+            (F.seen front.new).told self.new.board.book.state) }
+        ensures follows { Follows (F.seen front.old) (F.seen front.new) }
+        ensures front { TellsOn OnlyTakes (F.seen front.old).told (F.seen front.new).told }
+        ensures watched { IsWatching (F.seen front.old).told self.old.board.book
+            → IsWatching (F.seen front.new).told self.new.board.book }
+        ensures links { OnErr result
+            (EndsTaking (L.seen link).told (F.seen front.old).told (F.seen front.new).told
+            self.old.board.book.state self.new.board.book.state) }
+        ensures edition { self.new.edition ≡ self.old.edition }
+        ensures ready { self.new.ready ≡ self.old.ready }
+        ensures config { self.new.config ≡ self.old.config }
+        ensures err { IfErr result (λ fault. RefusalLasts fault self.new.board.book) }
+    {
+        histories_go_on_by_one_entry();
+        generations_keep_their_editions();
+        passes_act_in_steps();
+        let mut link = link;
+        let taken = match accept(&mut self.board) {
+            Ok(taken) => taken,
+            Err(fault) => {
+                front.turn_away(link);
+                return Err(fault);
+            }
+        };
+        show_state(&self.board);
+        let watched = front.watch(taken.name, &mut link);
+        let conn = Conn::new(
+            self.alloc,
+            taken.name,
+            taken.child,
+            taken.generation,
+            self.edition.limits,
+            site,
+            link,
+        );
+        conn.show();
+        settle(&mut self.board, conn, watched)
+    }
+}
+
+/// Waits for the front, and asks the clock for the moment that the wait gave. Where it gave none it is the present one.
+fn take_pause<R: Wait, L: Link + Send, F: Front<L = L>, C: Clock>(
+    rt: &R,
+    front: &mut F,
+    clock: &mut C,
+    ready: &mut Ready,
+    rest: Rest,
+    present: Moment,
+) -> Pause
+    ensures waits { Waits (F.seen front.old) (F.seen front.new) rest.until rest.quiet result.woke
+        ready.new }
+    ensures asks { AsksFor result.woke present (C.told clock.old) (C.told clock.new) result.moment }
+    ensures clock { is_some (C.told clock.new) ≡ is_some (C.told clock.old) }
+{
+    let woke = front.wait(rt, rest.until, rest.quiet, ready);
+    Pause {
+        woke,
+        moment: moment_of(clock, woke, present),
+    }
+}
+
+/// The moment behind a wait: what the clock says where the wait gave one, and else the present one.
+fn moment_of<C: Clock>(clock: &mut C, woke: Woke, present: Moment) -> Moment
+    ensures { AsksFor woke present (C.told clock.old) (C.told clock.new) result }
+{
+    match woke {
+        Woke::Woke(at) => clock.now(at),
+        Woke::Ended | Woke::Failed => present,
+    }
+}

@@ -1,0 +1,260 @@
+//! What command lines do to a server that runs: a graceful restart, a graceful stop, and a stop.
+//!
+//! Each command line is done in its place, in the order in which they came (`specs/Orders.antt`, `specs/Commands.antt`): a restart reads
+//! the configuration and the site of the next edition of the store, and then a new generation begins, or the restart is refused for a
+//! reason, and all goes on as it was.
+ghost use Rattle.std.specs.Prelude.{◌≡◌, ◌<◌, ◌≤◌, [], None, Some, true, false, IfErr, IfOk, IfSome, MatchResult, OnErr, OnOk};
+ghost use Rattle.mpm_base.specs.Count.{Rises};
+ghost use Rattle.mpm_base.specs.Front.{TellsOn};
+ghost use Rattle.mpm_base.specs.declared.script_line.CommandWord.TheVariants as word;
+ghost use Rattle.conn_machine.specs.Table.{greatest_generation};
+ghost use Rattle.board.specs.Book.{row_in};
+ghost use Rattle.board.specs.Editions.{orders_in};
+ghost use Rattle.board.specs.Faults.{IsRefusedFor};
+ghost use Rattle.worker_group.specs.Service.{IsUp, RefusalLasts};
+ghost use Rattle.listener.specs.ListenInside.{Follows, HasNoneToHeed, HasOneToHeed, HasReadAll, IsInStep, IsWatching, OnlyReads};
+ghost use Rattle.listener.specs.Orders as spec;
+ghost use Rattle.listener.specs.OrdersInside.{BreaksBehind, Carries, EndingBreaks, EndingStands, KnowsComing, MayHush, Refuses, ServesNewest, StandsBehind, owed_by};
+ghost use Rattle.listener.specs.OrdersInside as inside;
+ghost use Rattle.listener.specs.RoundInside.{DoesOrders, DoesUntil};
+ghost use Rattle.listener.specs.StandingInside.{StandsBroken, StandsOn, standing};
+
+use crate::edition::LoadedEdition;
+use crate::listener_state::Listener;
+use crate::run_numbers::head_limits_of;
+use board::BoardFault;
+use board::laws::generations_keep_their_editions;
+use conn_machine::laws_of_runs::histories_join;
+use conn_machine::{BoxedShape, Commanded, Refusal};
+use conn_state::Known;
+use mpm_base::{Bell, Front, GREATEST_MOMENT, Gate, Link, Moment, Store};
+use mpm_config::shape_of;
+use restart_control::{Command, Plan, ReloadFault, read_command, reload};
+use rounds::LISTENER;
+use std::sync::{Arc, Wait};
+use worker_group::laws::passes_act_in_steps;
+
+/// The greatest generation.
+const GREATEST_GENERATION: u32 = 4_294_967_295;
+
+impl<'a, 'c, L: Link + Send, N: Known, B: Bell, G: Gate> Listener<'a, 'c, L, N, B, G> {
+    /// Reads the command lines that came, and does what they ask for, each in its place, up to one that asks to stop. Whether there is
+    /// one: nothing is read behind it. A line that asks for nothing is dropped.
+    pub(crate) fn heed<R: Wait, D: Store, F: Front<L = L>>(
+        &mut self,
+        rt: &R,
+        store: &mut D,
+        front: &mut F,
+    ) -> Result<bool, BoardFault>
+        requires passes { 0 < self.old.board.book.passes }
+        requires free { row_in 0 self.old.board.book ≡ None }
+        requires knows { KnowsComing N.known self.old.board.book self.old.config
+            (D.seen store.old).told }
+        requires serves { ServesNewest N.known self.old.board.book self.old.edition }
+        requires up { IsUp self.old.board.book.state.going }
+        requires step { IsInStep (F.seen front.old).told self.old.board.book.state }
+        requires heeded { IfSome (F.seen front.old).told HasNoneToHeed }
+        ensures does { OnOk result (DoesOrders self.old.board.book self.new.board.book) }
+        ensures until { IfErr result
+            (λ fault. DoesUntil fault self.old.board.book self.new.board.book) }
+        ensures stands { let old = standing self.old.edition.stop_ms
+            (D.seen store.old) (F.seen front.old) self.old.board.book in
+            let new = standing self.new.edition.stop_ms
+            (D.seen store.new) (F.seen front.new) self.new.board.book in
+            MatchResult result
+            (λ asked. StandsOn N.known self.old.config [] (owed_by asked) old new)
+            (λ fault. StandsBroken N.known self.old.config old new) }
+        ensures knows { OnOk result
+            (KnowsComing N.known self.new.board.book self.new.config (D.seen store.new).told) }
+        ensures serves { ServesNewest N.known self.new.board.book self.new.edition }
+        ensures up { IsUp self.new.board.book.state.going }
+        ensures moment { self.new.board.book.state.moment ≡ self.old.board.book.state.moment }
+        ensures accepted { self.new.board.book.state.accepted ≡ self.old.board.book.state.accepted }
+        ensures step { IsInStep (F.seen front.new).told self.new.board.book.state }
+        ensures asked { IfOk result
+            (λ asked. asked ≡ true → Rises (F.seen front.old).counts.commands
+            (F.seen front.new).counts.commands × IfSome (F.seen front.new).told HasOneToHeed) }
+        ensures none { IfOk result
+            (λ asked. asked ≡ false → IfSome (F.seen front.new).told HasNoneToHeed × HasReadAll
+            (F.seen front.new).told) }
+        ensures unheeded { OnErr result (IfSome (F.seen front.new).told HasNoneToHeed) }
+        ensures follows { Follows (F.seen front.old) (F.seen front.new) }
+        ensures front { TellsOn OnlyReads (F.seen front.old).told (F.seen front.new).told }
+        ensures watched { IsWatching (F.seen front.old).told self.old.board.book
+            → IsWatching (F.seen front.new).told self.new.board.book }
+        ensures others { self.new ≡ record self.old
+            { board = self.new.board; edition = self.new.edition } }
+        ensures err { IfErr result (λ fault. RefusalLasts fault self.new.board.book) }
+    {
+        generations_keep_their_editions();
+        passes_act_in_steps();
+        for _ in rt.forever() {
+            let Some(line) = front.command() else {
+                return Ok(false);
+            };
+            match read_command(line.as_str()) {
+                Ok(Command::Stop) => return Ok(true),
+                Ok(Command::Graceful) => self.restart(store)?,
+                Ok(Command::GracefulStop) => self.end(front)?,
+                Err(_) => (),
+            }
+        }
+        unreachable!()
+    }
+
+    /// Begins a new generation by the next edition of the store, or refuses to. The store is renewed in each case. Where the server doesn't
+    /// take connections any more, or the generations are used up, nothing is read of it.
+    fn restart<D: Store>(&mut self, store: &mut D) -> Result<(), BoardFault>
+        requires passes { 0 < self.old.board.book.passes }
+        requires free { row_in 0 self.old.board.book ≡ None }
+        requires knows { KnowsComing N.known self.old.board.book self.old.config
+            (D.seen store.old).told }
+        requires serves { ServesNewest N.known self.old.board.book self.old.edition }
+        requires up { IsUp self.old.board.book.state.going }
+        ensures does { OnOk result (DoesOrders self.old.board.book self.new.board.book) }
+        ensures stands { OnOk result (StandsBehind N.known self.old.config word.Graceful
+            (λ f. standing self.old.edition.stop_ms (D.seen store.old) f self.old.board.book)
+            (λ f. standing self.new.edition.stop_ms (D.seen store.new) f self.new.board.book)) }
+        ensures broken { OnErr result (BreaksBehind N.known self.old.config word.Graceful
+            (λ f. standing self.old.edition.stop_ms (D.seen store.old) f self.old.board.book)
+            (λ f. standing self.new.edition.stop_ms (D.seen store.new) f self.new.board.book)) }
+        ensures knows { OnOk result
+            (KnowsComing N.known self.new.board.book self.new.config (D.seen store.new).told) }
+        ensures serves { ServesNewest N.known self.new.board.book self.new.edition }
+        ensures going { self.new.board.book.state.going ≡ self.old.board.book.state.going }
+        ensures moment { self.new.board.book.state.moment ≡ self.old.board.book.state.moment }
+        ensures accepted { self.new.board.book.state.accepted ≡ self.old.board.book.state.accepted }
+        ensures same { OnErr result (self.new ≡ self.old) }
+        ensures others { self.new ≡ record self.old
+            { board = self.new.board; edition = self.new.edition } }
+        ensures why { IfErr result (λ fault. IsRefusedFor fault self.old.board.book) }
+    {
+        generations_keep_their_editions();
+        histories_join();
+        self.show();
+        if !self.may_begin() {
+            store.renew();
+            return self.refuse(Refusal::Late);
+        }
+        match reload(self.alloc, store, self.config.name, self.config.config) {
+            Ok(plan) => self.begin(plan),
+            Err(fault) => self.refuse(reason_for(fault)),
+        }
+    }
+
+    /// Whether a generation may begin: the server takes connections, and there is a number for one.
+    fn may_begin(&self) -> bool
+        ensures may { result ≡ spec.may_begin self.now.board.book.state }
+        ensures in_range { self.now.board.book.state.newest ≤ greatest_generation }
+    {
+        let state = self.board.state();
+        let newest = state.newest;
+        state.going.is_serving() && newest < GREATEST_GENERATION
+    }
+
+    /// Begins a generation by the plan: from now on connections are taken for it alone. Refused where memory lacks for that.
+    fn begin(&mut self, plan: Plan) -> Result<(), BoardFault>
+        requires passes { 0 < self.old.board.book.passes }
+        requires free { row_in 0 self.old.board.book ≡ None }
+        requires may { spec.may_begin self.old.board.book.state ≡ true }
+        ensures carries { OnOk result
+            (Carries plan self.old.board.book self.new.board.book self.old.edition
+            self.new.edition) }
+        ensures same { OnErr result (self.new ≡ self.old) }
+        ensures others { self.new ≡ record self.old
+            { board = self.new.board; edition = self.new.edition } }
+        ensures why { IfErr result (λ fault. IsRefusedFor fault self.old.board.book) }
+    {
+        generations_keep_their_editions();
+        passes_act_in_steps();
+        self.show();
+        self.board.show_editions();
+        let Plan { config, site } = plan;
+        let (Ok(site), Ok(shape)) = (
+            Arc::new(self.alloc, site),
+            BoxedShape::make(self.alloc, shape_of(&config)),
+        ) else {
+            return self.refuse(Refusal::NoMemory);
+        };
+        self.board.command(LISTENER, Commanded::Graceful(shape))?;
+        self.edition = LoadedEdition {
+            limits: head_limits_of(&config),
+            site,
+            stop_ms: config.now.stop_ms,
+        };
+        Ok(())
+    }
+
+    /// Refuses a restart for the reason: all goes on as it was.
+    fn refuse(&mut self, reason: Refusal) -> Result<(), BoardFault>
+        requires passes { 0 < self.old.board.book.passes }
+        requires free { row_in 0 self.old.board.book ≡ None }
+        ensures refuses { OnOk result (Refuses reason self.old.board.book self.new.board.book) }
+        ensures same { OnErr result (self.new ≡ self.old) }
+        ensures others { self.new ≡ record self.old { board = self.new.board } }
+        ensures why { IfErr result (λ fault. IsRefusedFor fault self.old.board.book) }
+    {
+        passes_act_in_steps();
+        self.board.command(LISTENER, Commanded::Refused(reason))
+    }
+
+    /// Takes no further connection, and lets those that are open go on until the time of the newest generation's configuration is over.
+    /// Where the server takes none any more nothing is done.
+    fn end<F: Front<L = L>>(&mut self, front: &mut F) -> Result<(), BoardFault>
+        requires passes { 0 < self.old.board.book.passes }
+        requires free { row_in 0 self.old.board.book ≡ None }
+        requires up { IsUp self.old.board.book.state.going }
+        requires step { IsInStep (F.seen front.old).told self.old.board.book.state }
+        ensures does { OnOk result (DoesOrders self.old.board.book self.new.board.book) }
+        ensures stands { OnOk result (EndingStands N.known self.old.config self.old.edition.stop_ms
+            (F.seen front.old) (F.seen front.new) self.old.board.book self.new.board.book) }
+        ensures broken { OnErr result (EndingBreaks N.known self.old.config self.old.edition.stop_ms
+            (F.seen front.old) (F.seen front.new) self.old.board.book self.new.board.book) }
+        ensures up { IsUp self.new.board.book.state.going }
+        ensures newest { self.new.board.book.state.newest ≡ self.old.board.book.state.newest }
+        ensures moment { self.new.board.book.state.moment ≡ self.old.board.book.state.moment }
+        ensures accepted { self.new.board.book.state.accepted ≡ self.old.board.book.state.accepted }
+        ensures orders { orders_in self.new.board.book ≡ orders_in self.old.board.book }
+        ensures step { IsInStep (F.seen front.new).told self.new.board.book.state }
+        ensures hushed { MayHush (F.seen front.old) (F.seen front.new) }
+        ensures same { OnErr result (self.new ≡ self.old) }
+        ensures others { self.new ≡ record self.old { board = self.new.board } }
+        ensures why { IfErr result (λ fault. IsRefusedFor fault self.old.board.book) }
+    {
+        histories_join();
+        passes_act_in_steps();
+        self.show();
+        if !self.board.state().going.is_serving() {
+            return Ok(());
+        }
+        let until = ending_moment(self.board.moment(), self.edition.stop_ms);
+        self.board
+            .command(LISTENER, Commanded::GracefulStop(until))?;
+        front.hush();
+        Ok(())
+    }
+}
+
+/// Why a restart is refused for the fault.
+fn reason_for(fault: ReloadFault) -> Refusal
+    ensures { result ≡ inside.reason_for fault }
+{
+    match fault {
+        ReloadFault::Absent => Refusal::Absent,
+        ReloadFault::Conf(_) => Refusal::Conf,
+        ReloadFault::Load(_) => Refusal::Site,
+        ReloadFault::StoreFault => Refusal::Store,
+        ReloadFault::NoMemory => Refusal::NoMemory,
+    }
+}
+
+/// The moment until which a server that ends may go on, so many milliseconds behind this one, as far as moments go; none where there is no
+/// limit.
+fn ending_moment(moment: Moment, stop_ms: u64) -> Option<Moment>
+    ensures { result ≡ spec.ending_moment moment stop_ms }
+{
+    if stop_ms == 0 {
+        return None;
+    }
+    Some(moment.saturating_add(stop_ms).min(GREATEST_MOMENT))
+}

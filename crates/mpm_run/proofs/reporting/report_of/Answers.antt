@@ -1,7 +1,0 @@
-use Rattle.std.proofs.Common.{◌≡◌, IfOk, subst}
-use Rattle.mpm_run.specs.Report.{text_of}
-use Rattle.mpm_run.specs.declared.report.Tally.{Tally}
-use Rattle.mpm_run.proofs.reporting.report_of.Goals as goal
-
-pub returns : goal.returns
-returns g c = subst (λ (t : Tally). IfOk c.report_text.result (λ text. text ≡ text_of t)) c.in_ok-tally.ensures c.report_text.ensures

@@ -1,0 +1,17 @@
+pub mod ActLemmas
+pub mod AddedLemmas
+pub mod AskedLemmas
+pub mod ChildrenLemmas
+pub mod ClosingLemmas
+pub mod DownLemmas
+pub mod FoundLemmas
+pub mod GoneLemmas
+pub mod HaltLemmas
+pub mod HeldLemmas
+pub mod LeavingLemmas
+pub mod ListenLemmas
+pub mod MeasureLemmas
+pub mod PassLemmas
+pub mod SameEditionLemmas
+pub mod TakeLemmas
+pub mod TimeLemmas

@@ -1,0 +1,28 @@
+use Rattle.std.proofs.lemmas.Result.{on_ok_weaker}
+use Rattle.board.specs.declared.faults.BoardFault.{BoardFault}
+use Rattle.rounds.specs.ClosingInside.{DrainsSome, DrainsUntil}
+use Rattle.rounds.specs.PartsInside.{LetsGoUntil}
+use Rattle.rounds.proofs.ActLemmas.{if-err, lets-go-conns, lets-go-until}
+use Rattle.rounds.proofs.round.let_go_of_conns.Goals as goal
+
+pub returns-clause-gone : goal.returns-clause-gone
+returns-clause-gone g c =
+    on_ok_weaker c.drain_all.result
+    (λ (drains : DrainsSome c.let_go_late.new.board.book c.drain_all.new.board.book).
+    lets-go-conns c.passes_act_in_steps.ensures.acts c.args.board.now.book c.let_go_retiring.new.board.book c.let_go_late.new.board.book c.drain_all.new.board.book
+    c.let_go_retiring.ensures.gone c.let_go_late.ensures.gone.lets drains)
+    c.drain_all.ensures.drains
+
+pub returns-clause-until : goal.returns-clause-until
+returns-clause-until g c =
+    if-err c.drain_all.result (λ (f : BoardFault). DrainsUntil f c.let_go_late.new.board.book c.drain_all.new.board.book)
+    (λ (f : BoardFault). LetsGoUntil f c.args.board.now.book c.drain_all.new.board.book)
+    (λ f until. lets-go-until c.passes_act_in_steps.ensures.acts f c.args.board.now.book c.let_go_retiring.new.board.book c.let_go_late.new.board.book c.drain_all.new.board.book
+    c.let_go_retiring.ensures.gone c.let_go_late.ensures.gone.lets until)
+    c.drain_all.ensures.until
+
+pub returns-clause-rest : goal.returns-clause-rest
+returns-clause-rest g c =
+    c.passes_act_in_steps.ensures.rest c.args.board.now.book c.let_go_late.new.board.book c.drain_all.new.board.book
+    (c.passes_act_in_steps.ensures.rest c.args.board.now.book c.let_go_retiring.new.board.book c.let_go_late.new.board.book c.let_go_retiring.ensures.rest c.let_go_late.ensures.rest)
+    c.drain_all.ensures.rest

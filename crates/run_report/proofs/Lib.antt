@@ -1,0 +1,4 @@
+pub mod CountLemmas
+pub mod EndingLemmas
+pub mod ExitStatusLemmas
+pub mod ReportLemmas

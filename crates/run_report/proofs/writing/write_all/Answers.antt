@@ -1,0 +1,11 @@
+use Rattle.std.proofs.Common.{rules}
+use Rattle.run_report.proofs.ExitStatusLemmas.{told_puts}
+use Rattle.run_report.proofs.writing.write_all.Goals as goal
+
+pub loop-from-preserved : goal.loop-from-preserved
+loop-from-preserved g c =
+    record {
+      from = search rules;
+      told = told_puts c.args.bytes.now c.loop-from.from c.in-Put.count _ _ _ _ _ _ c.loop-from.invariant.told c.write.ensures c.in-Put.is;
+      faults = search rules;
+    }

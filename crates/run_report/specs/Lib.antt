@@ -1,0 +1,5 @@
+pub mod Endings
+pub mod EndingsInside
+pub mod Report
+pub mod Texts
+pub mod Written

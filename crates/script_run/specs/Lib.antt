@@ -1,0 +1,5 @@
+pub mod Played
+pub mod PlayedInside
+pub mod ScriptRefusals
+pub mod Scripts
+pub mod ScriptsInside
