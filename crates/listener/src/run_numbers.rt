@@ -2,7 +2,7 @@
 ghost use Rattle.std.specs.Prelude.{◌≡◌};
 ghost use Rattle.listener.specs.FirstNumbers as spec;
 ghost use Rattle.listener.specs.FirstNumbersInside.{AreNumbers};
-ghost use Rattle.listener.specs.Generations as sites;
+ghost use Rattle.listener.specs.Generations as generations;
 
 use http_read::Limits;
 use mpm_base::{Addr, Shape};
@@ -45,7 +45,7 @@ pub fn numbers_of(config: &Config) -> RunNumbers
 
 /// How long the head of a request may be by the configuration.
 pub fn head_limits_of(config: &Config) -> Limits
-    ensures { result ≡ sites.head_limits_of config.entry.now }
+    ensures { result ≡ generations.head_limits_of config.entry.now }
 {
     Limits {
         line: config.now.line,

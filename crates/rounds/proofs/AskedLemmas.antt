@@ -58,6 +58,11 @@ pub asked-startless : (s : State) (entries : List Entry) → AreStartless (event
 asked-startless s [] none = tt
 asked-startless s (e ∷ entries) none = startless-by e.event entries s none (asked-startless (next s e.event) entries)
 
+-- what holds along two histories, one behind the other
+pub all-both : (P : State → Event → Type 0) (s : State) (xs ys : List Entry) → AllAt P s xs → AllAt P (after s xs) ys → AllAt P s (xs ++ ys)
+all-both P s [] ys first second = second
+all-both P s (x ∷ xs) ys first second = (first.0, all-both P (next s x.event) xs ys first.1 second)
+
 -- entries that were asked for behind the history
 pub asked-behind : (who : ℕ) (es : List Event) (has : _) (a b : SeenBook) (acts : Acts who es has a b)
     → AreAskedFor (after a.base a.history) acts.entries.0 → StartsAsAsked a b
@@ -79,10 +84,3 @@ asked-start k a b acts state needed =
     asked-behind 0 (event.StartChild k ∷ []) None a b acts
     (start-first (after a.base a.history) k acts.entries.0 (added-events 0 (event.StartChild k ∷ []) None a b acts)
     (subst (λ (s : State). startable s ≡ Some k) (sym state) needed))
-
--- ## Histories that go on
-
--- what holds along two histories, one behind the other
-pub all-both : (P : State → Event → Type 0) (s : State) (xs ys : List Entry) → AllAt P s xs → AllAt P (after s xs) ys → AllAt P s (xs ++ ys)
-all-both P s [] ys first second = second
-all-both P s (x ∷ xs) ys first second = (first.0, all-both P (next s x.event) xs ys first.1 second)

@@ -1,8 +1,6 @@
 -- That a connection is still of its generation where what it is served by is spelled otherwise, and which generation takes it.
 use Rattle.std.proofs.Common.{◌≡◌, ℕ, List, [], ◌∷◌, ◌++◌, Option, refl, sym, subst, ◌∙◌}
 use Rattle.mpm_base.specs.declared.conn.ConnName.{ConnName}
-use Rattle.http_read.specs.declared.request.Limits.{Limits}
-use Rattle.file_table.specs.Site.{SeenSite}
 use Rattle.conn_machine.specs.declared.event.Entry.{Entry}
 use Rattle.conn_machine.specs.declared.event.Event.TheVariants as event
 use Rattle.conn_machine.specs.declared.event.Reply.TheVariants.{Took}
@@ -18,12 +16,12 @@ use Rattle.board.specs.Events.{IsTaken}
 -- ## While a history goes on
 
 -- so does another spelling of what it is served by
-pub edition-same : (known : Option KnownOutside) (b : SeenBook) (generation generation' : ℕ) (limits limits' : Limits) (site site' : SeenSite)
+pub edition-same : (known : Option KnownOutside) (b : SeenBook) (generation generation' : ℕ) (limits limits' : _) (site site' : _)
     → generation' ≡ generation → limits' ≡ limits → site' ≡ site → IsOfGeneration known b generation limits site
     → IsOfGeneration known b generation' limits' site'
 edition-same known b generation generation' limits limits' site site' same_generation same_limits same_site is =
     subst (λ (x : ℕ). IsOfGeneration known b x limits' site') (sym same_generation)
-    (subst (λ (x : Limits). IsOfGeneration known b generation x site') (sym same_limits)
+    (subst (λ (x : _). IsOfGeneration known b generation x site') (sym same_limits)
     (subst (IsOfGeneration known b generation limits) (sym same_site) is))
 
 -- ## A connection that is taken
