@@ -13,7 +13,7 @@ use Rattle.rounds.specs.TableInside.{IsOpening}
 use Rattle.listener.specs.declared.edition.LoadedEdition.{LoadedEdition}
 use Rattle.listener.specs.declared.edition.NamedConfig.{NamedConfig}
 use Rattle.listener.specs.Commands.{HeedsLines}
-use Rattle.listener.specs.ListenInside.{Follows, HandedOut, HandsOut, HasNoneToHeed, HasStarted, HasStopped, HeedsUntil, IsAtStart, IsInStep, IsKnownOfFront, ListensAsServed, TurnsEnd, TurnsInform, WatchesAll, contacts_of}
+use Rattle.listener.specs.ListenInside.{Follows, HandedOut, HandsOut, HasNoneToHeed, HasStarted, HasStopped, HeedsUntil, IsAtStart, IsInStep, ListensAsServed, TurnsEnd, TurnsInform, WatchesAll, contacts_of}
 use Rattle.listener.specs.OrdersInside.{KnowsComing, ServesNewest}
 use Rattle.listener.specs.Patient.{IsPatientRun}
 use Rattle.listener.specs.StandingInside.{Standing, StandsToEnd, TurnsStand, standing}
@@ -56,10 +56,9 @@ HasPatience l = IsPatientRun l.front.told l.calls l.board.book
 
 -- ## What it needs to take turns
 
--- the server goes on, and no pass has a connection; the type knows what the front and the store tell, the newest generation is served by its
--- edition, and of what the front and the clock gave nothing is left to be done
+-- the server goes on, and no pass has a connection; the type knows what the store tells of the editions to come, the newest generation is
+-- served by its edition, and of what the front and the clock gave nothing is left to be done
 pub record MayListen (known : Option KnownOutside) (now : SeenListener) : Type 0 where
-  pub named : IsKnownOfFront known now.front.told
   pub passes : 1 < now.board.book.passes
   pub knows : KnowsComing known now.board.book now.config now.store.told
   pub serves : ServesNewest known now.board.book now.edition

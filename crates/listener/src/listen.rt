@@ -58,7 +58,8 @@ impl<'a, 'c, L: Link + Send, N: Known, B: Bell, G: Gate> Listener<'a, 'c, L, N, 
         front: &mut F,
         clock: &mut C,
     )
-        requires { MayListen N.known (listener_of self.old.board (F.seen front.old)
+        requires named { IsKnownOfFront N.known (F.seen front.old).told }
+        requires may { MayListen N.known (listener_of self.old.board (F.seen front.old)
             (C.told clock.old) self.old.ready self.old.edition (D.seen store.old) self.old.config) }
         ensures { let first = listener_of self.old.board (F.seen front.old)
             (C.told clock.old) self.old.ready self.old.edition (D.seen store.old) self.old.config in
@@ -93,7 +94,8 @@ impl<'a, 'c, L: Link + Send, N: Known, B: Bell, G: Gate> Listener<'a, 'c, L, N, 
         front: &mut F,
         clock: &mut C,
     ) -> Result<End, BoardFault>
-        requires { MayListen N.known (listener_of self.old.board (F.seen front.old)
+        requires named { IsKnownOfFront N.known (F.seen front.old).told }
+        requires may { MayListen N.known (listener_of self.old.board (F.seen front.old)
             (C.told clock.old) self.old.ready self.old.edition (D.seen store.old) self.old.config) }
         ensures { let first = listener_of self.old.board (F.seen front.old)
             (C.told clock.old) self.old.ready self.old.edition (D.seen store.old) self.old.config in

@@ -18,15 +18,17 @@ use Rattle.listener.proofs.OpeningLemmas.{known-front, knows-coming, serves-firs
 use Rattle.listener.proofs.StartedLemmas.{are-watched, asked-opened, binds-true, heeded-opened, idle-bound, informed-opened, keeps-front, nothing-bound, opened-hushed, opens, starts-opened, step-opened, stopped-before, time-opened, unwaited, watching-opened}
 use Rattle.listener.proofs.server.run_server.Goals as goal
 
-pub listen-requires : goal.listen-requires
-listen-requires g c κs within =
+pub listen-requires-clause-named : goal.listen-requires-clause-named
+listen-requires-clause-named g c κs within =
+    let n = c.numbers_of-numbers.result in
+    let o = opening_by c.args.config c.args.edition (g.D.Store.seen c.args.store.now) (g.F.Front.seen c.args.front.now) in
+    let binds = binds-true n (g.F.Front.seen c.args.front.now) (g.F.Front.seen c.bell.new.self) (g.F.Front.seen c.bind.new.self) c.bind.result c.bell.ensures.same c.if-not-bind.false c.bind.ensures.binds in
+    named-follows g.N.Known.known (g.F.Front.seen c.args.front.now) (g.F.Front.seen c.bind.new.self) (follows-bind _ _ _ _ _ binds)
+    (known-front g.N.Known.known o c.requires.named)
+
+pub listen-requires-clause-may : goal.listen-requires-clause-may
+listen-requires-clause-may g c κs within =
     record {
-      named =
-          let n = c.numbers_of-numbers.result in
-          let o = opening_by c.args.config c.args.edition (g.D.Store.seen c.args.store.now) (g.F.Front.seen c.args.front.now) in
-          let binds = binds-true n (g.F.Front.seen c.args.front.now) (g.F.Front.seen c.bell.new.self) (g.F.Front.seen c.bind.new.self) c.bind.result c.bell.ensures.same c.if-not-bind.false c.bind.ensures.binds in
-          named-follows g.N.Known.known (g.F.Front.seen c.args.front.now) (g.F.Front.seen c.bind.new.self) (follows-bind _ _ _ _ _ binds)
-          (known-front g.N.Known.known o c.requires.named);
       passes =
           search rules;
       knows =

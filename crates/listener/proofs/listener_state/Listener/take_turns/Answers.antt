@@ -25,9 +25,9 @@ loop-init g c =
     ap (λ (l : _). listener_of c.start.new.self.board (g.F.Front.seen c.args.front.now) (g.C.Clock.told c.args.clock.now) l.ready l.edition
     (g.D.Store.seen c.args.store.now) l.config) c.start.ensures.others in
     let between =
-    between-started c.generations_keep_their_editions.ensures c.passes_act_in_steps.ensures.acts g.N.Known.known first m c.requires.free c.requires.going c.requires.step
-    c.requires.informed c.requires.knows c.requires.serves same c.start.ensures.starts c.start.ensures.rest in
-    turn-started g.N.Known.known c.in_ok-first.first first m between c.requires.heeded c.in_ok-first.ensures.first same c.start.ensures.starts c.start.ensures.rest.moment
+    between-started c.generations_keep_their_editions.ensures c.passes_act_in_steps.ensures.acts g.N.Known.known first m c.requires.may.free c.requires.may.going c.requires.may.step
+    c.requires.may.informed c.requires.may.knows c.requires.may.serves same c.start.ensures.starts c.start.ensures.rest in
+    turn-started g.N.Known.known c.in_ok-first.first first m between c.requires.may.heeded c.in_ok-first.ensures.first same c.start.ensures.starts c.start.ensures.rest.moment
     c.in_ok-first.ensures.until c.in_ok-first.ensures.quiet
 
 pub returns-in_err-first : goal.returns-in_err-first
@@ -42,9 +42,9 @@ returns-in_err-first g c =
     ap (λ (l : _). listener_of c.start.new.self.board (g.F.Front.seen c.args.front.now) (g.C.Clock.told c.args.clock.now) l.ready l.edition
     (g.D.Store.seen c.args.store.now) l.config) c.start.ensures.others in
     let between =
-    between-started c.generations_keep_their_editions.ensures c.passes_act_in_steps.ensures.acts g.N.Known.known first m c.requires.free c.requires.going c.requires.step
-    c.requires.informed c.requires.knows c.requires.serves same c.start.ensures.starts c.start.ensures.rest in
-    over-started g.N.Known.known c.from_residual.result c.in_err-first.field-0.0 first m c.from_residual.ensures.1 between c.requires.heeded same c.start.ensures.starts
+    between-started c.generations_keep_their_editions.ensures c.passes_act_in_steps.ensures.acts g.N.Known.known first m c.requires.may.free c.requires.may.going c.requires.may.step
+    c.requires.may.informed c.requires.may.knows c.requires.may.serves same c.start.ensures.starts c.start.ensures.rest in
+    over-started g.N.Known.known c.from_residual.result c.in_err-first.field-0.0 first m c.from_residual.ensures.1 between c.requires.may.heeded same c.start.ensures.starts
     c.in_err-first.ensures.err
 
 pub take_in-requires-clause-named : goal.take_in-requires-clause-named
