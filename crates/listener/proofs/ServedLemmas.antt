@@ -11,7 +11,7 @@ use Rattle.conn_machine.specs.declared.event.Event.{Event}
 use Rattle.conn_machine.specs.declared.event.Event.TheVariants as event
 use Rattle.conn_machine.specs.declared.event.Refusal.{Refusal}
 use Rattle.conn_machine.specs.declared.event.Refusal.TheVariants as refusal
-use Rattle.conn_machine.specs.declared.folded.LoadedEdition.{LoadedEdition}
+use Rattle.conn_machine.specs.declared.folded.Edition.{Edition}
 use Rattle.conn_machine.specs.declared.state.State.{State}
 use Rattle.conn_machine.specs.Folds.{HaveBegun, first_edition}
 use Rattle.conn_machine.specs.Table.{next}
@@ -43,7 +43,7 @@ served-in o book (e ∷ ended) ends =
 begun-opened : (n : RunNumbers) → HaveBegun (opened_by n) (folded_by n)
 begun-opened n zero e found =
     let same : first_edition ≡ e = cc found in
-    subst (λ (x : LoadedEdition). x.generation ≤ 0) same (omega (arith))
+    subst (λ (x : Edition). x.generation ≤ 0) same (omega (arith))
 begun-opened n (suc place) e found = absurd (cc found)
 
 -- of a book that has all entries each is of the outside that is of what was folded, or of what is kept

@@ -17,29 +17,6 @@ use Rattle.std.specs.Prelude.{◌≡◌, ℕ, List, Option, Some, Result, Ok, Er
 use Rattle.file_table.specs.declared.load_fault.LoadFault.TheVariants as fault
 use Rattle.run_opening.specs.declared.config_reading.NoConfig.TheVariants as no
 
--- a script is refused for the fault: its line is shown, and its text was written
-pub record IsRefusalOf (sink sink' : SinkSeen) (e : ScriptFault) (shown : Option ℕ) : Type 0 where
-  pub line : ℕ
-  pub why : ScriptRefusal
-  pub fault_is : e ≡ fault_at why line
-  pub shows : shown ≡ Some line
-  pub text : WritesText sink sink' (script_refused line why)
-
--- a run is refused as there is no configuration
-abbrev pub RefusesConfig : SinkSeen → SinkSeen → NoConfig → Option ℕ → Type 0
-RefusesConfig sink sink' (no.Refused why number) shown = RefusesRun sink sink' (Some number) (config_refused number why) shown
-RefusesConfig sink sink' no.NoMemory shown = ⊥
-RefusesConfig sink sink' no.Missing shown = ⊥
-RefusesConfig sink sink' no.Failed shown = ⊥
-
--- the configuration of the script is refused: what is shown of it, and its text was written
-pub record IsConfigRefusalOf (sink sink' : SinkSeen) (lines : List ScriptLine) (shown : Option ℕ) : Type 0 where
-  pub number : ℕ
-  pub why : ConfigRefusal
-  pub bad : HasBadConfig lines why number
-  pub shows : shown ≡ Some number
-  pub text : WritesText sink sink' (config_refused number why)
-
 -- the configuration of a script, and what is told of its corrections
 pub record HasReadConfig (lines : List ScriptLine) (c : Configuration) (told : List ℕ) : Type 0 where
   pub text : List ℕ
@@ -67,6 +44,29 @@ IsOfText (no.Refused why number) = ⊤
 IsOfText no.NoMemory = ⊤
 IsOfText no.Missing = ⊥
 IsOfText no.Failed = ⊥
+
+-- a run is refused as there is no configuration
+abbrev pub RefusesConfig : SinkSeen → SinkSeen → NoConfig → Option ℕ → Type 0
+RefusesConfig sink sink' (no.Refused why number) shown = RefusesRun sink sink' (Some number) (config_refused number why) shown
+RefusesConfig sink sink' no.NoMemory shown = ⊥
+RefusesConfig sink sink' no.Missing shown = ⊥
+RefusesConfig sink sink' no.Failed shown = ⊥
+
+-- a script is refused for the fault: its line is shown, and its text was written
+pub record IsRefusalOf (sink sink' : SinkSeen) (e : ScriptFault) (shown : Option ℕ) : Type 0 where
+  pub line : ℕ
+  pub why : ScriptRefusal
+  pub fault_is : e ≡ fault_at why line
+  pub shows : shown ≡ Some line
+  pub text : WritesText sink sink' (script_refused line why)
+
+-- the configuration of the script is refused: what is shown of it, and its text was written
+pub record IsConfigRefusalOf (sink sink' : SinkSeen) (lines : List ScriptLine) (shown : Option ℕ) : Type 0 where
+  pub number : ℕ
+  pub why : ConfigRefusal
+  pub bad : HasBadConfig lines why number
+  pub shows : shown ≡ Some number
+  pub text : WritesText sink sink' (config_refused number why)
 
 -- a run is refused for the fault, as there is no site by the configuration
 abbrev pub RefusesLoad : SinkSeen → SinkSeen → Configuration → LoadFault → Option ℕ → Type 0
