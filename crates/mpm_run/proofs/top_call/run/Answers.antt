@@ -1,4 +1,4 @@
-use Rattle.std.proofs.Common.{◌≡◌, ℕ, List, Option, None, IfSome, inl, inr, refl, sym, subst, arith}
+use Rattle.std.proofs.Common.{◌≡◌, ℕ, List, Option, IfSome, sym, subst}
 use Rattle.std.specs.String.{string_bytes}
 use Rattle.mpm_base.specs.Front.{FrontSeen}
 use Rattle.mpm_base.specs.Sink.{SinkSeen}
@@ -11,7 +11,7 @@ use Rattle.mpm_run.specs.ExitStatuses.{Causes, LeavesAll}
 use Rattle.script_run.specs.Played.{IsLeftOfRun}
 use Rattle.mpm_run.specs.declared.outcome.Outcome.{Outcome}
 use Rattle.script_run.specs.declared.scripted.Scripted.{Scripted}
-use Rattle.mpm_run.proofs.FormLemmas.{script-causes, script-leaves, send-causes, send-leaves, serve-causes, serve-leaves, test-causes, test-leaves, unknown-causes, unknown-leaves}
+use Rattle.mpm_run.proofs.FormLemmas.{script-causes, script-leaves, send-causes, send-leaves, serve-causes, serve-leaves, test-causes, test-leaves}
 use Rattle.mpm_run.proofs.top_call.run.Goals as goal
 
 -- what a call leaves, and why it has its exit status
