@@ -1,4 +1,4 @@
-use Rattle.std.proofs.Common.{◌≡◌, ◌⊎◌, ℕ, inl, inr, arith}
+use Rattle.std.proofs.Common.{inl, inr, arith}
 use Rattle.mpm_run.proofs.ConfigLemmas.{config-refused, config-unread, ends-test-unwritten, ends-tested}
 use Rattle.mpm_run.proofs.FormLemmas.{test-unconfigured}
 use Rattle.mpm_run.proofs.InvocationLemmas.{test-config}

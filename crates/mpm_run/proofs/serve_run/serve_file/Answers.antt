@@ -1,4 +1,4 @@
-use Rattle.std.proofs.Common.{◌≡◌, ◌⊎◌, IfSome, ◌∙◌, ap, inl, inr, subst, arith}
+use Rattle.std.proofs.Common.{IfSome, ◌∙◌, ap, inl, inr, subst, arith}
 use Rattle.mpm_base.specs.Store.{StoreSeen}
 use Rattle.file_table.specs.Site.{SeenSite}
 use Rattle.run_opening.proofs.ConfigLemmas.{had-accepted, has-accepted}

@@ -1,4 +1,4 @@
-use Rattle.std.proofs.Common.{◌≡◌, ℕ, List, Option, None, IfSome, inl, inr, refl, sym, subst, arith}
+use Rattle.std.proofs.Common.{◌≡◌, ℕ, List, Option, IfSome, sym, subst}
 use Rattle.std.specs.String.{string_bytes}
 use Rattle.mpm_base.specs.Front.{FrontSeen}
 use Rattle.mpm_base.specs.Sink.{SinkSeen}
@@ -11,7 +11,7 @@ use Rattle.mpm_run.specs.ExitStatuses.{Causes, LeavesAll}
 use Rattle.script_run.specs.Played.{IsLeftOfRun}
 use Rattle.mpm_run.specs.declared.outcome.Outcome.{Outcome}
 use Rattle.script_run.specs.declared.scripted.Scripted.{Scripted}
-use Rattle.mpm_run.proofs.FormLemmas.{script-causes, script-leaves, send-causes, send-leaves, serve-causes, serve-leaves, test-causes, test-leaves, unknown-causes, unknown-leaves}
+use Rattle.mpm_run.proofs.FormLemmas.{script-causes, script-leaves, send-causes, send-leaves, serve-causes, serve-leaves, test-causes, test-leaves}
 use Rattle.mpm_run.proofs.top_call.run.Goals as goal
 
 -- what a call leaves, and why it has its exit status
@@ -22,16 +22,20 @@ Said words d d' k k' f f' calls calls' status shown scripted board =
 
 pub returns-in-Ok-Script-clause-ends : goal.returns-in-Ok-Script-clause-ends
 returns-in-Ok-Script-clause-ends g c =
-    let command : IsScriptWords c.args.words.now (string_bytes c.in-Ok-Script.name) =
-    subst (λ (i : Invocation). IsInvocation c.args.words.now i) c.in-Ok-Script.field-0-is c.in-Ok-Script.ensures.form in
+    let named : c.deref.result.now ≡ string_bytes c.in-Ok-Script.name = c.deref.ensures in
+    let command : IsScriptWords c.args.words.now c.deref.result.now =
+    subst (λ (name : List ℕ). IsScriptWords c.args.words.now name) (sym named)
+    (subst (λ (i : Invocation). IsInvocation c.args.words.now i) c.in-Ok-Script.field-0-is c.in-Ok-Script.ensures.form) in
     let ended = c.run_script.ensures c.args.words.now command in
     subst (λ (o : Outcome _). Said c.args.words.now (g.D.Store.seen c.args.store.now) (g.D.Store.seen c.run_script.new.store) (g.K.Sink.seen c.args.out.now) (g.K.Sink.seen c.run_script.new.out) (g.F.Front.seen c.args.front.now) (g.F.Front.seen c.args.front.now) (g.C.Clock.told c.args.clock.now) (g.C.Clock.told c.args.clock.now) o.status o.shown o.scripted o.board)
     (sym c.scripted_outcome.ensures) (script-leaves _ (g.F.Front.seen c.args.front.now) (g.C.Clock.told c.args.clock.now) c.run_script.result.status c.run_script.result.left ended, script-causes _ (g.F.Front.seen c.args.front.now) c.run_script.result.status c.run_script.result.left ended)
 
 pub returns-in-Ok-Script-clause-left : goal.returns-in-Ok-Script-clause-left
 returns-in-Ok-Script-clause-left g c =
-    let command : IsScriptWords c.args.words.now (string_bytes c.in-Ok-Script.name) =
-    subst (λ (i : Invocation). IsInvocation c.args.words.now i) c.in-Ok-Script.field-0-is c.in-Ok-Script.ensures.form in
+    let named : c.deref.result.now ≡ string_bytes c.in-Ok-Script.name = c.deref.ensures in
+    let command : IsScriptWords c.args.words.now c.deref.result.now =
+    subst (λ (name : List ℕ). IsScriptWords c.args.words.now name) (sym named)
+    (subst (λ (i : Invocation). IsInvocation c.args.words.now i) c.in-Ok-Script.field-0-is c.in-Ok-Script.ensures.form) in
     subst (λ (o : Outcome _). IfSome o.scripted IsLeftOfRun) (sym c.scripted_outcome.ensures) (c.run_script.ensures c.args.words.now command).left_of_run
 
 pub returns-in-Ok-Load-clause-ends : goal.returns-in-Ok-Load-clause-ends
@@ -50,24 +54,30 @@ returns-in-Ok-Load-clause-left g c =
 
 pub returns-in-Ok-Serve-clause-ends : goal.returns-in-Ok-Serve-clause-ends
 returns-in-Ok-Serve-clause-ends g c =
-    let command : IsServeWords c.args.words.now (string_bytes c.in-Ok-Serve.name) =
-    subst (λ (i : Invocation). IsInvocation c.args.words.now i) c.in-Ok-Serve.field-0-is c.in-Ok-Serve.ensures.form in
+    let named : c.deref-in-Ok-Serve.result.now ≡ string_bytes c.in-Ok-Serve.name = c.deref-in-Ok-Serve.ensures in
+    let command : IsServeWords c.args.words.now c.deref-in-Ok-Serve.result.now =
+    subst (λ (name : List ℕ). IsServeWords c.args.words.now name) (sym named)
+    (subst (λ (i : Invocation). IsInvocation c.args.words.now i) c.in-Ok-Serve.field-0-is c.in-Ok-Serve.ensures.form) in
     let ended = c.serve_file.ensures.ends c.args.words.now command in
     subst (λ (o : Outcome _). Said c.args.words.now (g.D.Store.seen c.args.store.now) (g.D.Store.seen c.serve_file.new.store) (g.K.Sink.seen c.args.out.now) (g.K.Sink.seen c.serve_file.new.out) (g.F.Front.seen c.args.front.now) (g.F.Front.seen c.serve_file.new.front) (g.C.Clock.told c.args.clock.now) (g.C.Clock.told c.serve_file.new.clock) o.status o.shown o.scripted o.board)
     (sym c.served_outcome.ensures) (serve-leaves _ (g.F.Front.seen c.args.front.now) (g.F.Front.seen c.serve_file.new.front) (g.C.Clock.told c.args.clock.now) (g.C.Clock.told c.serve_file.new.clock) c.serve_file.result.status c.serve_file.result.left ended, serve-causes _ (g.F.Front.seen c.args.front.now) (g.F.Front.seen c.serve_file.new.front) (g.C.Clock.told c.args.clock.now) (g.C.Clock.told c.serve_file.new.clock) c.serve_file.result.status c.serve_file.result.left ended)
 
 pub returns-in-Ok-Test-clause-ends : goal.returns-in-Ok-Test-clause-ends
 returns-in-Ok-Test-clause-ends g c =
-    let command : IsTestWords c.args.words.now (string_bytes c.in-Ok-Test.name) =
-    subst (λ (i : Invocation). IsInvocation c.args.words.now i) c.in-Ok-Test.field-0-is c.in-Ok-Test.ensures.form in
+    let named : c.deref-in-Ok-Test.result.now ≡ string_bytes c.in-Ok-Test.name = c.deref-in-Ok-Test.ensures in
+    let command : IsTestWords c.args.words.now c.deref-in-Ok-Test.result.now =
+    subst (λ (name : List ℕ). IsTestWords c.args.words.now name) (sym named)
+    (subst (λ (i : Invocation). IsInvocation c.args.words.now i) c.in-Ok-Test.field-0-is c.in-Ok-Test.ensures.form) in
     let ended = c.test_config.ensures c.args.words.now command in
     subst (λ (o : Outcome _). Said c.args.words.now (g.D.Store.seen c.args.store.now) (g.D.Store.seen c.test_config.new.store) (g.K.Sink.seen c.args.out.now) (g.K.Sink.seen c.test_config.new.out) (g.F.Front.seen c.args.front.now) (g.F.Front.seen c.args.front.now) (g.C.Clock.told c.args.clock.now) (g.C.Clock.told c.args.clock.now) o.status o.shown o.scripted o.board)
     (sym c.closed_outcome.ensures) (test-leaves _ (g.F.Front.seen c.args.front.now) (g.C.Clock.told c.args.clock.now) c.test_config.result.status ended, test-causes _ (g.F.Front.seen c.args.front.now) c.test_config.result.status ended)
 
 pub returns-in-Ok-Send-clause-ends : goal.returns-in-Ok-Send-clause-ends
 returns-in-Ok-Send-clause-ends g c =
-    let command : IsSendWords c.args.words.now c.in-Ok-Send.word (string_bytes c.in-Ok-Send.name) =
-    subst (λ (i : Invocation). IsInvocation c.args.words.now i) c.in-Ok-Send.field-0-is c.in-Ok-Send.ensures.form in
+    let named : c.deref-in-Ok-Send.result.now ≡ string_bytes c.in-Ok-Send.name = c.deref-in-Ok-Send.ensures in
+    let command : IsSendWords c.args.words.now c.in-Ok-Send.word c.deref-in-Ok-Send.result.now =
+    subst (λ (name : List ℕ). IsSendWords c.args.words.now c.in-Ok-Send.word name) (sym named)
+    (subst (λ (i : Invocation). IsInvocation c.args.words.now i) c.in-Ok-Send.field-0-is c.in-Ok-Send.ensures.form) in
     let ended = c.send_command.ensures.ends c.args.words.now command in
     subst (λ (o : Outcome _). Said c.args.words.now (g.D.Store.seen c.args.store.now) (g.D.Store.seen c.send_command.new.store) (g.K.Sink.seen c.args.out.now) (g.K.Sink.seen c.send_command.new.out) (g.F.Front.seen c.args.front.now) (g.F.Front.seen c.send_command.new.front) (g.C.Clock.told c.args.clock.now) (g.C.Clock.told c.args.clock.now) o.status o.shown o.scripted o.board)
     (sym c.closed_outcome-in-Ok-Send.ensures) (send-leaves _ (g.F.Front.seen c.args.front.now) (g.F.Front.seen c.send_command.new.front) (g.C.Clock.told c.args.clock.now) c.send_command.result.status ended, send-causes _ (g.F.Front.seen c.args.front.now) (g.F.Front.seen c.send_command.new.front) c.send_command.result.status ended)
