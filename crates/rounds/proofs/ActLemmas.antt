@@ -16,7 +16,7 @@ use Rattle.board.specs.Events.{with_recorded}
 use Rattle.worker_group.specs.Acts.{Acts, ActsInSteps}
 use Rattle.worker_group.specs.Service.{LeavesRest}
 use Rattle.rounds.specs.ClosingInside.{DrainsUntil, IsDrainedWay, IsLateWay, IsRetiringWay, LetsGo, NoneEarly}
-use Rattle.rounds.specs.PartsInside.{LetsGoOfConns, LetsGoUntil, NoneHas, PassesTime, RetiresSome, SignalsFirst, StartsAsAsked, StartsSome, gone_events, signal_events, time_events}
+use Rattle.rounds.specs.PartsInside.{LetsGoOfConns, LetsGoUntil, NoneHas, PassesTime, RetiresSome, SignalsFirst, StaysTimely, StartsSome, gone_events, signal_events, time_events}
 use Rattle.rounds.specs.Moments.{known_slots, ticks_to}
 
 -- ## No pass has a connection
@@ -48,7 +48,7 @@ acts-added steps e has b b' is adds row = steps.one 0 e has b.book b'.book (ap (
 pub starts-none : ActsInSteps → (b : SeenBook) → row_in 0 b ≡ None → StartsSome b b
 starts-none steps b row = record { children = []; acts = steps.none 0 None b row; asked = λ before. before }
 
-pub starts-more : ActsInSteps → (k : ℕ) (a b c : SeenBook) → StartsSome a b → Acts 0 (event.StartChild k ∷ []) None b c → StartsAsAsked b c
+pub starts-more : ActsInSteps → (k : ℕ) (a b c : SeenBook) → StartsSome a b → Acts 0 (event.StartChild k ∷ []) None b c → StaysTimely b c
     → StartsSome a c
 starts-more steps k a b c starts one asked = record {
   children = starts.children ++ k ∷ [];

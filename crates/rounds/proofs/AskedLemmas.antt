@@ -10,8 +10,8 @@ use Rattle.conn_machine.specs.Table.{next}
 use Rattle.board.specs.Book.{SeenBook}
 use Rattle.board.specs.Finds.{startable}
 use Rattle.worker_group.specs.Acts.{Acts}
-use Rattle.rounds.specs.PartsInside.{StartsAsAsked}
-use Rattle.rounds.specs.Started.{AreAskedFor, IsAskedFor, AllAt}
+use Rattle.rounds.specs.PartsInside.{StaysTimely}
+use Rattle.rounds.specs.Timely.{AreTimely, IsAskedFor, AllAt}
 use Rattle.rounds.proofs.AddedLemmas.{added-events, events_in}
 
 -- ## Events in which no child is started
@@ -39,7 +39,7 @@ AreStartless es = flat_map starts_in es ≡ []
 -- ## Histories that go on
 
 startless-by : (e : Event) (entries : List Entry) (s : State) → starts_in e ++ flat_map starts_in (events_in entries) ≡ []
-    → (flat_map starts_in (events_in entries) ≡ [] → AreAskedFor (next s e) entries) → IsAskedFor s e × AreAskedFor (next s e) entries
+    → (flat_map starts_in (events_in entries) ≡ [] → AreTimely (next s e) entries) → IsAskedFor s e × AreTimely (next s e) entries
 startless-by (event.Accept slot) entries s none rest = (tt, rest none)
 startless-by (event.Park name kind) entries s none rest = (tt, rest none)
 startless-by (event.Hold name) entries s none rest = (tt, rest none)
@@ -54,7 +54,7 @@ startless-by (event.StartChild k) entries s none rest = absurd (cc none)
 startless-by (event.Command c) entries s none rest = (tt, rest none)
 startless-by (event.Retire k) entries s none rest = (tt, rest none)
 
-pub asked-startless : (s : State) (entries : List Entry) → AreStartless (events_in entries) → AreAskedFor s entries
+pub asked-startless : (s : State) (entries : List Entry) → AreStartless (events_in entries) → AreTimely s entries
 asked-startless s [] none = tt
 asked-startless s (e ∷ entries) none = startless-by e.event entries s none (asked-startless (next s e.event) entries)
 
@@ -65,12 +65,12 @@ all-both P s (x ∷ xs) ys first second = (first.0, all-both P (next s x.event) 
 
 -- entries that were asked for behind the history
 pub asked-behind : (who : ℕ) (es : List Event) (has : _) (a b : SeenBook) (acts : Acts who es has a b)
-    → AreAskedFor (after a.base a.history) acts.entries.0 → StartsAsAsked a b
+    → AreTimely (after a.base a.history) acts.entries.0 → StaysTimely a b
 asked-behind who es has a b acts added asked =
-    subst (λ (base : State). AreAskedFor base b.history) (sym acts.base)
-    (subst (AreAskedFor a.base) (sym acts.entries.1) (all-both IsAskedFor a.base a.history acts.entries.0 asked added))
+    subst (λ (base : State). AreTimely base b.history) (sym acts.base)
+    (subst (AreTimely a.base) (sym acts.entries.1) (all-both IsAskedFor a.base a.history acts.entries.0 asked added))
 
-start-first : (s : State) (k : ℕ) (entries : List Entry) → events_in entries ≡ event.StartChild k ∷ [] → startable s ≡ Some k → AreAskedFor s entries
+start-first : (s : State) (k : ℕ) (entries : List Entry) → events_in entries ≡ event.StartChild k ∷ [] → startable s ≡ Some k → AreTimely s entries
 start-first s k [] is needed = absurd (cc is)
 start-first s k (e ∷ entries) is needed =
     let first : e.event ≡ event.StartChild k = cc is in
@@ -79,7 +79,7 @@ start-first s k (e ∷ entries) is needed =
 
 -- a child that is asked for is started
 pub asked-start : (k : ℕ) (a b : SeenBook) → Acts 0 (event.StartChild k ∷ []) None a b → after a.base a.history ≡ a.state → startable a.state ≡ Some k
-    → StartsAsAsked a b
+    → StaysTimely a b
 asked-start k a b acts state needed =
     asked-behind 0 (event.StartChild k ∷ []) None a b acts
     (start-first (after a.base a.history) k acts.entries.0 (added-events 0 (event.StartChild k ∷ []) None a b acts)
