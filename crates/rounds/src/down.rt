@@ -21,7 +21,7 @@ ghost use Rattle.conn_machine.specs.declared.event.Why.TheVariants as why;
 
 use crate::ends::{End, LISTENER};
 use crate::round::retire_all;
-use crate::showing::show_none_live;
+use crate::showing::{show_none_live, show_state};
 use board::{Board, BoardFault};
 use conn_machine::Why;
 use conn_machine::laws_of_runs::rows_change_one_at_a_time;
@@ -41,10 +41,12 @@ pub fn close_down<L: Link, N: Known>(board: &mut Board<L, N>, turns: Result<End,
     ensures { GoesDown turns board.old.book board.new.book }
 {
     passes_act_in_steps();
+    show_state(board);
     if is_at_end(turns) {
         return;
     }
     halt(board, turns);
+    show_state(board);
     close_all(board);
     retire_all(board);
 }
