@@ -1,6 +1,7 @@
 -- The pace: what the listener makes of what its front and its clock bring, wait by wait. Behind each wait time passes, where the clock's
--- answer is later than all before; then the slots that the wait gave are signalled; then the command lines that are read are done; and
--- then the connections are taken that the front hands out. Nothing of it is made behind the next wait.
+-- answer is later than all before; then the slots that the wait gave are signalled; then the command lines that are read are done; then
+-- children are let go of and started; and then the connections are taken that the front hands out. Nothing of it is made behind the next
+-- wait, and no child is let go of or started between two parts before that.
 use Rattle.std.specs.Prelude.{◌≡◌, ◌⊎◌, ◌<◌, ◌+◌, ◌-◌, ℕ, All, List, [], ◌∷◌, ◌++◌, drop, map, max, replicate, take, Option, None, Some, is_some, IfSome}
 use Rattle.std.specs.List.{flat_map, list_any}
 use Rattle.mpm_base.specs.Count.{greatest_count}
@@ -22,11 +23,13 @@ use Rattle.rounds.specs.Moments.{known_slots, moment_for, ticks_to}
 
 -- ## What of a history comes from outside
 
--- time passed to the moment, the slot was signalled, what a command line asks for was done, or a connection was taken
+-- time passed to the moment, the slot was signalled, what a command line asks for was done, or a connection was taken; and, as what comes
+-- from outside stands before or behind it, a child was started or let go of
 pub data Brought : Type 0 where
   ticked : ℕ → Brought
   signalled : ℕ → Brought
   ordered : CommandWord → Brought
+  moved : Brought
   taken : Brought
 
 -- the command line that a command does: an order, be it taken or refused, a graceful stop, or a stop for which it was asked
@@ -37,11 +40,13 @@ ordered_in (GracefulStop until) = word.GracefulStop ∷ []
 ordered_in (Stop why.Asked) = word.Stop ∷ []
 ordered_in (Stop other) = []
 
--- what of an event comes from outside
+-- what an event is of these
 abbrev pub brought_in : Event → List Brought
 brought_in (event.Tick m) = ticked m ∷ []
 brought_in (event.Ready slot) = signalled slot ∷ []
 brought_in (event.Command c) = map ordered (ordered_in c)
+brought_in (event.StartChild k) = moved ∷ []
+brought_in (event.Retire k) = moved ∷ []
 brought_in (event.Accept slot) = taken ∷ []
 brought_in other = []
 
@@ -52,11 +57,13 @@ brought history = flat_map brought_in (events_of 0 history)
 -- ## What a wait asks for
 
 -- what comes with a wait: what the clock answered, where it was asked; the slots that the wait gave and the table has; what the command
--- lines ask for that were read behind it; and how many connections were handed out behind it
+-- lines ask for that were read behind it; how many connections were handed out behind it; and how many children are started or let go of
+-- between the last two, which is the listener's own
 pub record Share : Type 0 where
   pub answer : Option ℕ
   pub signals : List ℕ
   pub orders : List CommandWord
+  pub moves : ℕ
   pub handed : ℕ
 
 -- the moment to which time passes by what the clock answered at this one, where that is later
@@ -72,7 +79,8 @@ moment_by moment (Some answer) = max moment (moment_for answer)
 -- what the listener makes of a share at this moment: each part once, and in order
 abbrev pub made_of : ℕ → Share → List Brought
 made_of moment s =
-    map ticked (ticks_by moment s.answer) ++ map signalled s.signals ++ map ordered s.orders ++ replicate s.handed taken
+    map ticked (ticks_by moment s.answer) ++ map signalled s.signals ++ map ordered s.orders ++ replicate s.moves moved
+    ++ replicate s.handed taken
 
 -- the same of shares, one behind the other
 abbrev pub made_from : ℕ → List Share → List Brought
@@ -132,14 +140,15 @@ answers_in shares = flat_map (λ s. answer_if s.answer) shares
 
 -- ## The pace
 
--- what the listener made is what the shares ask for, but for the end of the last one's
+-- what the listener made is what the shares ask for, but for the end of the last one's; then children were let go of
 pub record IsCutShort (shares : List Share) (made : List Brought) : Type 0 where
   pub before : List Share
   pub last : Share
   pub part : List Brought
   pub missing : List Brought
+  pub behind : ℕ
   pub shares_are : shares ≡ before ++ last ∷ []
-  pub made_are : made ≡ made_from 0 before ++ part
+  pub made_are : made ≡ made_from 0 before ++ part ++ replicate behind moved
   pub rest : made_of (moment_behind 0 before) last ≡ part ++ missing
 
 -- what the listener made is what the shares ask for, but for the signals of the last one
@@ -157,9 +166,12 @@ AreMadeOf (Halted why.Overdue) shares made = IsUnsignalled shares made
 AreMadeOf other shares made = made ≡ made_from 0 shares
 
 -- the pace of a server that goes on so, whose table has so many slots: of the shares that came with the waits that the front tells, and
--- with the answers that the clock tells, the history has what the listener made
+-- with the answers that the clock tells, the history has what the listener made, behind the children that it started at first
 pub record KeepsPace (rows : ℕ) (told : Option FrontTold) (calls : Option (List (ℕ × ℕ))) (going : Going) (history : List Entry) : Type 0 where
   pub shares : List Share
   pub waits : IfSome told (λ t. AreSharesOfAll rows t shares)
   pub answers : IfSome calls (λ calls. answers_in shares ≡ answers_of calls)
-  pub made : AreMadeOf going shares (brought history)
+  pub first : ℕ
+  pub made : List Brought
+  pub brought_is : brought history ≡ replicate first moved ++ made
+  pub are : AreMadeOf going shares made

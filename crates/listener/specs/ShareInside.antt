@@ -89,8 +89,8 @@ pub record ComesWith (answer : ℕ) (slots : List ℕ) (rows : ℕ) (s : Share) 
 abbrev pub MakesFor : Option End → ℕ → Share → List Brought → List Brought → Type 0
 MakesFor None moment s old new = new ≡ old ++ made_of moment s
 MakesFor (Some end.Gone) moment s old new = new ≡ old ++ made_of moment s
-MakesFor (Some end.Asked) moment s old new = new ++ ordered word.Stop ∷ [] ≡ old ++ made_of moment s
-MakesFor (Some end.Overdue) moment s old new = new ≡ old ++ made_of moment (record s { signals = [] })
+MakesFor (Some end.Asked) moment s old new = (s.handed ≡ 0) × (new ++ ordered word.Stop ∷ [] ≡ old ++ made_of moment s)
+MakesFor (Some end.Overdue) moment s old new = (s.handed ≡ 0) × (new ≡ old ++ made_of moment (record s { signals = [] }))
 MakesFor (Some end.Ended) moment s old new = ⊥
 MakesFor (Some end.Failed) moment s old new = ⊥
 
@@ -109,11 +109,25 @@ pub record CutsShare (answer : ℕ) (slots : List ℕ) (told told' : Option Fron
 
 -- ## The turns
 
+-- what was made is all of the shares, but for these orders at the end, and with the last share no connection was handed out, so that
+-- children that are let go of behind it are of it
+pub record EndsUntaken (missing : List CommandWord) (shares : List Share) (made : List Brought) : Type 0 where
+  pub before : List Share
+  pub last : Share
+  pub shares_are : shares ≡ before ++ last ∷ []
+  pub none : last.handed ≡ 0
+  pub made_are : made ++ map ordered missing ≡ made_from 0 shares
+
+-- nothing was signalled of the last share, and nothing ordered or handed out with it
+pub record EndsUnsignalled (shares : List Share) (made : List Brought) : Type 0 where
+  pub unsignalled : IsUnsignalled shares made
+  pub none : unsignalled.last.handed ≡ 0
+
 -- what turns that ended so made of all shares
 abbrev pub TurnsMake : Result End BoardFault → List Share → List Brought → Type 0
-TurnsMake (Ok end.Ended) shares made = made ≡ made_from 0 shares
-TurnsMake (Ok end.Asked) shares made = made ++ ordered word.Stop ∷ [] ≡ made_from 0 shares
-TurnsMake (Ok end.Failed) shares made = made ≡ made_from 0 shares
-TurnsMake (Ok end.Overdue) shares made = IsUnsignalled shares made
+TurnsMake (Ok end.Ended) shares made = EndsUntaken [] shares made
+TurnsMake (Ok end.Asked) shares made = EndsUntaken (word.Stop ∷ []) shares made
+TurnsMake (Ok end.Failed) shares made = EndsUntaken [] shares made
+TurnsMake (Ok end.Overdue) shares made = EndsUnsignalled shares made
 TurnsMake (Ok end.Gone) shares made = made ≡ made_from 0 shares
 TurnsMake (Err fault) shares made = (made ≡ made_from 0 shares) ⊎ IsCutShort shares made

@@ -1,5 +1,5 @@
 -- What is seen of a listener with all that it works on, what it needs to take turns, and what its turns do.
-use Rattle.std.specs.Prelude.{◌≡◌, ◌<◌, ℕ, List, [], length, Option, Result, is_some, false, IfSome, OnErr, OnOk}
+use Rattle.std.specs.Prelude.{◌≡◌, ◌<◌, ℕ, List, [], ◌++◌, length, replicate, Option, Result, is_some, false, IfSome, OnErr, OnOk}
 use Rattle.mpm_base.specs.Front.{FrontSeen}
 use Rattle.mpm_base.specs.Store.{StoreSeen}
 use Rattle.conn_machine.specs.Events.{count_events}
@@ -24,7 +24,7 @@ use Rattle.listener.specs.Listen.{HasFolded}
 use Rattle.listener.specs.ListenInside.{Follows, HandedOut, HandsOut, HasNoneToHeed, HasNotBegun, HasStopped, HeedsUntil, IsAtStart, IsInStep, ListensAsServed, TurnsEnd, WatchesAll, contacts_of}
 use Rattle.listener.specs.Orders.{AreOrdered}
 use Rattle.listener.specs.OrdersInside.{KnowsComing, ServesNewest}
-use Rattle.listener.specs.Pace.{AreSharesOfAll, KeepsPace, Share, answers_in, brought}
+use Rattle.listener.specs.Pace.{AreSharesOfAll, Brought, KeepsPace, Share, answers_in, brought, moved}
 use Rattle.listener.specs.Patient.{HasNothingCome, IsPatientFrom}
 use Rattle.listener.specs.Served.{all_entries, whole_book}
 use Rattle.listener.specs.ShareInside.{TurnsMake}
@@ -90,7 +90,10 @@ pub record HasTurned (known : Option KnownOutside) (o : Opening) (n : RunNumbers
   pub keeps : KeepsUp o n now (entries_behind past now.board.book)
   pub shares : List Share
   pub are : HasShares n.slots now shares
-  pub made : TurnsMake turns shares (brought (entries_behind past now.board.book))
+  pub first : ℕ
+  pub made : List Brought
+  pub brought_is : brought (entries_behind past now.board.book) ≡ replicate first moved ++ made
+  pub makes : TurnsMake turns shares made
 
 -- ## What it needs to take turns
 

@@ -23,7 +23,8 @@ AllAt P s (e ∷ entries) = P s e.event × AllAt P (next s e.event) entries
 abbrev pub is_staffed : State → Bool
 is_staffed s = list_any (λ c. not (is_empty c.phase)) s.children
 
--- a graceful stop is at its end: the server takes no connections, hasn't stopped, and each child is gone
+-- a graceful stop is at its end: the server takes no connections, hasn't stopped, and each child is gone. (While the server takes connections
+-- some child runs when a command line is read, as children are started before and let go of behind that.)
 abbrev pub is_at_its_end : State → Bool
 is_at_its_end s = not (is_serving s.going) && not (is_halted s.going) && not (is_staffed s)
 
