@@ -48,7 +48,6 @@ use Rattle.listener.specs.declared.edition.NamedConfig.{NamedConfig}
 use Rattle.listener.specs.declared.run_numbers.RunNumbers.{RunNumbers}
 use Rattle.rounds.proofs.AddedLemmas.{added-events}
 use Rattle.listener.proofs.EditionLemmas.{newest-acts}
-use Rattle.listener.proofs.LineLemmas.{HasReadLine, asks-ended, asks-ending, has_ended, reads-line}
 use Rattle.listener.proofs.OrderStandLemmas.{IsRenewedOnce, once-more, one-entry, rises-one, stands-ending, stands-front, stands-line, stands-order, stands-unordered, state-behind}
 use Rattle.listener.proofs.StandingLemmas.{SameLines, counted-both}
 use Rattle.listener.proofs.PlanLemmas.{cause-of_order, config-of_order, knows-renewed, serves-plan, shape-of_order, site-of_order, timeout-of_order}
