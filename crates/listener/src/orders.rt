@@ -15,7 +15,7 @@ ghost use Rattle.board.specs.Faults.{IsRefusedFor};
 ghost use Rattle.worker_group.specs.Service.{IsUp, RefusalLasts};
 ghost use Rattle.listener.specs.ListenInside.{Follows, HasNoneToHeed, HasOneToHeed, HasReadAll, IsInStep, OnlyReads, StaysWatching};
 ghost use Rattle.listener.specs.Orders as spec;
-ghost use Rattle.listener.specs.OrdersInside.{BreaksBehind, Carries, EndingBreaks, EndingStands, KnowsComing, MakesOrders, MayHush, Refuses, ServesNewest, StandsBehind, end_if, owed_by};
+ghost use Rattle.listener.specs.OrdersInside.{BreaksBehind, Carries, EndingBreaks, EndingStands, IsHushedIf, KnowsComing, MakesOrders, MayHush, Refuses, ServesNewest, StandsBehind, end_if, owed_by};
 ghost use Rattle.listener.specs.OrdersInside as inside;
 ghost use Rattle.listener.specs.RoundInside.{DoesOrders, DoesUntil};
 ghost use Rattle.listener.specs.ShareInside.{DoesAllButOne, DoesAsked, HushesFor, stop_if};
@@ -242,6 +242,10 @@ impl<'a, 'c, L: Link + Send, N: Known, B: Bell, G: Gate> Listener<'a, 'c, L, N, 
         ensures orders { orders_in self.new.board.book ≡ orders_in self.old.board.book }
         ensures step { IsInStep (F.seen front.new).told self.new.board.book.state }
         ensures hushed { MayHush (F.seen front.old) (F.seen front.new) }
+        ensures hushes { OnOk result (IsHushedIf (is_serving self.old.board.book.state.going)
+            (F.seen front.old) (F.seen front.new)) }
+        ensures serving { OnErr result (is_serving self.old.board.book.state.going ≡ true) }
+        ensures kept { OnErr result (F.seen front.new ≡ F.seen front.old) }
         ensures same { OnErr result (self.new ≡ self.old) }
         ensures others { self.new ≡ record self.old { board = self.new.board } }
         ensures why { IfErr result (λ fault. IsRefusedFor fault self.old.board.book) }
