@@ -89,6 +89,7 @@ share-kept : (rows : ℕ) (t t' : FrontTold) (wait : WaitTold) (next : Progress)
 share-kept rows t t' wait next s further began within is = record {
   answer = is.answer;
   signals = is.signals;
+  reads = is.reads;
   hushed =
       λ few. is.hushed (omega (arith, few, further.read))
       ∙ ap (list_any asks_to_end) (sym (take-append-le wait.began.read t.lines further.come began))
@@ -127,7 +128,7 @@ pub shares-moved : (rows : ℕ) (t : FrontTold) (waits : List WaitTold) (before 
 shares-moved rows t [] [] last moves are = absurd (cc are)
 shares-moved rows t [] (x ∷ before) last moves are = absurd (cc are)
 shares-moved rows t (w ∷ waits) [] last moves are = (
-  record { answer = are.0.answer; signals = are.0.signals; hushed = are.0.hushed; orders = are.0.orders; handed = are.0.handed },
+  record { answer = are.0.answer; signals = are.0.signals; reads = are.0.reads; hushed = are.0.hushed; orders = are.0.orders; handed = are.0.handed },
   shares-none rows t waits are.1,
 )
   where

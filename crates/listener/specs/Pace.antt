@@ -2,7 +2,7 @@
 -- answer is later than all before; then the slots that the wait gave are signalled; then the command lines that are read are done; then
 -- children are let go of and started; and then the connections are taken that the front hands out. Nothing of it is made behind the next
 -- wait, and no child is let go of or started between two parts before that.
-use Rattle.std.specs.Prelude.{◌≡◌, ◌⊎◌, ◌<◌, ◌+◌, ◌-◌, ℕ, List, [], ◌∷◌, ◌++◌, drop, map, max, replicate, take, Option, None, Some, is_some, IfSome}
+use Rattle.std.specs.Prelude.{◌≡◌, ◌⊎◌, ◌<◌, ◌≤◌, ◌+◌, ◌-◌, ℕ, List, [], ◌∷◌, ◌++◌, drop, map, max, replicate, take, Option, None, Some, is_some, IfSome}
 use Rattle.std.specs.List.{flat_map, list_any}
 use Rattle.mpm_base.specs.Count.{greatest_count}
 use Rattle.mpm_base.specs.Front.{FrontTold, Progress, WaitTold, gives_moment, progress_of}
@@ -100,10 +100,11 @@ lines_between lines from to = take (to - from) (drop from lines)
 
 -- the share is that of the wait, where the server was so far with the front when the next wait began, or in the end: the clock was asked
 -- exactly where the wait gave a moment, and the lines and connections are those that were read and handed out between the two. When the wait
--- began listening was stopped exactly where a line that was read by then asks for a graceful stop
+-- began listening was stopped exactly where a line that was read by then asks for a graceful stop, and no line was given back since
 pub record IsShareOf (rows : ℕ) (t : FrontTold) (wait : WaitTold) (next : Progress) (s : Share) : Type 0 where
   pub answer : is_some s.answer ≡ gives_moment wait.answer
   pub signals : s.signals ≡ known_slots rows wait.slots
+  pub reads : wait.began.read ≤ next.read
   pub hushed : t.read < greatest_count → wait.began.hushed ≡ list_any asks_to_end (take wait.began.read t.lines)
   pub orders : t.read < greatest_count → s.orders ≡ asked_by wait.began.hushed (lines_between t.lines wait.began.read next.read)
   pub handed : t.accepted < greatest_count → wait.began.accepted + s.handed ≡ next.accepted
