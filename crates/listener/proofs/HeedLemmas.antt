@@ -84,14 +84,12 @@ goes-more f f' f'' a b c first second = record {
   watched = λ before all. second.watched before (first.watched before all);
 }
 
-watched-told : (told told' : Option FrontTold) (a : SeenBook) → TellsOn OnlyReads told told' → StaysWatching told told' a a
-watched-told told told' a reads before all = watched-reads told told' a.state (before ++ a.history) reads all
 
 -- a call for a command line
 pub goes-command : (f f' : FrontSeen) (a : SeenBook) (answer : Option (List ℕ)) → Commands f f' answer → GoesOn f f' a a
 goes-command f f' a answer gave =
     let front = reads-command answer f.told f'.told gave.told_is in
-    record { follows = follows-command f f' answer gave; front = front; watched = watched-told f.told f'.told a front }
+    record { follows = follows-command f f' answer gave; front = front; watched = watched-reads f.told f'.told a front }
 
 -- commands that were done
 pub goes-ordered : (f : FrontSeen) (a b : SeenBook) → DoesOrders a b → b.state.accepted ≡ a.state.accepted → GoesOn f f a b
@@ -110,7 +108,7 @@ pub goes-hushed : (f f' : FrontSeen) (a : SeenBook) → MayHush f f' → GoesOn 
 goes-hushed f f' a (inl same) = subst (λ (x : FrontSeen). GoesOn f x a a) (sym same) (goes-same f a)
 goes-hushed f f' a (inr hushed) =
     let front = hushed-reads f.told f'.told (ap (λ (x : FrontSeen). x.told) hushed) in
-    record { follows = follows-hushed f f' hushed; front = front; watched = watched-told f.told f'.told a front }
+    record { follows = follows-hushed f f' hushed; front = front; watched = watched-reads f.told f'.told a front }
 
 heeded-hushed : (told told' : Option FrontTold) → told' ≡ option_map hushed_front told → IfSome told HasNoneToHeed → IfSome told' HasNoneToHeed
 heeded-hushed None told' is heeded = subst (λ (o : Option FrontTold). IfSome o HasNoneToHeed) (sym is) tt
