@@ -84,7 +84,6 @@ goes-more f f' f'' a b c first second = record {
   watched = λ before all. second.watched before (first.watched before all);
 }
 
-
 -- a call for a command line
 pub goes-command : (f f' : FrontSeen) (a : SeenBook) (answer : Option (List ℕ)) → Commands f f' answer → GoesOn f f' a a
 goes-command f f' a answer gave =

@@ -45,13 +45,13 @@ DoesAllButOne told told' old new = (last : CommandWord) × DoesAsked (last ∷ [
 -- ## Connections
 
 -- so many were handed out
-abbrev pub Hands : ℕ → FrontTold → FrontTold → Type 0
-Hands handed t t' = t'.accepted < greatest_count → t.accepted + handed ≡ t'.accepted
+abbrev pub HandsMany : ℕ → FrontTold → FrontTold → Type 0
+HandsMany handed t t' = t'.accepted < greatest_count → t.accepted + handed ≡ t'.accepted
 
 -- connections were handed out, and taken, but for so many at the end
 pub record TakesHanded (missing : ℕ) (told told' : Option FrontTold) (old new : SeenBook) : Type 0 where
   pub handed : ℕ
-  pub counted : TellsOn (Hands handed) told told'
+  pub counted : TellsOn (HandsMany handed) told told'
   pub made : brought new.history ++ replicate missing taken ≡ brought old.history ++ replicate handed taken
 
 -- the last one may not have been taken
@@ -83,7 +83,7 @@ pub record ComesWith (answer : ℕ) (slots : List ℕ) (rows : ℕ) (s : Share) 
   pub answer_is : s.answer ≡ Some answer
   pub signals : s.signals ≡ known_slots rows slots
   pub asked : TellsOn (ReadsFor s.orders) told told'
-  pub counted : TellsOn (Hands s.handed) told told'
+  pub counted : TellsOn (HandsMany s.handed) told told'
 
 -- what a round that ended the turns for this, or didn't, made of a share at this moment: before it this was made, and now that
 abbrev pub MakesFor : Option End → ℕ → Share → List Brought → List Brought → Type 0
