@@ -22,7 +22,7 @@ use Rattle.listener.specs.ListenInside.{Follows, HasNoneToHeed, HasOneToHeed, Is
 use Rattle.listener.specs.OrdersInside.{IsHushedIf, KnowsComing, MakesOrders, MayHush, ServesNewest, StandsBehind, end_if}
 use Rattle.listener.specs.Pace.{Brought, brought, lines_between, ordered}
 use Rattle.listener.specs.ShareInside.{DoesAsked, HushesFor, ReadsFor}
-use Rattle.rounds.specs.Timely.{is_staffed}
+use Rattle.rounds.specs.TableInside.{StandsInTime}
 use Rattle.conn_machine.specs.States.{is_serving}
 use Rattle.listener.specs.RoundInside.{DoesOrders, NoneHalts}
 use Rattle.rounds.specs.PartsInside.{StaysTimely}
@@ -199,7 +199,7 @@ pub record HasHeeded (known : Option KnownOutside) (c : NamedConfig) (ms ms' : �
   pub reads : ReadsOn words f.told f'.told
   pub makes : MakesOrders words a b
   pub timely : StaysTimely a b
-  pub staffed : is_staffed b.state ≡ true
+  pub in_time : StandsInTime b.state
   pub stands : StandsOn known c 0 0 (standing ms s f a) (standing ms' s' f' b)
   pub moment : b.state.moment ≡ a.state.moment
   pub accepted : b.state.accepted ≡ a.state.accepted
@@ -215,14 +215,14 @@ makes-more first second a b c makes more =
     ∙ ap (λ (xs : List Brought). brought a.history ++ xs) (sym (map-append ordered first second))
 
 pub heeded-start : ActsInSteps → (known : Option KnownOutside) (c : NamedConfig) (ms : ℕ) (s : StoreSeen) (f : FrontSeen) (a : SeenBook) → row_in 0 a ≡ None
-    → is_staffed a.state ≡ true → HasHeeded known c ms ms s s f f a a
-heeded-start steps known c ms s f a row staffed = record {
+    → StandsInTime a.state → HasHeeded known c ms ms s s f f a a
+heeded-start steps known c ms s f a row in_time = record {
   does = does-none steps a row;
   words = [];
   reads = on-none f.told;
   makes = makes-none a;
   timely = λ before. before;
-  staffed = staffed;
+  in_time = in_time;
   stands = λ o n past opened before stood. stood;
   moment = refl;
   accepted = refl;
@@ -237,7 +237,7 @@ heeded-more steps known cfg ms ms' ms'' s s' s'' f f' f'' a b c first second = r
   reads = on-more first.words second.words f.told f'.told f''.told first.reads second.reads;
   makes = makes-more first.words second.words a b c first.makes second.makes;
   timely = λ before. second.timely (first.timely before);
-  staffed = second.staffed;
+  in_time = second.in_time;
   stands =
       stands-more known cfg 0 0 (standing ms s f a) (standing ms' s' f' b) (standing ms'' s'' f'' c) first.stands first.timely second.stands;
   moment = second.moment ∙ first.moment;
@@ -249,15 +249,15 @@ heeded-more steps known cfg ms ms' ms'' s s' s'' f f' f'' a b c first second = r
 
 -- one asked for nothing
 pub heeded-dropped : ActsInSteps → (known : Option KnownOutside) (c : NamedConfig) (ms : ℕ) (s : StoreSeen) (f f' : FrontSeen) (a : SeenBook) (line : List ℕ)
-    → row_in 0 a ≡ None → is_staffed a.state ≡ true → ((w : CommandWord) → line ≢ command_word w) → Commands f f' (Some line)
+    → row_in 0 a ≡ None → StandsInTime a.state → ((w : CommandWord) → line ≢ command_word w) → Commands f f' (Some line)
     → HasHeeded known c ms ms s s f f' a a
-heeded-dropped steps known c ms s f f' a line row staffed unknown gave = record {
+heeded-dropped steps known c ms s f f' a line row in_time unknown gave = record {
   does = does-none steps a row;
   words = [];
   reads = on-line [] line f.told f'.told gave.told_is gave.gives (ends-not line unknown) (λ ending. asks-nothing ending line unknown);
   makes = makes-none a;
   timely = λ before. before;
-  staffed = staffed;
+  in_time = in_time;
   stands = stands-read known c 0 ms s f f' a line (omega arith) gave;
   moment = refl;
   accepted = refl;
@@ -267,16 +267,16 @@ heeded-dropped steps known c ms s f f' a line row staffed unknown gave = record 
 -- one asked for a restart, which was done
 pub heeded-restarted : (known : Option KnownOutside) (c : NamedConfig) (ms ms' : ℕ) (s s' : StoreSeen) (f f' : FrontSeen) (a b : SeenBook) (line : List ℕ)
     → line ≡ command_word word.Graceful → Commands f f' (Some line) → DoesOrders a b → MakesOrders (word.Graceful ∷ []) a b → StaysTimely a b
-    → is_staffed b.state ≡ true → StandsBehind known c word.Graceful (λ x. standing ms s x a) (λ x. standing ms' s' x b)
+    → StandsInTime b.state → StandsBehind known c word.Graceful (λ x. standing ms s x a) (λ x. standing ms' s' x b)
     → b.state.moment ≡ a.state.moment → b.state.accepted ≡ a.state.accepted → HasHeeded known c ms ms' s s' f f' a b
-heeded-restarted known c ms ms' s s' f f' a b line is gave does makes timely staffed stands moment accepted = record {
+heeded-restarted known c ms ms' s s' f f' a b line is gave does makes timely in_time stands moment accepted = record {
   does = does;
   words = word.Graceful ∷ [];
   reads =
       on-line (word.Graceful ∷ []) line f.told f'.told gave.told_is gave.gives (ap asks_to_end is) (λ ending. ap (asked_in ending) is ∙ asks-graceful ending);
   makes = makes;
   timely = timely;
-  staffed = staffed;
+  in_time = in_time;
   stands = stands f f' (subst (λ (l : List ℕ). Commands f f' (Some l)) is gave);
   moment = moment;
   accepted = accepted;
@@ -303,15 +303,15 @@ may-hush false f f' same = inl same
 -- one asked for a graceful stop, which was done
 pub heeded-ended : (known : Option KnownOutside) (c : NamedConfig) (ms : ℕ) (s : StoreSeen) (f f' f'' : FrontSeen) (a b : SeenBook) (line : List ℕ)
     → line ≡ command_word word.GracefulStop → Commands f f' (Some line) → DoesOrders a b → MakesOrders (end_if (is_serving a.state.going)) a b → StaysTimely a b
-    → is_staffed b.state ≡ true → StandsEnding known c ms f' f'' a b → IsHushedIf (is_serving a.state.going) f' f'' → IsInStep f.told a.state
+    → StandsInTime b.state → StandsEnding known c ms f' f'' a b → IsHushedIf (is_serving a.state.going) f' f'' → IsInStep f.told a.state
     → b.state.moment ≡ a.state.moment → b.state.accepted ≡ a.state.accepted → HasHeeded known c ms ms s s f f'' a b
-heeded-ended known c ms s f f' f'' a b line is gave does makes timely staffed stands hushed step moment accepted = record {
+heeded-ended known c ms s f f' f'' a b line is gave does makes timely in_time stands hushed step moment accepted = record {
   does = does;
   words = end_if (is_serving a.state.going);
   reads = reads-end (is_serving a.state.going) line f f' f'' a.state refl is gave hushed step;
   makes = makes;
   timely = timely;
-  staffed = staffed;
+  in_time = in_time;
   stands = stands f s (subst (λ (l : List ℕ). Commands f f' (Some l)) is gave);
   moment = moment;
   accepted = accepted;

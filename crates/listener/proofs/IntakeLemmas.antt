@@ -1,5 +1,5 @@
 -- What a connection that was taken, and left, leaves of the table, and what it brings.
-use Rattle.std.proofs.Common.{◌≡◌, ◌≢◌, ℕ, ◌≤◌, ◌+◌, suc, Bool, true, false, ◌&&◌, cond, List, [], ◌∷◌, ◌++◌, map, replicate, Option, None, Some, is_some, Result, Ok, Err, IfErr, OnOk, refl, sym, ap, subst, ◌∙◌, append-nil, arith}
+use Rattle.std.proofs.Common.{◌≡◌, ◌≢◌, ℕ, ◌≤◌, ◌+◌, suc, Bool, true, false, ◌&&◌, cond, not, List, [], ◌∷◌, ◌++◌, map, replicate, Option, None, Some, is_some, Result, Ok, Err, IfErr, OnOk, refl, sym, ap, subst, ◌∙◌, append-nil, arith}
 use Rattle.std.proofs.lemmas.Bool.{and_parts}
 use Rattle.std.specs.List.{list_any}
 use Rattle.mpm_base.specs.declared.conn.ConnName.{ConnName}
@@ -9,7 +9,10 @@ use Rattle.conn_machine.specs.declared.state.State.{State}
 use Rattle.conn_machine.specs.declared.row.Row.{Row}
 use Rattle.conn_machine.specs.Rows.{is_vacant}
 use Rattle.conn_machine.specs.Runs.{after}
-use Rattle.conn_machine.specs.States.{is_serving, pick_child}
+use Rattle.conn_machine.specs.declared.child.Child.{Child}
+use Rattle.conn_machine.specs.declared.state.Going.{Going}
+use Rattle.conn_machine.specs.Children.{is_empty}
+use Rattle.conn_machine.specs.States.{is_halted, is_over, is_serving, pick_child}
 use Rattle.conn_machine.specs.Table.{next}
 use Rattle.board.specs.Board.{SeenBoard}
 use Rattle.board.specs.Book.{SeenBook}
@@ -21,8 +24,8 @@ use Rattle.worker_group.specs.Acts.{Acts, ActsInSteps}
 use Rattle.worker_group.specs.Service.{left_events}
 use Rattle.rounds.specs.ClosingInside.{state_by}
 use Rattle.rounds.specs.PartsInside.{GivesUp, StaysTimely}
-use Rattle.rounds.specs.TableInside.{NoneDueLate}
-use Rattle.rounds.specs.Timely.{is_at_its_end}
+use Rattle.rounds.specs.TableInside.{NoneDueLate, StandsInTime}
+use Rattle.rounds.specs.Timely.{is_at_its_end, is_staffed}
 use Rattle.rounds.proofs.ClosingLemmas.{GoesOnFrom, acts-state}
 use Rattle.rounds.proofs.DueLemmas.{KeepsOthers, LeavesOthers, LeavesQuiet, due-by, left-others, left-quiet, others-more, set-false, set-other}
 use Rattle.rounds.proofs.TimelyLemmas.{children-plain, not-at_end_serving, plain-left, stays-none, stays-plain}
@@ -111,3 +114,25 @@ makes-none a b same = record { many = 0; one = omega arith; made = ap (λ (x : S
 -- nothing was done
 pub timely-same : (a b : SeenBook) → b ≡ a → StaysTimely a b
 timely-same a b same = subst (StaysTimely a) (sym same) (stays-none a)
+
+-- ## How the server stands
+
+-- a graceful stop is at its end where it was so with the same children
+pub end-same : (a b : State) → b.going ≡ a.going → b.children ≡ a.children → is_at_its_end a ≡ false → is_at_its_end b ≡ false
+end-same a b going children before =
+    ap (λ (x : Going). not (is_serving x) && not (is_halted x) && not (is_staffed b)) going
+    ∙ ap (λ (xs : List Child). not (is_serving a.going) && not (is_halted a.going) && not (list_any (λ (c : Child). not (is_empty c.phase)) xs)) children
+    ∙ before
+
+pub staffed-same : (a b : State) → b.children ≡ a.children → is_staffed a ≡ true → is_staffed b ≡ true
+staffed-same a b children staffed = ap (list_any (λ (c : Child). not (is_empty c.phase))) children ∙ staffed
+
+-- it stands in its time where the time of a graceful stop isn't over
+pub stands-within : (a b : State) → b.moment ≡ a.moment → b.going ≡ a.going → is_over a.moment a.going ≡ false → is_staffed b ≡ true → StandsInTime b
+stands-within a b moment going none staffed = record {
+  within =
+      λ over.
+      let still : is_over b.moment b.going ≡ false = ap (λ (m : ℕ). is_over m b.going) moment ∙ ap (is_over a.moment) going ∙ none in
+      absurd (cc (sym still ∙ over));
+  staffed = staffed;
+}

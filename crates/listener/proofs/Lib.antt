@@ -25,6 +25,7 @@ pub mod PatientLemmas
 pub mod PlanLemmas
 pub mod RestartLemmas
 pub mod RoundLemmas
+pub mod RoundShareLemmas
 pub mod RunLemmas
 pub mod ServedLemmas
 pub mod ShareLemmas

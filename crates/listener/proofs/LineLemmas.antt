@@ -58,7 +58,7 @@ pub record HasReadSo (words : List CommandWord) (t t' : FrontTold) : Type 0 wher
   pub read : t.read ≤ t'.read
   pub lines : t'.lines ≡ t.lines
 
-read-none : (t : FrontTold) → HasReadSo [] t t
+pub read-none : (t : FrontTold) → HasReadSo [] t t
 read-none t = record {
   reads = λ few. sym (ap (asked_by t.hushed) (between-none t.lines t.read));
   hushes = λ few. sym (ap (λ (lines : List (List ℕ)). list_any asks_to_end lines || t.hushed) (between-none t.lines t.read));

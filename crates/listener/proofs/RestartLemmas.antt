@@ -1,11 +1,12 @@
 -- What a restart and a graceful stop do: what was recorded, and how the run stands then.
-use Rattle.std.proofs.Common.{◌≡◌, inl, inr, ◌≤◌, ◌+◌, ℕ, suc, Bool, true, false, not, ◌&&◌, cond, nat_lt, List, [], ◌∷◌, ◌++◌, Option, None, Some, option_map, IfSome, Result, Ok, Err, OnErr, OnOk, refl, sym, ap, subst, ◌∙◌, arith}
+use Rattle.std.proofs.Common.{◌≡◌, inl, inr, ◌≤◌, ◌+◌, ℕ, zero, suc, Bool, true, false, not, ◌&&◌, cond, nat_le, nat_lt, List, [], ◌∷◌, ◌++◌, Option, None, Some, option_map, IfSome, Result, Ok, Err, OnErr, OnOk, refl, sym, ap, subst, ◌∙◌, arith}
 use Rattle.std.proofs.lemmas.Bool.Decides.{nat_tests}
 use Rattle.std.proofs.lemmas.List.Sums.{sum_by-cons}
 use Rattle.mpm_base.specs.CommandWord.{command_word}
 use Rattle.mpm_base.specs.Count.{NeverFalls}
 use Rattle.mpm_base.specs.Front.{Commands, FrontSeen}
 use Rattle.mpm_base.specs.Store.{Renews, StoreCounts, StoreSeen, StoreTold, after_renew}
+use Rattle.mpm_base.specs.Moment.{greatest_moment}
 use Rattle.mpm_base.specs.declared.script_line.CommandWord.TheVariants as word
 use Rattle.mpm_base.specs.declared.shape.Shape.{Shape}
 use Rattle.mpm_config.specs.Config.{Configuration}
@@ -20,11 +21,13 @@ use Rattle.conn_machine.specs.declared.state.State.{State}
 use Rattle.conn_machine.specs.Events.{count_events, is_order}
 use Rattle.conn_machine.specs.Folds.{HaveBegun}
 use Rattle.conn_machine.specs.Runs.{after}
-use Rattle.conn_machine.specs.States.{is_serving}
+use Rattle.conn_machine.specs.States.{is_over, is_serving, later}
+use Rattle.conn_machine.specs.declared.state.Going.TheVariants.{Ending}
 use Rattle.conn_machine.specs.Table.{greatest_generation, next}
 use Rattle.rounds.specs.PartsInside.{StaysTimely}
+use Rattle.rounds.specs.TableInside.{StandsInTime}
 use Rattle.rounds.specs.Timely.{is_staffed}
-use Rattle.rounds.proofs.TimelyLemmas.{not-at_end, staffed-command, timely-command}
+use Rattle.rounds.proofs.TimelyLemmas.{not-at_end, staffed-command, still-in_time, timely-command}
 use Rattle.listener.proofs.BroughtLemmas.{brought-as}
 use Rattle.conn_state.specs.Known.{KnownOutside}
 use Rattle.board.specs.Book.{AddsOnly, SeenBook, book_with_entry, row_in}
@@ -353,32 +356,54 @@ pub makes-carried : (plan : Plan) (a b : SeenBook) (e e' : LoadedEdition) → Ca
 makes-carried plan a b e e' (inl begins) = brought-as _ None a b _ begins.acts refl
 makes-carried plan a b e e' (inr lacks) = makes-refused refusal.NoMemory a b lacks.refuses
 
--- what it was time for, where some child isn't gone, and then some isn't
+-- the listener did so in its time, and stands in it then
 pub record OrdersInTime (a b : SeenBook) : Type 0 where
   pub timely : StaysTimely a b
-  pub staffed : is_staffed b.state ≡ true
+  pub in_time : StandsInTime b.state
 
-pub in_time-command : (c : Commanded) (a b : SeenBook) → Acts 0 (event.Command c ∷ []) None a b → b.state ≡ next a.state (event.Command c)
-    → after a.base a.history ≡ a.state → is_staffed a.state ≡ true → OrdersInTime a b
-in_time-command c a b acts is here staffed = record {
-  timely = timely-command c a b acts here (not-at_end a.state staffed);
-  staffed = ap is_staffed is ∙ staffed-command a.state c staffed;
+-- a command that leaves how the server goes on
+in_time-command : (c : Commanded) (a b : SeenBook) → Acts 0 (event.Command c ∷ []) None a b → b.state ≡ next a.state (event.Command c)
+    → after a.base a.history ≡ a.state → (next a.state (event.Command c)).moment ≡ a.state.moment → (next a.state (event.Command c)).going ≡ a.state.going
+    → StandsInTime a.state → OrdersInTime a b
+in_time-command c a b acts is here moment going in_time = record {
+  timely = timely-command c a b acts here (not-at_end a.state in_time.staffed);
+  in_time =
+      still-in_time a.state b.state (ap (λ (s : State). s.moment) is ∙ moment) (ap (λ (s : State). s.going) is ∙ going)
+      (ap is_staffed is ∙ staffed-command a.state c in_time.staffed) in_time;
 }
 
-pub in_time-same : (a b : SeenBook) → b ≡ a → is_staffed a.state ≡ true → OrdersInTime a b
-in_time-same a b same staffed = subst (OrdersInTime a) (sym same) (record { timely = λ before. before; staffed = staffed })
+pub in_time-same : (a b : SeenBook) → b ≡ a → StandsInTime a.state → OrdersInTime a b
+in_time-same a b same in_time = subst (OrdersInTime a) (sym same) (record { timely = λ before. before; in_time = in_time })
 
-pub in_time-refused : (reason : Refusal) (a b : SeenBook) → Refuses reason a b → after a.base a.history ≡ a.state → is_staffed a.state ≡ true → OrdersInTime a b
-in_time-refused reason a b refuses here staffed = in_time-command (commanded.Refused reason) a b refuses.acts refuses.state here staffed
+pub in_time-refused : (reason : Refusal) (a b : SeenBook) → Refuses reason a b → after a.base a.history ≡ a.state → StandsInTime a.state → OrdersInTime a b
+in_time-refused reason a b refuses here in_time =
+    in_time-command (commanded.Refused reason) a b refuses.acts refuses.state here refl refl in_time
 
 pub in_time-carried : (plan : Plan) (a b : SeenBook) (e e' : LoadedEdition) → Carries plan a b e e' → after a.base a.history ≡ a.state
-    → is_staffed a.state ≡ true → OrdersInTime a b
-in_time-carried plan a b e e' (inl begins) here staffed =
-    in_time-command (commanded.Graceful (shape_by plan.config)) a b begins.acts begins.state here staffed
-in_time-carried plan a b e e' (inr lacks) here staffed = in_time-refused refusal.NoMemory a b lacks.refuses here staffed
+    → StandsInTime a.state → OrdersInTime a b
+in_time-carried plan a b e e' (inl begins) here in_time =
+    in_time-command (commanded.Graceful (shape_by plan.config)) a b begins.acts begins.state here refl refl in_time
+in_time-carried plan a b e e' (inr lacks) here in_time = in_time-refused refusal.NoMemory a b lacks.refuses here in_time
+
+-- a graceful stop that has just begun is out of time only where moments end
+just-begun : (moment ms : ℕ) → moment ≤ greatest_moment → is_over moment (Ending (ending_moment moment ms)) ≡ true → moment ≡ greatest_moment
+just-begun moment zero within over = absurd (cc over)
+just-begun moment (suc ms) within over =
+    let until : later moment (suc ms) ≤ moment = reached (later moment (suc ms)) moment over in
+    omega (arith, until, within)
+  where
+    reached : (until moment : ℕ) → nat_le until moment ≡ true → until ≤ moment
+    reached until moment is = grind (arith, nat_tests)
+
+pub in_time-ending : (ms : ℕ) (s : State) → s.moment ≤ greatest_moment → is_staffed s ≡ true
+    → StandsInTime (next s (event.Command (commanded.GracefulStop (ending_moment s.moment ms))))
+in_time-ending ms s within staffed = record {
+  within = λ over. just-begun s.moment ms within over;
+  staffed = staffed-command s (commanded.GracefulStop (ending_moment s.moment ms)) staffed;
+}
 
 -- the same of a call that answered so, or left all as it was
 pub in_time-either : {T : Type 0} {P : Type 0} (result : Result T BoardFault) (a b : SeenBook) → OnOk result P → (P → OrdersInTime a b) → OnErr result (b ≡ a)
-    → is_staffed a.state ≡ true → OrdersInTime a b
-in_time-either (Ok done) a b did then same staffed = then did
-in_time-either (Err fault) a b did then same staffed = in_time-same a b same staffed
+    → StandsInTime a.state → OrdersInTime a b
+in_time-either (Ok done) a b did then same in_time = then did
+in_time-either (Err fault) a b did then same in_time = in_time-same a b same in_time

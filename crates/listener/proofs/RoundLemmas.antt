@@ -15,7 +15,7 @@ use Rattle.listener.specs.RoundInside.{AllLeft, BreaksOff, DoesOrders, EndsRound
 use Rattle.rounds.specs.PartsInside.{LetsGoOfConns, PassesTime, RetiresSome, SignalsFirst, StartsSome, gone_events, signal_events}
 use Rattle.rounds.specs.Moments.{known_slots, ticks_to}
 use Rattle.rounds.specs.declared.ends.End.TheVariants as end
-use Rattle.rounds.proofs.ActLemmas.{acts-spelled}
+use Rattle.rounds.proofs.ActLemmas.{acts-spelled, retires-none, starts-none}
 
 -- ## Connections that are taken
 
@@ -123,14 +123,6 @@ breaks-behind steps fault to slots a b c d e f h i x time signals lets does reti
       (steps.more 0 _ _ None None a c d (steps.more 0 _ _ None None a b c time.acts signals.acts) lets.acts) does.acts) retires.acts) starts.acts) takes.acts;
   last = last;
 }
-
--- no child was let go of
-pub retires-none : ActsInSteps → (b : SeenBook) → row_in 0 b ≡ None → RetiresSome b b
-retires-none steps b row = record { children = []; acts = steps.none 0 None b row }
-
--- none was started
-pub starts-none : ActsInSteps → (b : SeenBook) → row_in 0 b ≡ None → StartsSome b b
-starts-none steps b row = record { children = []; acts = steps.none 0 None b row; timely = λ before. before }
 
 -- a round that ends behind a command line
 pub ends-asked : ActsInSteps → (to : ℕ) (slots : List ℕ) (a b c d e : SeenBook) → PassesTime to a b → Acts 0 (signal_events b slots) None b c

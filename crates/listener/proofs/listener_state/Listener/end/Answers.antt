@@ -1,4 +1,4 @@
-use Rattle.std.proofs.Common.{◌≡◌, Bool, [], ◌∷◌, None, Some, true, false, append-nil, refl, sym, ap, subst, ◌∙◌, rules}
+use Rattle.std.proofs.Common.{◌≡◌, ℕ, Option, Bool, [], ◌∷◌, None, Some, true, false, append-nil, refl, sym, ap, subst, ◌∙◌, rules}
 use Rattle.mpm_base.specs.CommandWord.{command_word}
 use Rattle.mpm_base.specs.Front.{Commands, FrontSeen}
 use Rattle.mpm_base.specs.Store.{StoreSeen}
@@ -10,11 +10,14 @@ use Rattle.board.specs.Board.{SeenBoard}
 use Rattle.listener.specs.Orders.{ending_moment}
 use Rattle.listener.specs.OrdersInside.{MakesOrders, end_if}
 use Rattle.listener.specs.Pace.{brought}
-use Rattle.rounds.specs.Timely.{AreTimely, is_staffed}
-use Rattle.rounds.proofs.TimelyLemmas.{not-at_end, staffed-command, timely-command}
+use Rattle.conn_machine.specs.declared.event.Event.TheVariants as event
+use Rattle.conn_machine.specs.Table.{next}
+use Rattle.rounds.specs.TableInside.{StandsInTime}
+use Rattle.rounds.specs.Timely.{AreTimely}
+use Rattle.rounds.proofs.TimelyLemmas.{not-at_end, timely-command}
 use Rattle.listener.proofs.BroughtLemmas.{brought-as}
 use Rattle.listener.specs.StandingInside.{StandsBroken, standing}
-use Rattle.listener.proofs.RestartLemmas.{ended-by, ended-stands, ending-stands, unended-breaks}
+use Rattle.listener.proofs.RestartLemmas.{ended-by, ended-stands, ending-stands, in_time-ending, unended-breaks}
 use Rattle.listener.proofs.StandingLemmas.{lines-hushed}
 use Rattle.listener.proofs.listener_state.Listener.end.Goals as goal
 
@@ -88,18 +91,23 @@ returns-clause-timely g c before =
     (search rules) (ap (λ (x : SeenBoard). x.book) c.in_ok-command.ensures.ok.new_is) c.in_ok-command.ensures.entries
     (c.in_ok-command.ensures.row ∙ c.requires.free) in
     timely-command (commanded.GracefulStop (ending_moment a.state.moment c.args.self.now.edition.stop_ms)) a b acts c.show.ensures.after
-    (not-at_end a.state c.requires.staffed) before
+    (not-at_end a.state c.requires.in_time.staffed) before
 
-pub returns-clause-staffed : goal.returns-clause-staffed
-returns-clause-staffed g c =
+pub returns-clause-in_time : goal.returns-clause-in_time
+returns-clause-in_time g c =
     let a = c.args.self.now.board.book in
-    ap (λ (x : SeenBoard). is_staffed x.book.state) c.in_ok-command.ensures.ok.new_is
-    ∙ staffed-command a.state (commanded.GracefulStop c.ending_moment-until.result) c.requires.staffed
+    let b = c.command.new.self.book in
+    let moment : c.ending_moment-until.result ≡ ending_moment a.state.moment c.args.self.now.edition.stop_ms = search rules in
+    let is : b.state ≡ next a.state (event.Command (commanded.GracefulStop (ending_moment a.state.moment c.args.self.now.edition.stop_ms))) =
+    ap (λ (x : SeenBoard). x.book.state) c.in_ok-command.ensures.ok.new_is
+    ∙ ap (λ (m : Option ℕ). next a.state (event.Command (commanded.GracefulStop m))) moment in
+    subst StandsInTime (sym is)
+    (in_time-ending c.args.self.now.edition.stop_ms a.state c.show.ensures.sound.numbers.moment c.requires.in_time.staffed)
 
 pub returns-in_err-command-clause-timely : goal.returns-in_err-command-clause-timely
 returns-in_err-command-clause-timely g c before =
     subst (λ (x : SeenBoard). AreTimely x.book.base x.book.history) (sym c.in_err-command.ensures.err) before
 
-pub returns-in_err-command-clause-staffed : goal.returns-in_err-command-clause-staffed
-returns-in_err-command-clause-staffed g c =
-    ap (λ (x : SeenBoard). is_staffed x.book.state) c.in_err-command.ensures.err ∙ c.requires.staffed
+pub returns-in_err-command-clause-in_time : goal.returns-in_err-command-clause-in_time
+returns-in_err-command-clause-in_time g c =
+    subst (λ (x : SeenBoard). StandsInTime x.book.state) (sym c.in_err-command.ensures.err) c.requires.in_time

@@ -20,7 +20,7 @@ pub loop-init : goal.loop-init
 loop-init g c =
     record {
       heeded = heeded-start c.passes_act_in_steps.ensures.acts g.N.Known.known c.args.self.now.config c.args.self.now.edition.stop_ms
-          (g.D.Store.seen c.args.store.now) (g.F.Front.seen c.args.front.now) c.args.self.now.board.book c.requires.free c.requires.staffed;
+          (g.D.Store.seen c.args.store.now) (g.F.Front.seen c.args.front.now) c.args.self.now.board.book c.requires.free c.requires.in_time;
       knows = c.requires.knows;
       serves = c.requires.serves;
       up = c.requires.up;
@@ -77,7 +77,7 @@ loop-preserved-in-Continue-1 g c =
           (heeded-restarted g.N.Known.known c.loop.self.config c.loop.self.edition.stop_ms c.restart.new.self.edition.stop_ms
           (g.D.Store.seen c.loop.store) (g.D.Store.seen c.restart.new.store) (g.F.Front.seen c.loop.front) (g.F.Front.seen c.command.new.self)
           c.loop.self.board.book c.restart.new.self.board.book c.in-Some-command.line is c.in-Some-command.ensures.commands
-          restarted.does restarted.makes c.restart.ensures.timely c.restart.ensures.staffed restarted.stands c.restart.ensures.moment c.restart.ensures.accepted));
+          restarted.does restarted.makes c.restart.ensures.timely c.restart.ensures.in_time restarted.stands c.restart.ensures.moment c.restart.ensures.accepted));
       knows = restarted.knows;
       serves = c.restart.ensures.serves;
       up = ap is_halted c.restart.ensures.going ∙ before.up;
@@ -146,7 +146,7 @@ loop-preserved-in-Continue-branch-2 g c =
           (heeded-ended g.N.Known.known c.loop.self.config c.loop.self.edition.stop_ms (g.D.Store.seen c.loop.store) (g.F.Front.seen c.loop.front)
           (g.F.Front.seen c.command.new.self) (g.F.Front.seen c.end.new.front) c.loop.self.board.book c.end.new.self.board.book c.in-Some-command.line
           is c.in-Some-command.ensures.commands
-          ended.does ended.makes c.end.ensures.timely c.end.ensures.staffed ended.stands ended.hushes before.step c.end.ensures.moment
+          ended.does ended.makes c.end.ensures.timely c.end.ensures.in_time ended.stands ended.hushes before.step c.end.ensures.moment
           c.end.ensures.accepted)));
       knows =
           knows-as g.N.Known.known c.loop.self.config c.end.new.self.config (g.D.Store.seen c.loop.store).told c.end.new.self.board.book
@@ -213,7 +213,7 @@ loop-preserved g c =
           c.args.self.now.board.book c.loop.self.board.book c.loop.self.board.book before.heeded
           (heeded-dropped c.passes_act_in_steps.ensures.acts g.N.Known.known c.args.self.now.config c.loop.self.edition.stop_ms
           (g.D.Store.seen c.loop.store) (g.F.Front.seen c.loop.front) (g.F.Front.seen c.command.new.self) c.loop.self.board.book
-          c.in-Some-command.line before.heeded.does.acts.row before.heeded.staffed unknown c.in-Some-command.ensures.commands);
+          c.in-Some-command.line before.heeded.does.acts.row before.heeded.in_time unknown c.in-Some-command.ensures.commands);
       knows = before.knows;
       serves = before.serves;
       up = before.up;
@@ -226,11 +226,11 @@ loop-preserved g c =
 
 -- ## What the lines ask for
 
-pub restart-requires-clause-staffed : goal.restart-requires-clause-staffed
-restart-requires-clause-staffed g c κs within = c.loop.invariant.heeded.staffed
+pub restart-requires-clause-in_time : goal.restart-requires-clause-in_time
+restart-requires-clause-in_time g c κs within = c.loop.invariant.heeded.in_time
 
-pub end-requires-clause-staffed : goal.end-requires-clause-staffed
-end-requires-clause-staffed g c κs within = c.loop.invariant.heeded.staffed
+pub end-requires-clause-in_time : goal.end-requires-clause-in_time
+end-requires-clause-in_time g c κs within = c.loop.invariant.heeded.in_time
 
 pub returns-in_default-clause-asks : goal.returns-in_default-clause-asks
 returns-in_default-clause-asks g c =
@@ -247,8 +247,8 @@ returns-in_default-clause-hushes g c =
 pub returns-in_default-clause-timely : goal.returns-in_default-clause-timely
 returns-in_default-clause-timely g c before = c.loop.invariant.heeded.timely before
 
-pub returns-in_default-clause-staffed : goal.returns-in_default-clause-staffed
-returns-in_default-clause-staffed g c = c.loop.invariant.heeded.staffed
+pub returns-in_default-clause-in_time : goal.returns-in_default-clause-in_time
+returns-in_default-clause-in_time g c = c.loop.invariant.heeded.in_time
 
 pub returns-in-Ok-Stop-clause-asks : goal.returns-in-Ok-Stop-clause-asks
 returns-in-Ok-Stop-clause-asks g c =
@@ -269,8 +269,8 @@ returns-in-Ok-Stop-clause-hushes g c =
 pub returns-in-Ok-Stop-clause-timely : goal.returns-in-Ok-Stop-clause-timely
 returns-in-Ok-Stop-clause-timely g c before = c.loop.invariant.heeded.timely before
 
-pub returns-in-Ok-Stop-clause-staffed : goal.returns-in-Ok-Stop-clause-staffed
-returns-in-Ok-Stop-clause-staffed g c = c.loop.invariant.heeded.staffed
+pub returns-in-Ok-Stop-clause-in_time : goal.returns-in-Ok-Stop-clause-in_time
+returns-in-Ok-Stop-clause-in_time g c = c.loop.invariant.heeded.in_time
 
 pub returns-in_err-restart-in-Ok-Graceful-clause-asks : goal.returns-in_err-restart-in-Ok-Graceful-clause-asks
 returns-in_err-restart-in-Ok-Graceful-clause-asks g c =
@@ -291,8 +291,8 @@ returns-in_err-restart-in-Ok-Graceful-clause-asks g c =
 pub returns-in_err-restart-in-Ok-Graceful-clause-timely : goal.returns-in_err-restart-in-Ok-Graceful-clause-timely
 returns-in_err-restart-in-Ok-Graceful-clause-timely g c before = c.restart.ensures.timely (c.loop.invariant.heeded.timely before)
 
-pub returns-in_err-restart-in-Ok-Graceful-clause-staffed : goal.returns-in_err-restart-in-Ok-Graceful-clause-staffed
-returns-in_err-restart-in-Ok-Graceful-clause-staffed g c = c.restart.ensures.staffed
+pub returns-in_err-restart-in-Ok-Graceful-clause-in_time : goal.returns-in_err-restart-in-Ok-Graceful-clause-in_time
+returns-in_err-restart-in-Ok-Graceful-clause-in_time g c = c.restart.ensures.in_time
 
 pub returns-in_err-end-in-Ok-GracefulStop-clause-asks : goal.returns-in_err-end-in-Ok-GracefulStop-clause-asks
 returns-in_err-end-in-Ok-GracefulStop-clause-asks g c =
@@ -315,5 +315,5 @@ returns-in_err-end-in-Ok-GracefulStop-clause-asks g c =
 pub returns-in_err-end-in-Ok-GracefulStop-clause-timely : goal.returns-in_err-end-in-Ok-GracefulStop-clause-timely
 returns-in_err-end-in-Ok-GracefulStop-clause-timely g c before = c.end.ensures.timely (c.loop.invariant.heeded.timely before)
 
-pub returns-in_err-end-in-Ok-GracefulStop-clause-staffed : goal.returns-in_err-end-in-Ok-GracefulStop-clause-staffed
-returns-in_err-end-in-Ok-GracefulStop-clause-staffed g c = c.end.ensures.staffed
+pub returns-in_err-end-in-Ok-GracefulStop-clause-in_time : goal.returns-in_err-end-in-Ok-GracefulStop-clause-in_time
+returns-in_err-end-in-Ok-GracefulStop-clause-in_time g c = c.end.ensures.in_time

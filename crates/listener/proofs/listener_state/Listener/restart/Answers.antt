@@ -130,17 +130,17 @@ pub returns-then-not-may_begin-clause-timely : goal.returns-then-not-may_begin-c
 returns-then-not-may_begin-clause-timely g c before =
     let did =
     in_time-either c.refuse.result c.args.self.now.board.book c.refuse.new.self.board.book c.refuse.ensures.refuses
-    (λ refuses. in_time-refused refusal.Late c.args.self.now.board.book c.refuse.new.self.board.book refuses c.show.ensures.after c.requires.staffed)
-    (on_err_weaker c.refuse.result (λ same. ap (λ (l : _). l.board.book) same) c.refuse.ensures.same) c.requires.staffed in
+    (λ refuses. in_time-refused refusal.Late c.args.self.now.board.book c.refuse.new.self.board.book refuses c.show.ensures.after c.requires.in_time)
+    (on_err_weaker c.refuse.result (λ same. ap (λ (l : _). l.board.book) same) c.refuse.ensures.same) c.requires.in_time in
     did.timely before
 
-pub returns-then-not-may_begin-clause-staffed : goal.returns-then-not-may_begin-clause-staffed
-returns-then-not-may_begin-clause-staffed g c =
+pub returns-then-not-may_begin-clause-in_time : goal.returns-then-not-may_begin-clause-in_time
+returns-then-not-may_begin-clause-in_time g c =
     let did =
     in_time-either c.refuse.result c.args.self.now.board.book c.refuse.new.self.board.book c.refuse.ensures.refuses
-    (λ refuses. in_time-refused refusal.Late c.args.self.now.board.book c.refuse.new.self.board.book refuses c.show.ensures.after c.requires.staffed)
-    (on_err_weaker c.refuse.result (λ same. ap (λ (l : _). l.board.book) same) c.refuse.ensures.same) c.requires.staffed in
-    did.staffed
+    (λ refuses. in_time-refused refusal.Late c.args.self.now.board.book c.refuse.new.self.board.book refuses c.show.ensures.after c.requires.in_time)
+    (on_err_weaker c.refuse.result (λ same. ap (λ (l : _). l.board.book) same) c.refuse.ensures.same) c.requires.in_time in
+    did.in_time
 
 pub returns-in-Ok-clause-makes : goal.returns-in-Ok-clause-makes
 returns-in-Ok-clause-makes g c =
@@ -152,17 +152,17 @@ pub returns-in-Ok-clause-timely : goal.returns-in-Ok-clause-timely
 returns-in-Ok-clause-timely g c before =
     let did =
     in_time-either c.begin.result c.args.self.now.board.book c.begin.new.self.board.book c.begin.ensures.carries
-    (λ carries. in_time-carried c.in-Ok.plan c.args.self.now.board.book c.begin.new.self.board.book c.args.self.now.edition c.begin.new.self.edition carries c.show.ensures.after c.requires.staffed)
-    (on_err_weaker c.begin.result (λ same. ap (λ (l : _). l.board.book) same) c.begin.ensures.same) c.requires.staffed in
+    (λ carries. in_time-carried c.in-Ok.plan c.args.self.now.board.book c.begin.new.self.board.book c.args.self.now.edition c.begin.new.self.edition carries c.show.ensures.after c.requires.in_time)
+    (on_err_weaker c.begin.result (λ same. ap (λ (l : _). l.board.book) same) c.begin.ensures.same) c.requires.in_time in
     did.timely before
 
-pub returns-in-Ok-clause-staffed : goal.returns-in-Ok-clause-staffed
-returns-in-Ok-clause-staffed g c =
+pub returns-in-Ok-clause-in_time : goal.returns-in-Ok-clause-in_time
+returns-in-Ok-clause-in_time g c =
     let did =
     in_time-either c.begin.result c.args.self.now.board.book c.begin.new.self.board.book c.begin.ensures.carries
-    (λ carries. in_time-carried c.in-Ok.plan c.args.self.now.board.book c.begin.new.self.board.book c.args.self.now.edition c.begin.new.self.edition carries c.show.ensures.after c.requires.staffed)
-    (on_err_weaker c.begin.result (λ same. ap (λ (l : _). l.board.book) same) c.begin.ensures.same) c.requires.staffed in
-    did.staffed
+    (λ carries. in_time-carried c.in-Ok.plan c.args.self.now.board.book c.begin.new.self.board.book c.args.self.now.edition c.begin.new.self.edition carries c.show.ensures.after c.requires.in_time)
+    (on_err_weaker c.begin.result (λ same. ap (λ (l : _). l.board.book) same) c.begin.ensures.same) c.requires.in_time in
+    did.in_time
 
 pub returns-in-Err-clause-makes : goal.returns-in-Err-clause-makes
 returns-in-Err-clause-makes g c =
@@ -173,14 +173,14 @@ pub returns-in-Err-clause-timely : goal.returns-in-Err-clause-timely
 returns-in-Err-clause-timely g c before =
     let did =
     in_time-either c.refuse-in-Err.result c.args.self.now.board.book c.refuse-in-Err.new.self.board.book c.refuse-in-Err.ensures.refuses
-    (λ refuses. in_time-refused c.reason_for.result c.args.self.now.board.book c.refuse-in-Err.new.self.board.book refuses c.show.ensures.after c.requires.staffed)
-    (on_err_weaker c.refuse-in-Err.result (λ same. ap (λ (l : _). l.board.book) same) c.refuse-in-Err.ensures.same) c.requires.staffed in
+    (λ refuses. in_time-refused c.reason_for.result c.args.self.now.board.book c.refuse-in-Err.new.self.board.book refuses c.show.ensures.after c.requires.in_time)
+    (on_err_weaker c.refuse-in-Err.result (λ same. ap (λ (l : _). l.board.book) same) c.refuse-in-Err.ensures.same) c.requires.in_time in
     did.timely before
 
-pub returns-in-Err-clause-staffed : goal.returns-in-Err-clause-staffed
-returns-in-Err-clause-staffed g c =
+pub returns-in-Err-clause-in_time : goal.returns-in-Err-clause-in_time
+returns-in-Err-clause-in_time g c =
     let did =
     in_time-either c.refuse-in-Err.result c.args.self.now.board.book c.refuse-in-Err.new.self.board.book c.refuse-in-Err.ensures.refuses
-    (λ refuses. in_time-refused c.reason_for.result c.args.self.now.board.book c.refuse-in-Err.new.self.board.book refuses c.show.ensures.after c.requires.staffed)
-    (on_err_weaker c.refuse-in-Err.result (λ same. ap (λ (l : _). l.board.book) same) c.refuse-in-Err.ensures.same) c.requires.staffed in
-    did.staffed
+    (λ refuses. in_time-refused c.reason_for.result c.args.self.now.board.book c.refuse-in-Err.new.self.board.book refuses c.show.ensures.after c.requires.in_time)
+    (on_err_weaker c.refuse-in-Err.result (λ same. ap (λ (l : _). l.board.book) same) c.refuse-in-Err.ensures.same) c.requires.in_time in
+    did.in_time
