@@ -384,7 +384,8 @@ reads-hushed words None (Some t) so = absurd (cc so)
 reads-hushed words (Some t) None so = let there = so.1 in absurd (cc there)
 reads-hushed words (Some t) (Some m) so =
     let there : hushed_front m ≡ so.0 = let at = so.1 in cc at in
-    (m, refl, subst (λ (x : FrontTold). x.read < greatest_count → words ≡ asked_by t.hushed (lines_between x.lines t.read x.read)) (sym there) so.2)
+    let reads : ReadsFor words t (hushed_front m) = subst (ReadsFor words t) (sym there) so.2 in
+    (m, refl, record { reads = λ few. reads.reads few; asks = λ few. reads.asks few })
 
 -- one for which a graceful stop could not be begun: what it asks for, though listening goes on
 pub reads-unended : (line : List ℕ) (words : List CommandWord) (told mid new : Option FrontTold) (s : State) → line ≡ command_word word.GracefulStop

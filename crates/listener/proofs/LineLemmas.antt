@@ -55,14 +55,14 @@ between-more (x ∷ lines) (suc from) (suc to) line order at =
 pub record HasReadSo (words : List CommandWord) (t t' : FrontTold) : Type 0 where
   pub reads : ReadsFor words t t'
   pub hushes : HushesFor t t'
-  pub read : t.read ≤ t'.read
+  pub read : t'.read < greatest_count → t.read ≤ t'.read
   pub lines : t'.lines ≡ t.lines
 
 pub read-none : (t : FrontTold) → HasReadSo [] t t
 read-none t = record {
-  reads = λ few. sym (ap (asked_by t.hushed) (between-none t.lines t.read));
+  reads = record { reads = λ few. omega arith; asks = λ few. sym (ap (asked_by t.hushed) (between-none t.lines t.read)) };
   hushes = λ few. sym (ap (λ (lines : List (List ℕ)). list_any asks_to_end lines || t.hushed) (between-none t.lines t.read));
-  read = omega arith;
+  read = λ few. omega arith;
   lines = refl;
 }
 
@@ -99,20 +99,24 @@ read-more : (words : List CommandWord) (line : List ℕ) (t t' t'' : FrontTold) 
     → HasReadSo (words ++ asked_in t'.hushed line) t t''
 read-more words line t t' t'' so on = record {
   reads =
-      λ few.
-      let fewer : t'.read < greatest_count = omega (arith, few, on.read) in
-      ap (λ (xs : List CommandWord). xs ++ asked_in t'.hushed line) (so.reads fewer)
-      ∙ ap (λ (b : Bool). asked_by t.hushed (lines_between t'.lines t.read t'.read) ++ asked_in b line) (so.hushes fewer)
-      ∙ sym (asked-both t.hushed (lines_between t'.lines t.read t'.read) line)
-      ∙ ap (asked_by t.hushed) (sym (between-read line t t' t'' so.read on few));
+      record {
+        reads = λ few. omega (arith, few, so.read (omega (arith, few, on.read)), on.read);
+        asks =
+            λ few.
+            let fewer : t'.read < greatest_count = omega (arith, few, on.read) in
+            ap (λ (xs : List CommandWord). xs ++ asked_in t'.hushed line) (so.reads.asks fewer)
+            ∙ ap (λ (b : Bool). asked_by t.hushed (lines_between t'.lines t.read t'.read) ++ asked_in b line) (so.hushes fewer)
+            ∙ sym (asked-both t.hushed (lines_between t'.lines t.read t'.read) line)
+            ∙ ap (asked_by t.hushed) (sym (between-read line t t' t'' (so.read fewer) on few));
+      };
   hushes =
       λ few.
       let fewer : t'.read < greatest_count = omega (arith, few, on.read) in
       on.hushed ∙ ap (λ (b : Bool). asks_to_end line || b) (so.hushes fewer)
       ∙ or-last (asks_to_end line) t.hushed (list_any asks_to_end (lines_between t'.lines t.read t'.read))
       ∙ ap (λ (b : Bool). b || t.hushed) (sym (list_any-append asks_to_end (lines_between t'.lines t.read t'.read) (line ∷ [])))
-      ∙ ap (λ (lines : List (List ℕ)). list_any asks_to_end lines || t.hushed) (sym (between-read line t t' t'' so.read on few));
-  read = omega (arith, so.read, on.read);
+      ∙ ap (λ (lines : List (List ℕ)). list_any asks_to_end lines || t.hushed) (sym (between-read line t t' t'' (so.read fewer) on few));
+  read = λ few. omega (arith, few, so.read (omega (arith, few, on.read)), on.read);
   lines = on.lines ∙ so.lines;
 }
 

@@ -105,7 +105,8 @@ counts-reads (Some t) told' reads = (reads.0, reads.1, reads-count t reads.0 rea
 
 -- and taking read no line
 takes-words : (words : List CommandWord) (t t' t'' : FrontTold) → ReadsFor words t t' → OnlyTakes t' t'' → ReadsFor words t t''
-takes-words words t t' t'' reads takes = subst (ReadsFor words t) (sym takes.rest) (λ few. reads few)
+takes-words words t t' t'' reads takes =
+    subst (ReadsFor words t) (sym takes.rest) (record { reads = λ few. reads.reads few; asks = λ few. reads.asks few })
 
 reads-takes : (words : List CommandWord) (told told' told'' : Option FrontTold) → TellsOn (ReadsFor words) told told' → TellsOn OnlyTakes told' told''
     → TellsOn (ReadsFor words) told told''

@@ -63,10 +63,10 @@ between-none lines from =
 pub record GoesFurther (t t' : FrontTold) : Type 0 where
   pub come : List (List ℕ)
   pub lines : t'.lines ≡ t.lines ++ come
-  pub read : t.read ≤ t'.read
-  pub accepted : t.accepted ≤ t'.accepted
+  pub read : t'.read < greatest_count → t.read ≤ t'.read
+  pub accepted : t'.accepted < greatest_count → t.accepted ≤ t'.accepted
 
--- no wait began when more lines were read than these
+-- no wait began when more lines were read than so many
 abbrev pub AreBegunBy : ℕ → List WaitTold → Type 0
 AreBegunBy read [] = ⊤
 AreBegunBy read (wait ∷ waits) = (wait.began.read ≤ read) × AreBegunBy read waits
@@ -79,9 +79,10 @@ pub begun-more : (read : ℕ) (waits : List WaitTold) (wait : WaitTold) → AreB
 begun-more read [] wait all one = (one, tt)
 begun-more read (x ∷ waits) wait all one = (all.0, begun-more read waits wait all.1 one)
 
-progress-within : (t : FrontTold) (waits : List WaitTold) → AreBegunBy t.read waits → (progress_at t waits).read ≤ t.read
-progress-within t [] all = omega arith
-progress-within t (wait ∷ waits) all = all.0
+progress-within : (t : FrontTold) (waits : List WaitTold) → t.read ≤ length t.lines → AreBegunBy (length t.lines) waits
+    → (progress_at t waits).read ≤ length t.lines
+progress-within t [] came all = came
+progress-within t (wait ∷ waits) came all = all.0
 
 -- a share of a front that went on
 share-kept : (rows : ℕ) (t t' : FrontTold) (wait : WaitTold) (next : Progress) (s : Share) → GoesFurther t t' → wait.began.read ≤ length t.lines
@@ -89,16 +90,16 @@ share-kept : (rows : ℕ) (t t' : FrontTold) (wait : WaitTold) (next : Progress)
 share-kept rows t t' wait next s further began within is = record {
   answer = is.answer;
   signals = is.signals;
-  reads = is.reads;
+  reads = λ few. is.reads (omega (arith, few, further.read few));
   hushed =
-      λ few. is.hushed (omega (arith, few, further.read))
+      λ few. is.hushed (omega (arith, few, further.read few))
       ∙ ap (list_any asks_to_end) (sym (take-append-le wait.began.read t.lines further.come began))
       ∙ ap (λ (lines : List (List ℕ)). list_any asks_to_end (take wait.began.read lines)) (sym further.lines);
   orders =
-      λ few. is.orders (omega (arith, few, further.read))
+      λ few. is.orders (omega (arith, few, further.read few))
       ∙ ap (asked_by wait.began.hushed) (sym (between-kept t.lines further.come wait.began.read next.read began within))
       ∙ ap (λ (lines : List (List ℕ)). asked_by wait.began.hushed (lines_between lines wait.began.read next.read)) (sym further.lines);
-  handed = λ few. is.handed (omega (arith, few, further.accepted));
+  handed = λ few. is.handed (omega (arith, few, further.accepted few));
 }
 
 progress-more : (t t' : FrontTold) (waits : List WaitTold) (wait : WaitTold) → wait.began ≡ progress_of t
@@ -108,16 +109,14 @@ progress-more t t' (x ∷ waits) wait began = refl
 
 -- the shares of waits, and that of one behind them
 pub shares-more : (rows : ℕ) (t t' : FrontTold) (waits : List WaitTold) (shares : List Share) (wait : WaitTold) (s : Share) → GoesFurther t t'
-    → t.read ≤ length t.lines → AreBegunBy t.read waits → wait.began ≡ progress_of t → AreSharesOf rows t waits shares
+    → t.read ≤ length t.lines → AreBegunBy (length t.lines) waits → wait.began ≡ progress_of t → AreSharesOf rows t waits shares
     → IsShareOf rows t' wait (progress_of t') s → AreSharesOf rows t' (waits ++ wait ∷ []) (shares ++ s ∷ [])
 shares-more rows t t' [] shares wait s further came begun began are one =
     subst (λ (xs : List Share). AreSharesOf rows t' (wait ∷ []) (xs ++ s ∷ [])) (sym are) (one, refl)
 shares-more rows t t' (x ∷ waits) [] wait s further came begun began are one = absurd are
 shares-more rows t t' (x ∷ waits) (y ∷ shares) wait s further came begun began are one =
     let next = progress_at t waits in
-    let within : next.read ≤ t.read = progress-within t waits begun.1 in
-    let here : IsShareOf rows t' x next y =
-    share-kept rows t t' x next y further (omega (arith, begun.0, came)) (omega (arith, within, came)) are.0 in (
+    let here : IsShareOf rows t' x next y = share-kept rows t t' x next y further begun.0 (progress-within t waits came begun.1) are.0 in (
       subst (λ (p : Progress). IsShareOf rows t' x p y) (sym (progress-more t t' waits wait began)) here,
       shares-more rows t t' waits shares wait s further came begun.1 began are.1 one,
     )

@@ -104,7 +104,7 @@ lines_between lines from to = take (to - from) (drop from lines)
 pub record IsShareOf (rows : ℕ) (t : FrontTold) (wait : WaitTold) (next : Progress) (s : Share) : Type 0 where
   pub answer : is_some s.answer ≡ gives_moment wait.answer
   pub signals : s.signals ≡ known_slots rows wait.slots
-  pub reads : wait.began.read ≤ next.read
+  pub reads : t.read < greatest_count → wait.began.read ≤ next.read
   pub hushed : t.read < greatest_count → wait.began.hushed ≡ list_any asks_to_end (take wait.began.read t.lines)
   pub orders : t.read < greatest_count → s.orders ≡ asked_by wait.began.hushed (lines_between t.lines wait.began.read next.read)
   pub handed : t.accepted < greatest_count → wait.began.accepted + s.handed ≡ next.accepted

@@ -18,9 +18,10 @@ use Rattle.conn_machine.specs.declared.state.State.{State}
 
 -- ## Command lines
 
--- the lines that were read ask for this
-abbrev pub ReadsFor : List CommandWord → FrontTold → FrontTold → Type 0
-ReadsFor words t t' = t'.read < greatest_count → words ≡ asked_by t.hushed (lines_between t'.lines t.read t'.read)
+-- the lines that were read ask for this, and none was given back
+pub record ReadsFor (words : List CommandWord) (t t' : FrontTold) : Type 0 where
+  pub reads : t'.read < greatest_count → t.read ≤ t'.read
+  pub asks : t'.read < greatest_count → words ≡ asked_by t.hushed (lines_between t'.lines t.read t'.read)
 
 -- listening was stopped where one of them asks for a graceful stop
 abbrev pub HushesFor : FrontTold → FrontTold → Type 0

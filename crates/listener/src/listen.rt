@@ -170,6 +170,7 @@ impl<'a, 'c, L: Link + Send, N: Known, B: Bell, G: Gate> Listener<'a, 'c, L, N, 
         requires staffed { is_staffed self.old.board.book.state ≡ true }
         ensures serves { ServesSome self.old.board self.new.board }
         ensures timely { StaysTimely self.old.board.book self.new.board.book }
+        ensures staffed { is_staffed self.new.board.book.state ≡ true }
         ensures rest { LeavesRest self.old.board.book self.new.board.book }
         ensures until { IfOk result
             (λ rest. rest.until ≡ next_deadline_of self.old.board.book.state) }

@@ -317,6 +317,7 @@ pub fn serve_all<R: Wait, L: Link, N: Known, B: Bell, G: Gate>(
     requires staffed { is_staffed board.old.book.state ≡ true }
     ensures serves { ServesSome board.old board.new }
     ensures timely { StaysTimely board.old.book board.new.book }
+    ensures staffed { is_staffed board.new.book.state ≡ true }
     ensures why { IfErr result (λ fault. IsRefusedFor fault board.new.book) }
     ensures served { OnOk result (NoneDue board.new.book.state) }
     ensures rest { LeavesRest board.old.book board.new.book }
