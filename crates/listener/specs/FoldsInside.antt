@@ -51,6 +51,7 @@ pub record ShowsForFolds (known : Option KnownOutside) (b : SeenBoard) : Type 0 
 pub record ListensOn (known : Option KnownOutside) (old new : SeenBoard) : Type 0 where
   pub passes : new.book.passes ≡ old.book.passes
   pub state : new.book.state ≡ old.book.state
+  pub rows : length new.book.base.rows ≡ length old.book.base.rows
   pub free : NoneHas old.book → NoneHas new.book
   pub timely : StaysTimely old.book new.book
   pub folded : StandsOverFold known old.book new.book
