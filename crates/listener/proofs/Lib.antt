@@ -29,6 +29,7 @@ pub mod RoundShareLemmas
 pub mod RunLemmas
 pub mod ServedLemmas
 pub mod ShareLemmas
+pub mod SharedLemmas
 pub mod StandingFoldLemmas
 pub mod StandingLemmas
 pub mod StandingPartLemmas
@@ -44,3 +45,5 @@ pub mod TurnLemmas
 pub mod UnsignalledLemmas
 pub mod WaitLemmas
 pub mod WatchLemmas
+pub mod WholeLemmas
+pub mod WholeTurnLemmas

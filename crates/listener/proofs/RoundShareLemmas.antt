@@ -83,7 +83,7 @@ made-plain moment answer slots a =
 -- ## The front
 
 -- nothing was read
-reads-still : (told : Option FrontTold) → TellsOn (ReadsFor []) told told
+pub reads-still : (told : Option FrontTold) → TellsOn (ReadsFor []) told told
 reads-still None = refl
 reads-still (Some t) = (t, refl, (read-none t).reads)
 
