@@ -68,7 +68,7 @@ brought-moves a b c retires starts =
 -- ## The share
 
 -- what came with a wait that gave these slots
-share_of : ℕ → List ℕ → SeenBook → List CommandWord → ℕ → ℕ → Share
+abbrev share_of : ℕ → List ℕ → SeenBook → List CommandWord → ℕ → ℕ → Share
 share_of answer slots a orders moves handed =
     record { answer = Some answer; signals = known_slots (length a.base.rows) slots; orders = orders; moves = moves; handed = handed }
 

@@ -106,7 +106,7 @@ or-turned false false = refl
 
 module _ (until : Option ℕ) (quiet : Bool) (answer : Woke) (ready : List ℕ) (t w u : FrontTold) (forward : GoesForward until quiet answer ready t w) (only : OnlyReadsAndTakes w u) (orders : List CommandWord) (handed : ℕ) (asked : ReadsFor orders w u) (counted : HandsMany handed w u) where
   -- the wait, as the front tells it
-  wait_then : WaitTold
+  abbrev wait_then : WaitTold
   wait_then =
       record { began = progress_of t; until = until; quiet = quiet; slots = ready; answer = answer; passed = forward.passed }
 

@@ -42,8 +42,7 @@ use Rattle.listener.proofs.StandingLemmas.{entries-acts}
 
 -- all but the pace of a run that stands so: the children were started before all else; each link that the table took was watched; and in
 -- what was folded time passed patiently
-pub record KeepsWhole (known : Option KnownOutside) (o : Opening) (n : RunNumbers) (spare owed : ℕ) (l : SeenListener) : Type 0 where
-  pub past : Past
+pub record KeepsWhole (known : Option KnownOutside) (o : Opening) (n : RunNumbers) (past : Past) (spare owed : ℕ) (l : SeenListener) : Type 0 where
   pub stands : StandsSo known o n past spare owed (stands_at l)
   pub rows : length l.board.book.base.rows ≡ n.slots
   pub begins : BeginsWithStarts (first_children n) (entries_behind past l.board.book)
@@ -67,8 +66,9 @@ pub record IsOnPace (n : RunNumbers) (l : SeenListener) (entries : List Entry) :
 
 -- both
 pub record IsWhole (known : Option KnownOutside) (o : Opening) (n : RunNumbers) (l : SeenListener) : Type 0 where
-  pub keeps : KeepsWhole known o n 0 0 l
-  pub pace : IsOnPace n l (entries_behind keeps.past l.board.book)
+  pub past : Past
+  pub keeps : KeepsWhole known o n past 0 0 l
+  pub pace : IsOnPace n l (entries_behind past l.board.book)
 
 -- it holds of each run that opened as the first one says
 abbrev pub WholeFrom : Option KnownOutside → SeenListener → SeenListener → Type 0
@@ -94,21 +94,20 @@ begins-behind n entries more entries' is begins =
     )
 
 -- a pass did something, and so the run stands then
-pub whole-acts : (known : Option KnownOutside) (o : Opening) (n : RunNumbers) (spare owed : ℕ) (who : ℕ) (es : List Event) (a b : SeenListener)
+pub whole-acts : (known : Option KnownOutside) (o : Opening) (n : RunNumbers) (past : Past) (spare owed : ℕ) (who : ℕ) (es : List Event) (a b : SeenListener)
     → Acts who es None a.board.book b.board.book → IsOpenedBy a.config o → AreTimely a.board.book.base a.board.book.history
     → StandsOn known a.config spare owed (stands_at a) (stands_at b)
     → StaysWatching a.front.told b.front.told a.board.book b.board.book
     → ((s : State) (history : List Entry) → IsPatientRun a.front.told a.calls s history → IsPatientRun b.front.told b.calls s history)
-    → KeepsWhole known o n 0 0 a → KeepsWhole known o n spare owed b
-whole-acts known o n spare owed who es a b acts opened timely stands watched patient whole = record {
-  past = whole.past;
-  stands = stands o n whole.past opened timely whole.stands;
+    → KeepsWhole known o n past 0 0 a → KeepsWhole known o n past spare owed b
+whole-acts known o n past spare owed who es a b acts opened timely stands watched patient whole = record {
+  stands = stands o n past opened timely whole.stands;
   rows = ap (λ (s : State). length s.rows) acts.base ∙ whole.rows;
   begins =
-      begins-behind (first_children n) (entries_behind whole.past a.board.book) acts.entries.0 (entries_behind whole.past b.board.book)
-      (entries-acts who es None a.board.book b.board.book acts whole.past.entries) whole.begins;
-  watched = watched whole.past.entries whole.watched;
-  patient = λ none. patient (opened_by n) whole.past.entries (whole.patient none);
+      begins-behind (first_children n) (entries_behind past a.board.book) acts.entries.0 (entries_behind past b.board.book)
+      (entries-acts who es None a.board.book b.board.book acts past.entries) whole.begins;
+  watched = watched past.entries whole.watched;
+  patient = λ none. patient (opened_by n) past.entries (whole.patient none);
 }
 
 -- ## What is said of all entries
@@ -131,14 +130,14 @@ pub past-base : (known : Option KnownOutside) (o : Opening) (n : RunNumbers) (pa
 past-base known o n past spare owed s stands =
     stands.folded.base_is ∙ ap (λ (p : Past). after (opened_by n) p.entries) (sym stands.past_is)
 
-pub keeps-up : (known : Option KnownOutside) (o : Opening) (n : RunNumbers) (spare owed : ℕ) (l : SeenListener) (whole : KeepsWhole known o n spare owed l)
+pub keeps-up : (known : Option KnownOutside) (o : Opening) (n : RunNumbers) (past : Past) (spare owed : ℕ) (l : SeenListener) (whole : KeepsWhole known o n past spare owed l)
     → (IfSome o.front.told HasNothingCome → IsPatientRun l.front.told l.calls l.board.book.base l.board.book.history)
-    → KeepsUp o n l (entries_behind whole.past l.board.book)
-keeps-up known o n spare owed l whole patient = record {
-  started = started-if n l.front.told (entries_behind whole.past l.board.book) whole.begins;
+    → KeepsUp o n l (entries_behind past l.board.book)
+keeps-up known o n past spare owed l whole patient = record {
+  started = started-if n l.front.told (entries_behind past l.board.book) whole.begins;
   watched = whole.watched;
   patient =
-      λ none. patient-all o n whole.past l (past-base known o n whole.past spare owed (stands_at l) whole.stands) (whole.patient none) (patient none);
+      λ none. patient-all o n past l (past-base known o n past spare owed (stands_at l) whole.stands) (whole.patient none) (patient none);
 }
 
 -- ## The start
@@ -193,9 +192,9 @@ whole-begun known o n l m opened begun is starts first moment stands watched =
     let timely = timely-begun known o n l l begun (λ before. before) in
     subst (IsWhole known o n) (sym is)
     (record {
+      past = nothing_past;
       keeps =
           record {
-            past = nothing_past;
             stands = stands o n nothing_past opened timely begun.stands;
             rows =
                 ap (λ (s : State). length s.rows) starts.acts.base
@@ -248,23 +247,23 @@ pub whole-folded : (known : Option KnownOutside) (o : Opening) (n : RunNumbers) 
     → IsWhole known o n a → IsWhole known o n (record a { board = b })
 whole-folded known o n a b listens opened timely patient whole =
     let keeps = whole.keeps in
-    let folded : StandsFolded known o n keeps.past (stands_at a) (standing a.edition.stop_ms a.store a.front b.book) =
-    listens.folded a.config a.edition.stop_ms a.store a.front o n keeps.past opened timely keeps.stands in
-    let same : entries_behind folded.later b.book ≡ entries_behind keeps.past a.board.book = folded.same in
+    let folded : StandsFolded known o n whole.past (stands_at a) (standing a.edition.stop_ms a.store a.front b.book) =
+    listens.folded a.config a.edition.stop_ms a.store a.front o n whole.past opened timely keeps.stands in
+    let same : entries_behind folded.later b.book ≡ entries_behind whole.past a.board.book = folded.same in
     record {
+      past = folded.later;
       keeps =
           record {
-            past = folded.later;
             stands = folded.stands;
             rows = listens.rows ∙ keeps.rows;
             begins = subst (BeginsWithStarts (first_children n)) (sym same) keeps.begins;
             watched =
                 subst (λ (es : List Entry). IfSome a.front.told (WatchesAll b.book.state es)) (sym same)
-                (subst (λ (s : State). IfSome a.front.told (WatchesAll s (entries_behind keeps.past a.board.book))) (sym listens.state) keeps.watched);
+                (subst (λ (s : State). IfSome a.front.told (WatchesAll s (entries_behind whole.past a.board.book))) (sym listens.state) keeps.watched);
             patient =
                 λ none. patient-front o n folded.later b.book a.front.told a.calls
                 (subst (IsPatientRun a.front.told a.calls (opened_by n)) (sym same)
-                (patient-all o n keeps.past a (past-base known o n keeps.past 0 0 (stands_at a) keeps.stands) (keeps.patient none) (patient none)));
+                (patient-all o n whole.past a (past-base known o n whole.past 0 0 (stands_at a) keeps.stands) (keeps.patient none) (patient none)));
           };
       pace =
           subst (IsOnPace n (record a { board = b })) (sym same)

@@ -55,8 +55,9 @@ pub record EndsOnPace (n : RunNumbers) (turns : Result End BoardFault) (l : Seen
 
 -- and all else
 pub record EndsWhole (known : Option KnownOutside) (o : Opening) (n : RunNumbers) (turns : Result End BoardFault) (l : SeenListener) : Type 0 where
-  pub keeps : KeepsWhole known o n (spare_behind turns) (owed_behind turns) l
-  pub pace : EndsOnPace n turns l (entries_behind keeps.past l.board.book)
+  pub past : Past
+  pub keeps : KeepsWhole known o n past (spare_behind turns) (owed_behind turns) l
+  pub pace : EndsOnPace n turns l (entries_behind past l.board.book)
 
 abbrev pub EndsFrom : Option KnownOutside → Result End BoardFault → SeenListener → SeenListener → Type 0
 EndsFrom known turns first now = (o : Opening) (n : RunNumbers) → IsOpenedBy first.config o → IsBegun known o n first → EndsWhole known o n turns now
@@ -68,9 +69,9 @@ pub has-turned : (known : Option KnownOutside) (turns : Result End BoardFault) (
 has-turned known turns first now ends patient o n opened begun =
     let whole = ends o n opened begun in
     record {
-      past = whole.keeps.past;
+      past = whole.past;
       stands = whole.keeps.stands;
-      keeps = keeps-up known o n (spare_behind turns) (owed_behind turns) now whole.keeps (λ none. patient (begun.first none));
+      keeps = keeps-up known o n whole.past (spare_behind turns) (owed_behind turns) now whole.keeps (λ none. patient (begun.first none));
       shares = whole.pace.shares;
       are = whole.pace.are;
       first = whole.pace.first;
@@ -128,9 +129,10 @@ module _ (steps : ActsInSteps) (known : Option KnownOutside) (rest : Rest) (paus
 
   -- all but the pace, of a round
   keeps-round : (spare owed : ℕ) (b : SeenListener) → DidSome w.board.book b.board.book → HasTakenIn w b → StandsStep known spare owed w b
-      → (o : Opening) (n : RunNumbers) → IsOpenedBy first.config o → IsBegun known o n first → KeepsWhole known o n 0 0 a → KeepsWhole known o n spare owed b
-  keeps-round spare owed b did took stands o n opened begun before =
-      whole-acts known o n spare owed 0 did.events a b (subst (λ (x : SeenBook). Acts 0 did.events None x b.board.book) book_is did.acts) (opened-a o opened)
+      → (o : Opening) (n : RunNumbers) (past : Past) → IsOpenedBy first.config o → IsBegun known o n first → KeepsWhole known o n past 0 0 a
+      → KeepsWhole known o n past spare owed b
+  keeps-round spare owed b did took stands o n past opened begun before =
+      whole-acts known o n past spare owed 0 did.events a b (subst (λ (x : SeenBook). Acts 0 did.events None x b.board.book) book_is did.acts) (opened-a o opened)
       (timely-begun known o n first a begun kept.timely) (stands-then rest pause known spare owed a w b waited stands)
       (watched-both a.front.told w.front.told b.front.told a.board.book a.board.book b.board.book
       (watched-wait _ _ _ _ a.front.told w.front.told a.board.book waited.waits.tells)
@@ -138,13 +140,13 @@ module _ (steps : ActsInSteps) (known : Option KnownOutside) (rest : Rest) (paus
       (λ s history. patience-past rest pause a w b waited took.front took.calls s history) before
 
   -- and of a wait behind which nothing was done
-  keeps-idle : NoneHas a.board.book → (o : Opening) (n : RunNumbers) → IsOpenedBy first.config o → IsBegun known o n first → KeepsWhole known o n 0 0 a
-      → KeepsWhole known o n 0 0 w
-  keeps-idle free o n opened begun before =
-      whole-acts known o n 0 0 0 [] a w (subst (Acts 0 [] None a.board.book) (sym book_is) (steps.none 0 None a.board.book (free 0))) (opened-a o opened)
+  keeps-idle : NoneHas a.board.book → (o : Opening) (n : RunNumbers) (past : Past) → IsOpenedBy first.config o → IsBegun known o n first → KeepsWhole known o n past 0 0 a
+      → KeepsWhole known o n past 0 0 w
+  keeps-idle free o n past opened begun before =
+      whole-acts known o n past 0 0 0 [] a w (subst (Acts 0 [] None a.board.book) (sym book_is) (steps.none 0 None a.board.book (free 0))) (opened-a o opened)
       (timely-begun known o n first a begun kept.timely) (stands-waited rest pause known a w waited)
-      (λ past all. subst (λ (x : SeenBook). IfSome w.front.told (WatchesAll x.state (past ++ x.history))) (sym book_is)
-      (watched-wait _ _ _ _ a.front.told w.front.told a.board.book waited.waits.tells past all))
+      (λ old all. subst (λ (x : SeenBook). IfSome w.front.told (WatchesAll x.state (old ++ x.history))) (sym book_is)
+      (watched-wait _ _ _ _ a.front.told w.front.told a.board.book waited.waits.tells old all))
       (λ s history. patience-past rest pause a w w waited (only-takes _ _ (takes-same _)) refl s history) before
 
   -- ## The share
@@ -196,7 +198,7 @@ module _ (steps : ActsInSteps) (known : Option KnownOutside) (rest : Rest) (paus
   whole-round b gone did o n opened begun =
       let before = whole o n opened begun in
       let pace = before.pace in
-      let keeps = keeps-round 0 0 b did gone.took gone.stands o n opened begun before.keeps in
+      let keeps = keeps-round 0 0 b did gone.took gone.stands o n before.past opened begun before.keeps in
       let s = gone.share.share in
       let s' = share_for pause.woke pause.moment s in
       let comes = gone.share.comes in
@@ -205,6 +207,7 @@ module _ (steps : ActsInSteps) (known : Option KnownOutside) (rest : Rest) (paus
       gone.share.made ∙ ap (λ (x : SeenBook). brought x.history ++ xs) book_is in
       let shares = shares-turn n b pace.shares s before.keeps.rows gone.took comes pace.front pace.clock in
       record {
+        past = before.past;
         keeps = keeps;
         pace =
             record {
@@ -215,7 +218,7 @@ module _ (steps : ActsInSteps) (known : Option KnownOutside) (rest : Rest) (paus
               clock = shares.answers;
               first = pace.first;
               brought_is =
-                  brought-on before.keeps.past a.board.book b.board.book pace.first (made_from 0 pace.shares) xs made pace.brought_is
+                  brought-on before.past a.board.book b.board.book pace.first (made_from 0 pace.shares) xs made pace.brought_is
                   ∙ ap (λ (zs : List Brought). replicate pace.first moved ++ zs)
                   (whole-made pace.shares s' xs (made-turn pace.shares s comes.answer_is pace.moment));
               moment = moment-turn pace.shares s b pace.moment gone.moment;
@@ -225,9 +228,9 @@ module _ (steps : ActsInSteps) (known : Option KnownOutside) (rest : Rest) (paus
   -- ## Turns that end
 
   -- a round that was broken off
-  pub ends-broken : (fault : BoardFault) (b : SeenListener) → HasBrokenOff known fault pause w b → DidSome w.board.book b.board.book
-      → EndsFrom known (Err fault) first b
-  ends-broken fault b broken did o n opened begun =
+  pub ends-broken : (fault other : BoardFault) (b : SeenListener) → HasBrokenOff known fault pause w b → DidSome w.board.book b.board.book
+      → EndsFrom known (Err other) first b
+  ends-broken fault other b broken did o n opened begun =
       let before = whole o n opened begun in
       let pace = before.pace in
       let s = broken.share.share in
@@ -240,7 +243,8 @@ module _ (steps : ActsInSteps) (known : Option KnownOutside) (rest : Rest) (paus
       (sym (append_assoc (brought w.board.book.history) xs broken.share.missing)
       ∙ ap (λ (zs : List Brought). zs ++ broken.share.missing) (sym added) ∙ broken.share.made) in
       record {
-        keeps = keeps-round 1 0 b did broken.took broken.stands o n opened begun before.keeps;
+        past = before.past;
+        keeps = keeps-round 1 0 b did broken.took broken.stands o n before.past opened begun before.keeps;
         pace =
             record {
               shares = pace.shares ++ s' ∷ [];
@@ -248,7 +252,7 @@ module _ (steps : ActsInSteps) (known : Option KnownOutside) (rest : Rest) (paus
               first = pace.first;
               made = made_from 0 pace.shares ++ xs;
               brought_is =
-                  brought-on before.keeps.past a.board.book b.board.book pace.first (made_from 0 pace.shares) xs
+                  brought-on before.past a.board.book b.board.book pace.first (made_from 0 pace.shares) xs
                   (added ∙ ap (λ (x : SeenBook). brought x.history ++ xs) book_is) pace.brought_is;
               makes =
                   inr (record {
@@ -280,7 +284,8 @@ module _ (steps : ActsInSteps) (known : Option KnownOutside) (rest : Rest) (paus
       cancel (brought w.board.book.history) (xs ++ stop) (made_of w.board.book.state.moment s)
       (sym (append_assoc (brought w.board.book.history) xs stop) ∙ ap (λ (zs : List Brought). zs ++ stop) (sym added) ∙ gone.share.made.1) in
       record {
-        keeps = keeps-round 0 1 b did gone.took gone.stands o n opened begun before.keeps;
+        past = before.past;
+        keeps = keeps-round 0 1 b did gone.took gone.stands o n before.past opened begun before.keeps;
         pace =
             record {
               shares = pace.shares ++ s' ∷ [];
@@ -288,7 +293,7 @@ module _ (steps : ActsInSteps) (known : Option KnownOutside) (rest : Rest) (paus
               first = pace.first;
               made = made_from 0 pace.shares ++ xs;
               brought_is =
-                  brought-on before.keeps.past a.board.book b.board.book pace.first (made_from 0 pace.shares) xs
+                  brought-on before.past a.board.book b.board.book pace.first (made_from 0 pace.shares) xs
                   (added ∙ ap (λ (x : SeenBook). brought x.history ++ xs) book_is) pace.brought_is;
               makes =
                   record {
@@ -314,7 +319,8 @@ module _ (steps : ActsInSteps) (known : Option KnownOutside) (rest : Rest) (paus
       let quiet : Share = record s { signals = [] } in
       let xs = made_of w.board.book.state.moment quiet in
       record {
-        keeps = keeps-round 0 0 b did gone.took gone.stands o n opened begun before.keeps;
+        past = before.past;
+        keeps = keeps-round 0 0 b did gone.took gone.stands o n before.past opened begun before.keeps;
         pace =
             record {
               shares = pace.shares ++ s' ∷ [];
@@ -322,7 +328,7 @@ module _ (steps : ActsInSteps) (known : Option KnownOutside) (rest : Rest) (paus
               first = pace.first;
               made = made_from 0 pace.shares ++ xs;
               brought_is =
-                  brought-on before.keeps.past a.board.book b.board.book pace.first (made_from 0 pace.shares) xs
+                  brought-on before.past a.board.book b.board.book pace.first (made_from 0 pace.shares) xs
                   (gone.share.made.1 ∙ ap (λ (x : SeenBook). brought x.history ++ xs) book_is) pace.brought_is;
               makes =
                   record {
@@ -348,7 +354,8 @@ module _ (steps : ActsInSteps) (known : Option KnownOutside) (rest : Rest) (paus
       let comes = gone.share.comes in
       let xs = made_of w.board.book.state.moment s in
       record {
-        keeps = keeps-round 0 0 b did gone.took gone.stands o n opened begun before.keeps;
+        past = before.past;
+        keeps = keeps-round 0 0 b did gone.took gone.stands o n before.past opened begun before.keeps;
         pace =
             record {
               shares = pace.shares ++ s' ∷ [];
@@ -356,20 +363,20 @@ module _ (steps : ActsInSteps) (known : Option KnownOutside) (rest : Rest) (paus
               first = pace.first;
               made = made_from 0 pace.shares ++ xs;
               brought_is =
-                  brought-on before.keeps.past a.board.book b.board.book pace.first (made_from 0 pace.shares) xs
+                  brought-on before.past a.board.book b.board.book pace.first (made_from 0 pace.shares) xs
                   (gone.share.made ∙ ap (λ (x : SeenBook). brought x.history ++ xs) book_is) pace.brought_is;
               makes = whole-made pace.shares s' xs (made-turn pace.shares s comes.answer_is pace.moment);
             };
       }
 
   -- a wait that gave no moment
-  idle_share : Share
+  abbrev idle_share : Share
   idle_share = record { answer = Some pause.moment; signals = []; orders = []; moves = 0; handed = 0 }
 
   idle-pace : (turns : Result End BoardFault) → (moments_in pause.woke ≡ []) → w.ready ≡ [] → (o : Opening) (n : RunNumbers) (before : IsWhole known o n a)
       → ((made : List Brought) → EndsUntaken [] (before.pace.shares ++ share_for pause.woke pause.moment idle_share ∷ []) made
       → TurnsMake turns (before.pace.shares ++ share_for pause.woke pause.moment idle_share ∷ []) made)
-      → EndsOnPace n turns w (entries_behind before.keeps.past w.board.book)
+      → EndsOnPace n turns w (entries_behind before.past w.board.book)
   idle-pace turns none unready o n before makes =
       let pace = before.pace in
       let s = idle_share in
@@ -388,7 +395,7 @@ module _ (steps : ActsInSteps) (known : Option KnownOutside) (rest : Rest) (paus
             };
         first = pace.first;
         made = made_from 0 pace.shares;
-        brought_is = ap (λ (x : SeenBook). brought (entries_behind before.keeps.past x)) book_is ∙ pace.brought_is;
+        brought_is = ap (λ (x : SeenBook). brought (entries_behind before.past x)) book_is ∙ pace.brought_is;
         makes = makes (made_from 0 pace.shares) (record { before = pace.shares; last = s'; shares_are = refl; none = refl; made_are = all });
       }
     where
@@ -402,7 +409,8 @@ module _ (steps : ActsInSteps) (known : Option KnownOutside) (rest : Rest) (paus
   ends-ended free none unready o n opened begun =
       let before = whole o n opened begun in
       record {
-        keeps = keeps-idle free o n opened begun before.keeps;
+        past = before.past;
+        keeps = keeps-idle free o n before.past opened begun before.keeps;
         pace = idle-pace (Ok end.Ended) none unready o n before (λ made ends. ends);
       }
 
@@ -410,7 +418,8 @@ module _ (steps : ActsInSteps) (known : Option KnownOutside) (rest : Rest) (paus
   ends-failed free none unready o n opened begun =
       let before = whole o n opened begun in
       record {
-        keeps = keeps-idle free o n opened begun before.keeps;
+        past = before.past;
+        keeps = keeps-idle free o n before.past opened begun before.keeps;
         pace = idle-pace (Ok end.Failed) none unready o n before (λ made ends. ends);
       }
 
@@ -430,26 +439,27 @@ whole-served steps known first a b kept whole served o n opened begun =
     brought-others steps 1 did.events None a.board.book b.board.book (λ (same : 0 ≡ 1). cc) did.acts in
     subst (IsWhole known o n) (sym served.others)
     (record {
+      past = before.past;
       keeps =
-          whole-acts known o n 0 0 1 did.events a there did.acts (subst (λ (c : _). IsOpenedBy c o) (sym kept.config) opened)
+          whole-acts known o n before.past 0 0 1 did.events a there did.acts (subst (λ (c : _). IsOpenedBy c o) (sym kept.config) opened)
           (timely-begun known o n first a begun kept.timely)
           (stands-acted known 1 did.events None a b.board did.acts none served.rest.going)
           (watched-as a.front.told a.board.book b.board.book
           (nobody-served 1 did.events None a.board.book b.board.book (λ (same : 1 ≡ 0). cc) did.acts) served.rest.accepted)
           (λ s history patient. patient) before.keeps;
-      pace = pace-kept n a there before.keeps.past refl refl brings served.rest.moment before.pace;
+      pace = pace-kept n a there before.past refl refl brings served.rest.moment before.pace;
     })
 
 -- turns that were broken off so
 pub ends-done : (known : Option KnownOutside) (fault : BoardFault) (first now : SeenListener) → WholeFrom known first now → EndsFrom known (Err fault) first now
 ends-done known fault first now whole o n opened begun =
     let before = whole o n opened begun in
-    record { keeps = spared known o n now before.keeps; pace = pace-done n fault now (entries_behind before.keeps.past now.board.book) before.pace }
+    record { past = before.past; keeps = spared known o n before.past now before.keeps; pace = pace-done n fault now (entries_behind before.past now.board.book) before.pace }
   where
-    spared : (known : Option KnownOutside) (o : Opening) (n : RunNumbers) (now : SeenListener) → KeepsWhole known o n 0 0 now → KeepsWhole known o n 1 0 now
-    spared known o n now keeps = record {
-      past = keeps.past;
-      stands = so-broken known o n keeps.past (stands_at now) keeps.stands;
+    spared : (known : Option KnownOutside) (o : Opening) (n : RunNumbers) (past : Past) (now : SeenListener) → KeepsWhole known o n past 0 0 now
+        → KeepsWhole known o n past 1 0 now
+    spared known o n past now keeps = record {
+      stands = so-broken known o n past (stands_at now) keeps.stands;
       rows = keeps.rows;
       begins = keeps.begins;
       watched = keeps.watched;
