@@ -309,11 +309,13 @@ makes-gone answer slots told told' a d e f before does reads retires =
     record {
       share = share_of answer slots a does.words moves 0;
       comes = comes-read answer slots a does.words moves told told' does.asked reads;
-      made =
-          adds-both (brought a.history) (brought e.history) (brought f.history) first (replicate moves moved)
-          (lines-done (moment_for answer) slots told told' a d e before does)
-          (brought-as _ None e f (replicate moves moved) retires.acts (brings-retires retires.children))
-          ∙ ap (λ (xs : List Brought). brought a.history ++ xs) (sym (append-nil (first ++ replicate moves moved)));
+      made = (
+        refl,
+        adds-both (brought a.history) (brought e.history) (brought f.history) first (replicate moves moved)
+            (lines-done (moment_for answer) slots told told' a d e before does)
+            (brought-as _ None e f (replicate moves moved) retires.acts (brings-retires retires.children))
+            ∙ ap (λ (xs : List Brought). brought a.history ++ xs) (sym (append-nil (first ++ replicate moves moved))),
+      );
     }
 
 -- the turns go on

@@ -364,8 +364,17 @@ module _ (steps : ActsInSteps) (known : Option KnownOutside) (rest : Rest) (paus
               made = made_from 0 pace.shares ++ xs;
               brought_is =
                   brought-on before.past a.board.book b.board.book pace.first (made_from 0 pace.shares) xs
-                  (gone.share.made ∙ ap (λ (x : SeenBook). brought x.history ++ xs) book_is) pace.brought_is;
-              makes = whole-made pace.shares s' xs (made-turn pace.shares s comes.answer_is pace.moment);
+                  (gone.share.made.1 ∙ ap (λ (x : SeenBook). brought x.history ++ xs) book_is) pace.brought_is;
+              makes =
+                  record {
+                    before = pace.shares;
+                    last = s';
+                    shares_are = refl;
+                    none = gone.share.made.0;
+                    made_are =
+                        append-nil (made_from 0 pace.shares ++ xs)
+                        ∙ whole-made pace.shares s' xs (made-turn pace.shares s comes.answer_is pace.moment);
+                  };
             };
       }
 
