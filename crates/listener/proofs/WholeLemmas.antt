@@ -40,12 +40,12 @@ use Rattle.listener.proofs.StandingLemmas.{entries-acts}
 
 -- ## What holds on the way
 
--- all but the pace of a run that stands so: the children were started before all else; each link that the table took was watched; and in
+-- all but the pace of a run that stands so: where the front waited the children were started before all else; each link that the table took was watched; and in
 -- what was folded time passed patiently
 pub record KeepsWhole (known : Option KnownOutside) (o : Opening) (n : RunNumbers) (past : Past) (spare owed : ℕ) (l : SeenListener) : Type 0 where
   pub stands : StandsSo known o n past spare owed (stands_at l)
   pub rows : length l.board.book.base.rows ≡ n.slots
-  pub begins : BeginsWithStarts (first_children n) (entries_behind past l.board.book)
+  pub started : IfSome l.front.told (IsStartedFirst n (entries_behind past l.board.book))
   pub watched : IfSome l.front.told (WatchesAll l.board.book.state (entries_behind past l.board.book))
   pub patient : IfSome o.front.told HasNothingCome → IsPatientRun l.front.told l.calls (opened_by n) past.entries
 
@@ -64,10 +64,11 @@ pub record IsOnPace (n : RunNumbers) (l : SeenListener) (entries : List Entry) :
   pub brought_is : brought entries ≡ replicate first moved ++ made_from 0 shares
   pub moment : l.board.book.state.moment ≡ moment_behind 0 shares
 
--- both
+-- both, once the children were started
 pub record IsWhole (known : Option KnownOutside) (o : Opening) (n : RunNumbers) (l : SeenListener) : Type 0 where
   pub past : Past
   pub keeps : KeepsWhole known o n past 0 0 l
+  pub begins : BeginsWithStarts (first_children n) (entries_behind past l.board.book)
   pub pace : IsOnPace n l (entries_behind past l.board.book)
 
 -- it holds of each run that opened as the first one says
@@ -83,7 +84,7 @@ timely-begun known o n first now begun stays =
 -- ## A step
 
 -- entries behind starts
-begins-behind : (n : ℕ) (entries more entries' : List Entry) → entries' ≡ entries ++ more → BeginsWithStarts n entries → BeginsWithStarts n entries'
+pub begins-behind : (n : ℕ) (entries more entries' : List Entry) → entries' ≡ entries ++ more → BeginsWithStarts n entries → BeginsWithStarts n entries'
 begins-behind n entries more entries' is begins =
     let events = map (λ (e : Entry). e.event) more in (
       begins.0 ++ events,
@@ -93,19 +94,29 @@ begins-behind n entries more entries' is begins =
           ∙ append_assoc (starts_of n) begins.0 events,
     )
 
+started-if : (n : RunNumbers) (told : Option FrontTold) (entries : List Entry) → BeginsWithStarts (first_children n) entries
+    → IfSome told (IsStartedFirst n entries)
+started-if n None entries begins = tt
+started-if n (Some t) entries begins = λ waited. begins
+
+-- they stay the first ones
+pub begins-acts : (n : RunNumbers) (past : Past) (who : ℕ) (es : List Event) (a b : SeenBook) → Acts who es None a b
+    → BeginsWithStarts (first_children n) (entries_behind past a) → BeginsWithStarts (first_children n) (entries_behind past b)
+begins-acts n past who es a b acts begins =
+    begins-behind (first_children n) (entries_behind past a) acts.entries.0 (entries_behind past b) (entries-acts who es None a b acts past.entries) begins
+
 -- a pass did something, and so the run stands then
 pub whole-acts : (known : Option KnownOutside) (o : Opening) (n : RunNumbers) (past : Past) (spare owed : ℕ) (who : ℕ) (es : List Event) (a b : SeenListener)
     → Acts who es None a.board.book b.board.book → IsOpenedBy a.config o → AreTimely a.board.book.base a.board.book.history
     → StandsOn known a.config spare owed (stands_at a) (stands_at b)
     → StaysWatching a.front.told b.front.told a.board.book b.board.book
     → ((s : State) (history : List Entry) → IsPatientRun a.front.told a.calls s history → IsPatientRun b.front.told b.calls s history)
-    → KeepsWhole known o n past 0 0 a → KeepsWhole known o n past spare owed b
-whole-acts known o n past spare owed who es a b acts opened timely stands watched patient whole = record {
+    → BeginsWithStarts (first_children n) (entries_behind past a.board.book) → KeepsWhole known o n past 0 0 a → KeepsWhole known o n past spare owed b
+whole-acts known o n past spare owed who es a b acts opened timely stands watched patient begins whole = record {
   stands = stands o n past opened timely whole.stands;
   rows = ap (λ (s : State). length s.rows) acts.base ∙ whole.rows;
-  begins =
-      begins-behind (first_children n) (entries_behind past a.board.book) acts.entries.0 (entries_behind past b.board.book)
-      (entries-acts who es None a.board.book b.board.book acts past.entries) whole.begins;
+  started =
+      started-if n b.front.told (entries_behind past b.board.book) (begins-acts n past who es a.board.book b.board.book acts begins);
   watched = watched past.entries whole.watched;
   patient = λ none. patient (opened_by n) past.entries (whole.patient none);
 }
@@ -120,11 +131,6 @@ patient-all o n past l base first second steady =
     all-both (IsPatientEvent steady.comings steady.front.waits) (opened_by n) past.entries l.board.book.history (first steady)
     (subst (λ (s : State). AllAt (IsPatientEvent steady.comings steady.front.waits) s l.board.book.history) base (second steady))
 
-started-if : (n : RunNumbers) (told : Option FrontTold) (entries : List Entry) → BeginsWithStarts (first_children n) entries
-    → IfSome told (IsStartedFirst n entries)
-started-if n None entries begins = tt
-started-if n (Some t) entries begins = λ waited. begins
-
 pub past-base : (known : Option KnownOutside) (o : Opening) (n : RunNumbers) (past : Past) (spare owed : ℕ) (s : Standing)
     → StandsSo known o n past spare owed s → s.book.base ≡ after (opened_by n) past.entries
 past-base known o n past spare owed s stands =
@@ -134,7 +140,7 @@ pub keeps-up : (known : Option KnownOutside) (o : Opening) (n : RunNumbers) (pas
     → (IfSome o.front.told HasNothingCome → IsPatientRun l.front.told l.calls l.board.book.base l.board.book.history)
     → KeepsUp o n l (entries_behind past l.board.book)
 keeps-up known o n past spare owed l whole patient = record {
-  started = started-if n l.front.told (entries_behind past l.board.book) whole.begins;
+  started = whole.started;
   watched = whole.watched;
   patient =
       λ none. patient-all o n past l (past-base known o n past spare owed (stands_at l) whole.stands) (whole.patient none) (patient none);
@@ -181,43 +187,57 @@ none-answered : (calls : Option (List (ℕ × ℕ))) → IfSome calls (λ calls.
 none-answered None unasked = tt
 none-answered (Some calls) unasked = sym (ap answers_of unasked)
 
--- children were started
+-- what was brought at the start
+pub begun-pace : (known : Option KnownOutside) (o : Opening) (n : RunNumbers) (l : SeenListener) (b : SeenBoard) → IsBegun known o n l
+    → StartsSome l.board.book b.book → b.book.state.moment ≡ l.board.book.state.moment
+    → IsOnPace n (record l { board = b }) (entries_behind nothing_past b.book)
+begun-pace known o n l b begun starts moment =
+    let none : brought l.board.book.history ≡ [] = ap (λ (x : SeenBook). brought x.history) begun.book in
+    record {
+      shares = [];
+      front = none-shared n.slots l.front.told begun.unused;
+      clock = none-answered l.calls begun.unasked;
+      first = length starts.children;
+      brought_is =
+          brought-as _ None l.board.book b.book (replicate (length starts.children) moved) starts.acts (brings-starts starts.children)
+          ∙ ap (λ (xs : List Brought). xs ++ replicate (length starts.children) moved) none
+          ∙ sym (append-nil (replicate (length starts.children) moved));
+      moment = moment ∙ ap (λ (x : SeenBook). x.state.moment) begun.book;
+    }
+
+-- and all else, where the children that were started at first are so
+pub begun-keeps : (known : Option KnownOutside) (o : Opening) (n : RunNumbers) (l : SeenListener) (b : SeenBoard) → IsOpenedBy l.config o → IsBegun known o n l
+    → StartsSome l.board.book b.book → StandsOn known l.config 0 0 (stands_at l) (stands_at (record l { board = b }))
+    → StaysWatching l.front.told l.front.told l.board.book b.book → IfSome l.front.told (IsStartedFirst n (entries_behind nothing_past b.book))
+    → KeepsWhole known o n nothing_past 0 0 (record l { board = b })
+begun-keeps known o n l b opened begun starts stands watched started = record {
+  stands = stands o n nothing_past opened (timely-begun known o n l l begun (λ before. before)) begun.stands;
+  rows =
+      ap (λ (s : State). length s.rows) starts.acts.base
+      ∙ ap (λ (x : SeenBook). length x.base.rows) begun.book
+      ∙ length-replicate n.slots unused_row;
+  started = started;
+  watched = watched [] (first-watches l n l.front.told begun.book begun.unused);
+  patient = λ none steady. tt;
+}
+
+-- the children were started
 pub whole-begun : (known : Option KnownOutside) (o : Opening) (n : RunNumbers) (l m : SeenListener) → IsOpenedBy l.config o → IsBegun known o n l
-    → m ≡ record l { board = m.board } → (starts : StartsSome l.board.book m.board.book) → BeginsWithStarts (asked_children l.board.book.base) m.board.book.history
+    → m ≡ record l { board = m.board } → StartsSome l.board.book m.board.book → BeginsWithStarts (asked_children l.board.book.base) m.board.book.history
     → m.board.book.state.moment ≡ l.board.book.state.moment → StandsOn known l.config 0 0 (stands_at l) (stands_at (record l { board = m.board }))
     → StaysWatching l.front.told l.front.told l.board.book m.board.book → IsWhole known o n m
 whole-begun known o n l m opened begun is starts first moment stands watched =
-    let there : SeenListener = record l { board = m.board } in
-    let none : brought l.board.book.history ≡ [] = ap (λ (b : SeenBook). brought b.history) begun.book in
-    let timely = timely-begun known o n l l begun (λ before. before) in
+    let begins : BeginsWithStarts (first_children n) m.board.book.history =
+    subst (λ (count : ℕ). BeginsWithStarts count m.board.book.history)
+    (ap (λ (x : SeenBook). asked_children x.base) begun.book ∙ ap (min n.shape.target) (length-replicate n.children no_child)) first in
     subst (IsWhole known o n) (sym is)
     (record {
       past = nothing_past;
       keeps =
-          record {
-            stands = stands o n nothing_past opened timely begun.stands;
-            rows =
-                ap (λ (s : State). length s.rows) starts.acts.base
-                ∙ ap (λ (b : SeenBook). length b.base.rows) begun.book
-                ∙ length-replicate n.slots unused_row;
-            begins =
-                subst (λ (count : ℕ). BeginsWithStarts count m.board.book.history)
-                (ap (λ (b : SeenBook). asked_children b.base) begun.book ∙ ap (min n.shape.target) (length-replicate n.children no_child)) first;
-            watched = watched [] (first-watches l n l.front.told begun.book begun.unused);
-            patient = λ none steady. tt;
-          };
-      pace =
-          record {
-            shares = [];
-            front = none-shared n.slots l.front.told begun.unused;
-            clock = none-answered l.calls begun.unasked;
-            first = length starts.children;
-            brought_is =
-                brought-as _ None l.board.book m.board.book (replicate (length starts.children) moved) starts.acts (brings-starts starts.children)
-                ∙ ap (λ (xs : List Brought). xs ++ replicate (length starts.children) moved) none
-                ∙ sym (append-nil (replicate (length starts.children) moved));
-            moment = moment ∙ ap (λ (b : SeenBook). b.state.moment) begun.book;
-          };
+          begun-keeps known o n l m.board opened begun starts stands watched
+          (started-if n l.front.told (entries_behind nothing_past m.board.book) begins);
+      begins = begins;
+      pace = begun-pace known o n l m.board begun starts moment;
     })
 
 -- ## The service
@@ -256,7 +276,7 @@ whole-folded known o n a b listens opened timely patient whole =
           record {
             stands = folded.stands;
             rows = listens.rows ∙ keeps.rows;
-            begins = subst (BeginsWithStarts (first_children n)) (sym same) keeps.begins;
+            started = subst (λ (es : List Entry). IfSome a.front.told (IsStartedFirst n es)) (sym same) keeps.started;
             watched =
                 subst (λ (es : List Entry). IfSome a.front.told (WatchesAll b.book.state es)) (sym same)
                 (subst (λ (s : State). IfSome a.front.told (WatchesAll s (entries_behind whole.past a.board.book))) (sym listens.state) keeps.watched);
@@ -265,6 +285,7 @@ whole-folded known o n a b listens opened timely patient whole =
                 (subst (IsPatientRun a.front.told a.calls (opened_by n)) (sym same)
                 (patient-all o n whole.past a (past-base known o n whole.past 0 0 (stands_at a) keeps.stands) (keeps.patient none) (patient none)));
           };
+      begins = subst (BeginsWithStarts (first_children n)) (sym same) whole.begins;
       pace =
           subst (IsOnPace n (record a { board = b })) (sym same)
           (record {

@@ -14,11 +14,13 @@ use Rattle.rounds.specs.declared.ends.End.{End}
 use Rattle.rounds.specs.declared.ends.End.TheVariants as end
 use Rattle.rounds.specs.declared.ends.Rest.{Rest}
 use Rattle.rounds.specs.Moments.{known_slots, moment_for}
-use Rattle.rounds.specs.PartsInside.{NoneHas}
+use Rattle.rounds.specs.PartsInside.{NoneHas, StartsSome}
+use Rattle.rounds.specs.Started.{BeginsWithStarts}
+use Rattle.listener.specs.StartedFirst.{IsStartedFirst, first_children}
 use Rattle.listener.specs.declared.listen.Pause.{Pause}
 use Rattle.listener.specs.declared.run_numbers.RunNumbers.{RunNumbers}
 use Rattle.listener.specs.Generations.{Opening}
-use Rattle.listener.specs.ListenInside.{HasNoneToHeed, IsAtStart, StaysWatching}
+use Rattle.listener.specs.ListenInside.{HasNoneToHeed, HasNotBegun, IsAtStart, StaysWatching}
 use Rattle.listener.specs.Pace.{AreSharesOfAll, Brought, Share, answers_in, brought, made_from, made_of, moment_behind, moment_by, moved, ordered}
 use Rattle.listener.specs.ShareInside.{ComesWith, EndsUntaken, TurnsMake}
 use Rattle.listener.specs.Times.{answers_of}
@@ -40,7 +42,7 @@ use Rattle.listener.proofs.StandingTurnLemmas.{StandsStep, stands-acted, stands-
 use Rattle.listener.proofs.TurnLemmas.{DidSome, HasBrokenOff, HasGoneRound, HasKept, HasServedRows, HasTakenIn}
 use Rattle.listener.proofs.WaitLemmas.{HasWaited}
 use Rattle.listener.proofs.WatchLemmas.{nobody-served, watched-as, watched-both, watched-wait}
-use Rattle.listener.proofs.WholeLemmas.{IsOnPace, IsShared, IsWhole, KeepsWhole, WholeFrom, keeps-up, pace-kept, timely-begun, whole-acts}
+use Rattle.listener.proofs.WholeLemmas.{IsOnPace, IsShared, IsWhole, KeepsWhole, WholeFrom, begins-acts, begun-keeps, begun-pace, keeps-up, nothing_past, pace-kept, timely-begun, whole-acts}
 
 -- ## Where the turns end
 
@@ -129,25 +131,25 @@ module _ (steps : ActsInSteps) (known : Option KnownOutside) (rest : Rest) (paus
 
   -- all but the pace, of a round
   keeps-round : (spare owed : ℕ) (b : SeenListener) → DidSome w.board.book b.board.book → HasTakenIn w b → StandsStep known spare owed w b
-      → (o : Opening) (n : RunNumbers) (past : Past) → IsOpenedBy first.config o → IsBegun known o n first → KeepsWhole known o n past 0 0 a
-      → KeepsWhole known o n past spare owed b
-  keeps-round spare owed b did took stands o n past opened begun before =
+      → (o : Opening) (n : RunNumbers) (past : Past) → IsOpenedBy first.config o → IsBegun known o n first
+      → BeginsWithStarts (first_children n) (entries_behind past a.board.book) → KeepsWhole known o n past 0 0 a → KeepsWhole known o n past spare owed b
+  keeps-round spare owed b did took stands o n past opened begun begins before =
       whole-acts known o n past spare owed 0 did.events a b (subst (λ (x : SeenBook). Acts 0 did.events None x b.board.book) book_is did.acts) (opened-a o opened)
       (timely-begun known o n first a begun kept.timely) (stands-then rest pause known spare owed a w b waited stands)
       (watched-both a.front.told w.front.told b.front.told a.board.book a.board.book b.board.book
       (watched-wait _ _ _ _ a.front.told w.front.told a.board.book waited.waits.tells)
       (subst (λ (x : SeenBook). StaysWatching w.front.told b.front.told x b.board.book) book_is took.watched))
-      (λ s history. patience-past rest pause a w b waited took.front took.calls s history) before
+      (λ s history. patience-past rest pause a w b waited took.front took.calls s history) begins before
 
   -- and of a wait behind which nothing was done
-  keeps-idle : NoneHas a.board.book → (o : Opening) (n : RunNumbers) (past : Past) → IsOpenedBy first.config o → IsBegun known o n first → KeepsWhole known o n past 0 0 a
-      → KeepsWhole known o n past 0 0 w
-  keeps-idle free o n past opened begun before =
+  keeps-idle : NoneHas a.board.book → (o : Opening) (n : RunNumbers) (past : Past) → IsOpenedBy first.config o → IsBegun known o n first
+      → BeginsWithStarts (first_children n) (entries_behind past a.board.book) → KeepsWhole known o n past 0 0 a → KeepsWhole known o n past 0 0 w
+  keeps-idle free o n past opened begun begins before =
       whole-acts known o n past 0 0 0 [] a w (subst (Acts 0 [] None a.board.book) (sym book_is) (steps.none 0 None a.board.book (free 0))) (opened-a o opened)
       (timely-begun known o n first a begun kept.timely) (stands-waited rest pause known a w waited)
       (λ old all. subst (λ (x : SeenBook). IfSome w.front.told (WatchesAll x.state (old ++ x.history))) (sym book_is)
       (watched-wait _ _ _ _ a.front.told w.front.told a.board.book waited.waits.tells old all))
-      (λ s history. patience-past rest pause a w w waited (only-takes _ _ (takes-same _)) refl s history) before
+      (λ s history. patience-past rest pause a w w waited (only-takes _ _ (takes-same _)) refl s history) begins before
 
   -- ## The share
 
@@ -198,7 +200,7 @@ module _ (steps : ActsInSteps) (known : Option KnownOutside) (rest : Rest) (paus
   whole-round b gone did o n opened begun =
       let before = whole o n opened begun in
       let pace = before.pace in
-      let keeps = keeps-round 0 0 b did gone.took gone.stands o n before.past opened begun before.keeps in
+      let keeps = keeps-round 0 0 b did gone.took gone.stands o n before.past opened begun before.begins before.keeps in
       let s = gone.share.share in
       let s' = share_for pause.woke pause.moment s in
       let comes = gone.share.comes in
@@ -209,6 +211,9 @@ module _ (steps : ActsInSteps) (known : Option KnownOutside) (rest : Rest) (paus
       record {
         past = before.past;
         keeps = keeps;
+        begins =
+            begins-acts n before.past 0 did.events a.board.book b.board.book (subst (λ (x : SeenBook). Acts 0 did.events None x b.board.book) book_is did.acts)
+            before.begins;
         pace =
             record {
               shares = pace.shares ++ s' ∷ [];
@@ -244,7 +249,7 @@ module _ (steps : ActsInSteps) (known : Option KnownOutside) (rest : Rest) (paus
       ∙ ap (λ (zs : List Brought). zs ++ broken.share.missing) (sym added) ∙ broken.share.made) in
       record {
         past = before.past;
-        keeps = keeps-round 1 0 b did broken.took broken.stands o n before.past opened begun before.keeps;
+        keeps = keeps-round 1 0 b did broken.took broken.stands o n before.past opened begun before.begins before.keeps;
         pace =
             record {
               shares = pace.shares ++ s' ∷ [];
@@ -285,7 +290,7 @@ module _ (steps : ActsInSteps) (known : Option KnownOutside) (rest : Rest) (paus
       (sym (append_assoc (brought w.board.book.history) xs stop) ∙ ap (λ (zs : List Brought). zs ++ stop) (sym added) ∙ gone.share.made.1) in
       record {
         past = before.past;
-        keeps = keeps-round 0 1 b did gone.took gone.stands o n before.past opened begun before.keeps;
+        keeps = keeps-round 0 1 b did gone.took gone.stands o n before.past opened begun before.begins before.keeps;
         pace =
             record {
               shares = pace.shares ++ s' ∷ [];
@@ -320,7 +325,7 @@ module _ (steps : ActsInSteps) (known : Option KnownOutside) (rest : Rest) (paus
       let xs = made_of w.board.book.state.moment quiet in
       record {
         past = before.past;
-        keeps = keeps-round 0 0 b did gone.took gone.stands o n before.past opened begun before.keeps;
+        keeps = keeps-round 0 0 b did gone.took gone.stands o n before.past opened begun before.begins before.keeps;
         pace =
             record {
               shares = pace.shares ++ s' ∷ [];
@@ -355,7 +360,7 @@ module _ (steps : ActsInSteps) (known : Option KnownOutside) (rest : Rest) (paus
       let xs = made_of w.board.book.state.moment s in
       record {
         past = before.past;
-        keeps = keeps-round 0 0 b did gone.took gone.stands o n before.past opened begun before.keeps;
+        keeps = keeps-round 0 0 b did gone.took gone.stands o n before.past opened begun before.begins before.keeps;
         pace =
             record {
               shares = pace.shares ++ s' ∷ [];
@@ -419,7 +424,7 @@ module _ (steps : ActsInSteps) (known : Option KnownOutside) (rest : Rest) (paus
       let before = whole o n opened begun in
       record {
         past = before.past;
-        keeps = keeps-idle free o n before.past opened begun before.keeps;
+        keeps = keeps-idle free o n before.past opened begun before.begins before.keeps;
         pace = idle-pace (Ok end.Ended) none unready o n before (λ made ends. ends);
       }
 
@@ -428,7 +433,7 @@ module _ (steps : ActsInSteps) (known : Option KnownOutside) (rest : Rest) (paus
       let before = whole o n opened begun in
       record {
         past = before.past;
-        keeps = keeps-idle free o n before.past opened begun before.keeps;
+        keeps = keeps-idle free o n before.past opened begun before.begins before.keeps;
         pace = idle-pace (Ok end.Failed) none unready o n before (λ made ends. ends);
       }
 
@@ -455,22 +460,48 @@ whole-served steps known first a b kept whole served o n opened begun =
           (stands-acted known 1 did.events None a b.board did.acts none served.rest.going)
           (watched-as a.front.told a.board.book b.board.book
           (nobody-served 1 did.events None a.board.book b.board.book (λ (same : 1 ≡ 0). cc) did.acts) served.rest.accepted)
-          (λ s history patient. patient) before.keeps;
+          (λ s history patient. patient) before.begins before.keeps;
+      begins = begins-acts n before.past 1 did.events a.board.book b.board.book did.acts before.begins;
       pace = pace-kept n a there before.past refl refl brings served.rest.moment before.pace;
     })
+
+-- where the store may have been renewed once more
+spared : (known : Option KnownOutside) (o : Opening) (n : RunNumbers) (past : Past) (now : SeenListener) → KeepsWhole known o n past 0 0 now
+    → KeepsWhole known o n past 1 0 now
+spared known o n past now keeps = record {
+  stands = so-broken known o n past (stands_at now) keeps.stands;
+  rows = keeps.rows;
+  started = keeps.started;
+  watched = keeps.watched;
+  patient = keeps.patient;
+}
 
 -- turns that were broken off so
 pub ends-done : (known : Option KnownOutside) (fault : BoardFault) (first now : SeenListener) → WholeFrom known first now → EndsFrom known (Err fault) first now
 ends-done known fault first now whole o n opened begun =
     let before = whole o n opened begun in
     record { past = before.past; keeps = spared known o n before.past now before.keeps; pace = pace-done n fault now (entries_behind before.past now.board.book) before.pace }
-  where
-    spared : (known : Option KnownOutside) (o : Opening) (n : RunNumbers) (past : Past) (now : SeenListener) → KeepsWhole known o n past 0 0 now
-        → KeepsWhole known o n past 1 0 now
-    spared known o n past now keeps = record {
-      stands = so-broken known o n past (stands_at now) keeps.stands;
-      rows = keeps.rows;
-      begins = keeps.begins;
-      watched = keeps.watched;
-      patient = keeps.patient;
-    }
+
+-- ## The start
+
+-- where a child could not be started the front wasn't waited for yet
+unwaited : (n : RunNumbers) (told : Option FrontTold) (entries : List Entry) → IfSome told HasNotBegun → IfSome told (IsStartedFirst n entries)
+unwaited n None entries unused = tt
+unwaited n (Some t) entries unused = λ waited. absurd (waited unused.waits)
+
+-- turns that were broken off then
+pub begun-broken : (known : Option KnownOutside) (o : Opening) (n : RunNumbers) (fault : BoardFault) (l m : SeenListener) → IsOpenedBy l.config o
+    → IsBegun known o n l → m ≡ record l { board = m.board } → StartsSome l.board.book m.board.book → m.board.book.state.moment ≡ l.board.book.state.moment
+    → StandsStep known 0 0 l (record l { board = m.board }) → StaysWatching l.front.told l.front.told l.board.book m.board.book
+    → EndsWhole known o n (Err fault) m
+begun-broken known o n fault l m opened begun is starts moment stands watched =
+    let there : SeenListener = record l { board = m.board } in
+    let keeps =
+    begun-keeps known o n l m.board opened begun starts stands watched
+    (unwaited n l.front.told (entries_behind nothing_past m.board.book) begun.unused) in
+    subst (EndsWhole known o n (Err fault)) (sym is)
+    (record {
+      past = nothing_past;
+      keeps = spared known o n nothing_past there keeps;
+      pace = pace-done n fault there (entries_behind nothing_past m.board.book) (begun-pace known o n l m.board begun starts moment);
+    })
