@@ -7,16 +7,13 @@ use Rattle.conn_machine.specs.declared.state.State.{State}
 use Rattle.conn_machine.specs.Folds.{fold_of}
 use Rattle.conn_machine.specs.Made.{AreMade}
 use Rattle.conn_machine.specs.Runs.{after, entries_of}
-use Rattle.conn_state.specs.Answered.{SeenEnded}
 use Rattle.conn_state.specs.Known.{KnownOutside}
-use Rattle.board.specs.Board.{AreClosed, EndedOfOutside, SeenBoard}
+use Rattle.board.specs.Board.{AreClosed, SeenBoard}
 use Rattle.board.specs.Book.{SeenBook, folded_book}
 use Rattle.board.specs.ReportLine.{line_of}
 use Rattle.listener.specs.FirstNumbers.{folded_by, opened_by}
-use Rattle.listener.specs.FirstNumbersInside.{IsFoldedOf}
 use Rattle.listener.specs.FoldsInside.{FoldsJoin, ShowsForFolds}
 use Rattle.listener.specs.Listen.{HasFolded}
-use Rattle.listener.specs.Served.{whole_book}
 use Rattle.rounds.specs.Timely.{AreTimely, IsTimely}
 use Rattle.listener.specs.declared.run_numbers.RunNumbers.{RunNumbers}
 use Rattle.rounds.proofs.TimelyLemmas.{all-both}
@@ -72,23 +69,3 @@ pub has-joined : FoldsJoin → (known : Option KnownOutside) (n : RunNumbers) (b
 unfolding joined
 has-joined joins known n b shows f passes timely =
     record { whole = joined joins known n b shows f passes timely; entries_are = refl; ended_are = refl }
-
--- the whole run of a board, as one that a fold leaves, whose last connections that ended are those that are kept; those before them are of
--- the outside in some book
-pub record WholeRun (known : Option KnownOutside) (n : RunNumbers) (b : SeenBoard) : Type 0 where
-  pub whole : HasFolded n (folded_book (map line_of b.ended) b.book)
-  pub book : SeenBook
-  pub before : List SeenEnded
-  pub outside : EndedOfOutside known book before
-  pub ended_is : whole.ended ≡ before ++ b.ended
-
-pub whole-run : FoldsJoin → (known : Option KnownOutside) (n : RunNumbers) (b : SeenBoard) → ShowsForFolds known b → IsFoldedOf known n b.book
-    → AreTimely b.book.base b.book.history → WholeRun known n b
-unfolding joined
-whole-run joins known n b shows before timely = record {
-  whole = joined joins known n b shows before.folded before.passes timely;
-  book = whole_book n before.folded.entries;
-  before = before.folded.ended;
-  outside = before.outside;
-  ended_is = refl;
-}

@@ -34,7 +34,6 @@ pub mod StandingFoldLemmas
 pub mod StandingLemmas
 pub mod StandingPartLemmas
 pub mod StandingTurnLemmas
-pub mod StartedFirstLemmas
 pub mod StartedLemmas
 pub mod StoodLemmas
 pub mod StopLemmas
