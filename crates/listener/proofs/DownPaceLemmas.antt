@@ -106,7 +106,7 @@ answers-moved (Some calls) before last moves are =
 -- ## What the end brings
 
 -- what stops the server, and the children that are let go of then
-down-brings : (turns : Result End BoardFault) (b d : SeenBook) → (down : GoesDown turns b d)
+pub down-brings : (turns : Result End BoardFault) (b d : SeenBook) → (down : GoesDown turns b d)
     → brought d.history ≡ brought b.history ++ (map ordered (stopped_by turns) ++ replicate (length down.retires.children) moved)
 down-brings turns b d down =
     brought-as _ None down.closed d (replicate (length down.retires.children) moved) down.retires.acts (brings-retires down.retires.children)

@@ -19,7 +19,7 @@ use Rattle.listener.specs.Pace.{Brought, Share, brought, made_of, moved, ordered
 use Rattle.listener.specs.ShareInside.{ComesWith, CutsShare, DoesAllButOne, DoesAsked, HandsMany, HushesFor, MakesShare, ReadsFor, TakesAllButOne, TakesHanded}
 use Rattle.listener.proofs.BroughtLemmas.{brings-readies, brings-retires, brings-starts, brings-time, brought-as, brought-kept, moves-both, unbrought-departures, unbrought-gone, unbrought-held}
 use Rattle.listener.proofs.HandedLemmas.{counts-both, counts-same}
-use Rattle.listener.proofs.LineLemmas.{reads-none}
+use Rattle.listener.proofs.LineLemmas.{read-none}
 
 -- ## Of what is brought
 
