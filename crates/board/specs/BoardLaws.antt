@@ -18,6 +18,7 @@ use Rattle.conn_state.specs.Answered.{SeenEnded}
 use Rattle.conn_state.specs.Conn.{SeenConn}
 use Rattle.conn_state.specs.Known.{KnownOutside}
 use Rattle.conn_state.specs.Turns.{TakesNote}
+use Rattle.board.specs.Backed.{AllBacked}
 use Rattle.board.specs.Board.{AreClosed, AreEnded, EndedOfOutside}
 use Rattle.board.specs.Book.{SeenBook}
 use Rattle.board.specs.Editions.{KeepsEditions}
@@ -81,6 +82,14 @@ pub record EndedConnectionsJoin : Type 0 where
   pub many : (base : State) (history : List Entry) (ended : List SeenEnded)
       → AreClosed base history ended
       → length ended ≡ count_events is_close history
+
+-- of each connection that ended in a run from the opening state the link backs its waits
+abbrev pub EndedConnectionsAreBacked : Type 0
+EndedConnectionsAreBacked =
+    (slots children : ℕ) (shape : Shape) (history : List Entry) (ended : List SeenEnded)
+    → Run (opening_state slots children shape) history
+    → AreClosed (opening_state slots children shape) history ended
+    → AllBacked history ended
 
 -- a connection that took the note of the response that was decided for it still fits its row
 abbrev pub AnsweredConnectionsFitTheirRows : Type 0

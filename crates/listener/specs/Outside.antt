@@ -3,6 +3,7 @@ use Rattle.std.specs.Prelude.{◌≡◌, ℕ, List, Option, option_map, is_some,
 use Rattle.mpm_base.specs.Front.{FrontSeen, FrontTold}
 use Rattle.board.specs.Board.{SeenBoard}
 use Rattle.listener.specs.Commands.{HeedsLines}
+use Rattle.listener.specs.Counted.{CountsRun}
 use Rattle.listener.specs.Links.{KeepsLinks}
 use Rattle.listener.specs.Patient.{IsPatientFrom}
 use Rattle.listener.specs.StartedFirst.{IsStartedFirst}
@@ -27,13 +28,14 @@ pub record KeepsFront (n : RunNumbers) (b : SeenBoard) (t : FrontTold) : Type 0 
 
 -- the same, and of any front and clock: the clock was told what the waits gave; the ticks and signals of the history come from both;
 -- over a patient front, of which nothing had come at first, and a clock that answers what it is told, time passed in the history only where
--- nothing was left to be done; and the server stopped for what the front shows
+-- nothing was left to be done; the server stopped for what the front shows; and the front counted what the run did
 pub record KeepsOutside (n : RunNumbers) (f f' : FrontSeen) (calls : Option (List (ℕ × ℕ))) (b : SeenBoard) : Type 0 where
   pub front : IfSome f'.told (KeepsFront n b)
   pub time : IsInTime (waits_of f'.told) calls
   pub informed : WasInformed (waits_of f'.told) calls b.book
   pub patient : IsPatientFrom f.told f'.told calls b.book
   pub stopped : StoppedFor f f' b.book.state
+  pub counted : CountsRun b.book f.counts f'.counts
 
 -- what the clients of a front send, in the order of arrival, where it tells that
 abbrev pub clients_told : Option FrontTold → Option (List (List ℕ))

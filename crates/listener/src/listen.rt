@@ -5,13 +5,15 @@
 //! state it says no more than where it stands in the end, and what the listener alone changes: the moment, how many connections
 //! were taken, which generation is the newest, and how the server goes on. What all orders did since the run opened goes on from
 //! where it stood (`specs/StandingInside.antt`).
-ghost use Rattle.std.specs.Prelude.{◌≡◌, ◌<◌, [], None, true, is_some, max, IfOk, IfErr, IfSome, MatchResult, OnErr, OnOk};
+ghost use Rattle.std.specs.Prelude.{◌≡◌, ◌<◌, ◌≤◌, [], None, true, is_some, max, IfOk, IfErr, IfSome, MatchResult, OnErr, OnOk};
 ghost use Rattle.mpm_base.specs.Count.{next_count};
 ghost use Rattle.mpm_base.specs.Front.{TellsOn, Waits, after_hush};
 ghost use Rattle.conn_state.specs.Known.{IsOfClient};
 ghost use Rattle.board.specs.Finds.{acceptable, next_deadline_of};
 ghost use Rattle.board.specs.Book.{row_in};
+ghost use Rattle.board.specs.Editions.{orders_in};
 ghost use Rattle.worker_group.specs.Service.{IsUp, LeavesRest, RefusalLasts};
+ghost use Rattle.listener.specs.CountedInside.{ClocksOn, CountsOn, CountsUntil, KeepsClockFrom, LacksLink, MovesClock};
 ghost use Rattle.listener.specs.ListenInside.{AsksFor, Follows, HandsOut, HasNoneToHeed, IsArrival, IsInStep, IsKnownOfFront, IsWatching, ListensAsServed, OnlyReadsAndTakes, OnlyTakes, TakesInTo, TellsAlike, TookAll};
 ghost use Rattle.rounds.specs.TableInside.{IsOpening, IsRestful, asked_children};
 ghost use Rattle.listener.specs.OrdersInside.{KnowsComing, ServesNewest};
@@ -66,6 +68,8 @@ impl<'a, 'c, L: Link + Send, N: Known, B: Bell, G: Gate> Listener<'a, 'c, L, N, 
             let now = listener_of self.new.board (F.seen front.new)
             (C.told clock.new) self.new.ready self.new.edition (D.seen store.new) self.new.config in
             HasListened N.known first now }
+        ensures clock { KeepsClockFrom (C.greatest clock.old) (C.greatest clock.new)
+            self.old.board.book.state self.new.board.book.state }
     {
         let turns = self.take_turns(rt, store, front, clock);
         self.hush(front);
@@ -102,6 +106,8 @@ impl<'a, 'c, L: Link + Send, N: Known, B: Bell, G: Gate> Listener<'a, 'c, L, N, 
             let now = listener_of self.new.board (F.seen front.new)
             (C.told clock.new) self.new.ready self.new.edition (D.seen store.new) self.new.config in
             AreOver N.known result first now }
+        ensures clock { ClocksOn result (C.greatest clock.old) (C.greatest clock.new)
+            self.old.board.book.state self.new.board.book.state }
     {
         generations_keep_their_editions();
         histories_join();
@@ -215,6 +221,14 @@ impl<'a, 'c, L: Link + Send, N: Known, B: Bell, G: Gate> Listener<'a, 'c, L, N, 
         ensures moment { OnOk result
             (self.new.board.book.state.moment ≡ max self.old.board.book.state.moment
             (moment_for moment)) }
+        ensures stays { OnErr result
+            (self.new.board.book.state.moment ≤ max self.old.board.book.state.moment
+            (moment_for moment)) }
+        ensures counts { let old = (F.seen front.old).counts in
+            let new = (F.seen front.new).counts in
+            MatchResult result
+            (λ ended. CountsOn (owed_at ended) old new self.old.board.book self.new.board.book)
+            (λ fault. CountsUntil old new self.old.board.book self.new.board.book) }
         ensures step { OnOk result (IsInStep (F.seen front.new).told self.new.board.book.state) }
         ensures ends { IfOk result
             (λ ended. TakesInTo ended (F.seen front.old) (F.seen front.new)
@@ -273,6 +287,11 @@ impl<'a, 'c, L: Link + Send, N: Known, B: Bell, G: Gate> Listener<'a, 'c, L, N, 
         ensures moment { self.new.board.book.state.moment ≡ self.old.board.book.state.moment }
         ensures step { OnOk result (IsInStep (F.seen front.new).told self.new.board.book.state) }
         ensures taken { OnOk result (TookAll (F.seen front.new).told self.new.board.book.state) }
+        ensures counts { let old = (F.seen front.old).counts in
+            let new = (F.seen front.new).counts in
+            MatchResult result
+            (λ done. CountsOn 0 old new self.old.board.book self.new.board.book)
+            (λ fault. CountsUntil old new self.old.board.book self.new.board.book) }
         ensures follows { Follows (F.seen front.old) (F.seen front.new) }
         ensures front { TellsOn OnlyTakes (F.seen front.old).told (F.seen front.new).told }
         ensures watched { IsWatching (F.seen front.old).told self.old.board.book
@@ -328,6 +347,10 @@ impl<'a, 'c, L: Link + Send, N: Known, B: Bell, G: Gate> Listener<'a, 'c, L, N, 
         ensures moment { self.new.board.book.state.moment ≡ self.old.board.book.state.moment }
         ensures taken { OnOk result
             (self.new.board.book.state.accepted ≡ next_count self.old.board.book.state.accepted) }
+        ensures counts { (F.seen front.new).counts ≡ (F.seen front.old).counts }
+        ensures orders { orders_in self.new.board.book ≡ orders_in self.old.board.book }
+        ensures lacks { OnErr result
+            (LacksLink self.old.board.book.state self.new.board.book.state) }
         ensures step { OnOk result
             (IsInStep (F.seen front.old).told self.new.board.book.state → IsInStep
             (F.seen front.new).told self.new.board.book.state) }
@@ -383,6 +406,8 @@ fn take_pause<R: Wait, L: Link + Send, F: Front<L = L>, C: Clock>(
         ready.new }
     ensures asks { AsksFor result.woke present (C.told clock.old) (C.told clock.new) result.moment }
     ensures clock { is_some (C.told clock.new) ≡ is_some (C.told clock.old) }
+    ensures moves { MovesClock result.woke present
+        (C.greatest clock.old) (C.greatest clock.new) result.moment }
 {
     let woke = front.wait(rt, rest.until, rest.quiet, ready);
     Pause {
@@ -393,7 +418,8 @@ fn take_pause<R: Wait, L: Link + Send, F: Front<L = L>, C: Clock>(
 
 /// The moment behind a wait: what the clock says where the wait gave one, and else the present one.
 fn moment_of<C: Clock>(clock: &mut C, woke: Woke, present: Moment) -> Moment
-    ensures { AsksFor woke present (C.told clock.old) (C.told clock.new) result }
+    ensures asks { AsksFor woke present (C.told clock.old) (C.told clock.new) result }
+    ensures moves { MovesClock woke present (C.greatest clock.old) (C.greatest clock.new) result }
 {
     match woke {
         Woke::Woke(at) => clock.now(at),

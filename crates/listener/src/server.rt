@@ -9,6 +9,7 @@ ghost use Rattle.listener.specs.FirstNumbers as opening;
 ghost use Rattle.listener.specs.OrdersInside.{known_outside, opening_by};
 ghost use Rattle.listener.specs.Generations.{head_limits_of};
 ghost use Rattle.listener.specs.StandingInside.{HasStood, standing};
+ghost use Rattle.listener.specs.Counted.{KeepsClock};
 ghost use Rattle.listener.specs.Links.{EndsLinks};
 ghost use Rattle.listener.specs.Listen.{HasClosedAll, IsRunFrom};
 ghost use Rattle.rounds.specs.ClosedDown.{IsClosedDown};
@@ -97,6 +98,9 @@ pub fn run_server<
         (F.seen front.new) (C.told clock.new) s.board) }
     ensures follows { Follows (F.seen front.old) (F.seen front.new) }
     ensures still { is_some (C.told clock.new) ≡ is_some (C.told clock.old) }
+    ensures clocked { IfOk result
+        (λ s. KeepsClock s.board.book.state (C.greatest clock.old) (C.greatest clock.new)) }
+    ensures unclocked { OnErr result (C.greatest clock.new ≡ C.greatest clock.old) }
     ensures written { IfOk result
         (λ s. WritesAll (K.seen out.old) (K.seen out.new) text.now s.written) }
     ensures faults { IfOk result (λ s. NeverFalls (K.seen out.old).faults (K.seen out.new).faults) }

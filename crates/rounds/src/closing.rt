@@ -8,6 +8,7 @@ ghost use Rattle.conn_machine.specs.Table.{is_allowed, next};
 ghost use Rattle.conn_machine.specs.declared.event.Event.TheVariants as event;
 ghost use Rattle.conn_state.specs.Answered.{MayLinger};
 ghost use Rattle.conn_state.specs.declared.turn.LastLinger.TheVariants as linger;
+ghost use Rattle.board.specs.Backed.{BacksWait};
 ghost use Rattle.board.specs.Faults.{IsRefusedFor};
 ghost use Rattle.board.specs.Finds.{has_to_be_drained, is_late, is_let_go};
 ghost use Rattle.board.specs.Book.{row_in};
@@ -206,6 +207,7 @@ fn linger_on<L: Link, N: Known>(
     requires allowed { is_halted board.old.book.state.going ≡ false
         → is_allowed board.old.book.state (event.Park conn.name kind) ≡ true }
     requires late { conn.linger ≡ linger.NotReady }
+    requires backed { BacksWait kind board.old.book.state conn }
     ensures parked { OnOk result
         (Acts 0 (event.Park conn.name kind ∷ []) None board.old.book board.new.book) }
     ensures state { OnOk result

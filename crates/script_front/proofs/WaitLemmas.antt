@@ -204,4 +204,6 @@ waits old mid new until quiet answer ready passed was now taken passed_so is pla
       accept_faults = refl;
       ends = rises;
       commands = ap (λ (t : FrontTold). t.read) kept;
+      words = ap (λ (f : SeenFront). f.words) is ∙ rest.words;
+      handed = ap (λ (t : FrontTold). t.accepted) kept;
     }

@@ -25,7 +25,14 @@ failing_front_seen f =
     record {
       script = Some f.front.script;
       told = Some f.front.told;
-      counts = record { faults = f.faults; accept_faults = f.accept_faults; ends = f.front.ends; commands = f.front.told.read };
+      counts = record {
+        faults = f.faults;
+        accept_faults = f.accept_faults;
+        ends = f.front.ends;
+        commands = f.front.told.read;
+        words = f.front.words;
+        handed = f.front.told.accepted;
+      };
     }
 
 -- no line has happened, and no call was made

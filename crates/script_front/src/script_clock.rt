@@ -1,6 +1,6 @@
 //! The clock that goes with the front of a script.
-ghost use Rattle.std.specs.Prelude.{◌≡◌, Some, [], ◌∷◌, ◌++◌};
-ghost use Rattle.mpm_base.specs.Clock.{Answers, AreEchoes};
+ghost use Rattle.std.specs.Prelude.{◌≡◌, Some, [], ◌∷◌, ◌++◌, max};
+ghost use Rattle.mpm_base.specs.Clock.{Answers, AreEchoes, greatest_answer};
 
 use http_server::Log;
 use mpm_base::{Clock, Moment};
@@ -42,10 +42,15 @@ impl ScriptClock {
 }
 
 impl Clock for ScriptClock {
+    ghost use Rattle.mpm_base.specs.Clock.{greatest_answer};
+
     ghost told = { λ c. Some c };
+
+    ghost greatest = { λ c. greatest_answer c };
 
     fn now(&mut self, at: Moment) -> Moment
         ensures told { Answers (Some self.old) (Some self.new) at result }
+        ensures most { greatest_answer self.new ≡ max (greatest_answer self.old) result }
         ensures same { result ≡ at }
     {
         self.calls = self.calls.and(&at, &at);

@@ -1,5 +1,5 @@
 //! The clock of the system.
-ghost use Rattle.std.specs.Prelude.{◌≡◌, ◌≤◌, None, IfSome};
+ghost use Rattle.std.specs.Prelude.{◌≡◌, ◌≤◌, None, IfSome, max};
 ghost use Rattle.std.specs.Duration.{as_nanos};
 ghost use Rattle.mpm_base.specs.Clock.{Answers};
 ghost use Rattle.mpm_base.specs.Moment.{greatest_moment};
@@ -17,7 +17,7 @@ struct Start {
 }
 
 /// The system's time when it began, and the time that passed since by the clock that never goes back. Copies of it go on from
-/// the same start. It tells nothing.
+/// the same start. It tells nothing; as it never goes back, its last answer is its greatest.
 #[derive(Drop)]
 pub struct SystemClock<'a, T: time::Clock> {
     time: &'a T,
@@ -102,8 +102,11 @@ pub fn clock_answer(last: Moment, at: Moment, reading: Option<Moment>) -> Moment
 impl<'a, T: time::Clock> Clock for SystemClock<'a, T> {
     ghost told = { λ c. None };
 
+    ghost greatest = { λ c. c };
+
     fn now(&mut self, at: Moment) -> Moment
         ensures clock { Answers None None at result }
+        ensures most { self.new ≡ max self.old result }
         ensures never_back { self.old ≤ result }
         ensures last { self.new ≡ result }
     {

@@ -9,6 +9,7 @@ ghost use Rattle.conn_state.specs.declared.turn.LastLinger.TheVariants as linger
 ghost use Rattle.conn_state.specs.Answered.{MayLinger};
 ghost use Rattle.conn_state.specs.Conn.{is_half_closed, is_usable};
 ghost use Rattle.conn_state.specs.Turns.{ShutsOn};
+ghost use Rattle.board.specs.Backed.{BacksWait};
 ghost use Rattle.board.specs.Book.{book_with_entry, row_in};
 ghost use Rattle.board.specs.Editions.{IsOfGeneration};
 ghost use Rattle.board.specs.Faults.{IsRefusedFor};
@@ -225,6 +226,7 @@ pub fn park<L: Link, N: Known>(
         conn.site }
     requires settled { IsSettled kind None conn }
     requires turned { FoundNoMore kind conn }
+    requires backed { BacksWait kind board.old.book.state conn }
     ensures parked { OnOk result
         (Acts who (event.Park conn.name kind ∷ []) None board.old.book board.new.book) }
     ensures given_up { IfErr result

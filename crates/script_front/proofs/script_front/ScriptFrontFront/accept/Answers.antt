@@ -40,6 +40,8 @@ returns-clause-accepts c =
       accept_faults = omega arith;
       ends = refl;
       commands = refl;
+      words = refl;
+      handed = (omega arith, λ below. omega arith);
     })
 
 pub returns-clause-link : goal.returns-clause-link

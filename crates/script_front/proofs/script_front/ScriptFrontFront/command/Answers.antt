@@ -48,4 +48,6 @@ returns-clause-commands c =
       accept_faults = refl;
       ends = refl;
       commands = (omega (arith, next.some, c.self.invariant.commands.came, brings-within s.script s.happened), λ below. omega (arith, below));
+      words = c.count.ensures;
+      handed = refl;
     })
