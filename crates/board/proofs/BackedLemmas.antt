@@ -1,7 +1,11 @@
 -- Waits that the links of connections back: of one that waits on, and of those that ended.
-use Rattle.std.proofs.Common.{◌≡◌, ℕ, List, [], ◌∷◌, ◌++◌, Option, Some, refl, sym, ap, subst, ◌∙◌, append_assoc, append-nil}
+use Rattle.std.proofs.Common.{◌≡◌, ℕ, ◌+◌, ◌<◌, ◌≤◌, Bool, true, false, cond, List, [], ◌∷◌, ◌++◌, count_by, Option, Some, refl, sym, ap, subst, ◌∙◌, append_assoc, append-nil, arith}
+use Rattle.std.proofs.lemmas.List.Sums.{sum_by-append, sum_by-cons}
+use Rattle.mpm_base.specs.Count.{NeverFalls, Rises, greatest_count}
+use Rattle.mpm_base.specs.Link.{LinkCounts}
 use Rattle.mpm_base.specs.declared.conn.ConnName.{ConnName}
 use Rattle.mpm_base.specs.declared.conn.Kind.{Kind}
+use Rattle.mpm_base.specs.declared.conn.Kind.TheVariants.{Reading, KeepAlive, Writing, Linger, ShortLinger}
 use Rattle.mpm_base.specs.declared.conn.Cause.{Cause}
 use Rattle.mpm_base.specs.declared.conn.Tail.{Tail}
 use Rattle.mpm_base.specs.declared.shape.Shape.{Shape}
@@ -18,7 +22,7 @@ use Rattle.conn_machine.specs.Table.{next}
 use Rattle.conn_machine.specs.Waits.{waits_in, waits_of}
 use Rattle.conn_state.specs.Answered.{SeenEnded}
 use Rattle.conn_state.specs.Conn.{SeenConn}
-use Rattle.board.specs.Backed.{AllBacked, AreBacked, BacksWait}
+use Rattle.board.specs.Backed.{AllBacked, AreBacked, BacksWait, waits_to_read, waits_to_write}
 use Rattle.board.specs.Board.{AreClosed, ClosesFirst}
 use Rattle.board.specs.Fits.{IsClosing}
 
@@ -28,6 +32,87 @@ pub backs-row : (kind : Kind) (s : State) (c : SeenConn) (r : Row) → live_row 
 backs-row kind s c r found backs =
     let same : backs.row ≡ r = cc (backs.found, found) in
     subst (λ (x : Row). AreBacked (x.waits ++ kind ∷ []) c.counts) same backs.backed
+
+-- ## Counts of waits
+
+-- one more kind of a list passes a test, or as many
+count-last : (test : Kind → Bool) (waits : List Kind) (kind : Kind) (b : Bool) → test kind ≡ b
+    → count_by test (waits ++ kind ∷ []) ≡ count_by test waits + cond b 1 0
+count-last test waits kind b is =
+    let both : count_by test (waits ++ kind ∷ []) ≡ count_by test waits + count_by test (kind ∷ []) =
+    sum_by-append (λ (k : Kind). cond (test k) 1 0) waits (kind ∷ []) in
+    let last : count_by test (kind ∷ []) ≡ cond (test kind) 1 0 + count_by test [] = sum_by-cons (λ (k : Kind). cond (test k) 1 0) kind [] in
+    let one : cond (test kind) 1 0 ≡ cond b 1 0 = ap (λ (t : Bool). cond t 1 0) is in
+    omega (arith, both, last, one)
+
+-- a wait for something to read isn't one for room
+reads-only : (kind : Kind) → waits_to_read kind ≡ true → waits_to_write kind ≡ false
+reads-only Reading is = refl
+reads-only KeepAlive is = refl
+reads-only Writing is = absurd (cc)
+reads-only Linger is = refl
+reads-only ShortLinger is = refl
+
+-- nor the other way round
+writes-only : (kind : Kind) → waits_to_write kind ≡ true → waits_to_read kind ≡ false
+writes-only Reading is = absurd (cc)
+writes-only KeepAlive is = absurd (cc)
+writes-only Writing is = refl
+writes-only Linger is = absurd (cc)
+writes-only ShortLinger is = absurd (cc)
+
+-- ## Waits
+
+-- what was backed is so still where no count fell
+pub backed-on : (waits : List Kind) (old new : LinkCounts) → NeverFalls old.late_reads new.late_reads → NeverFalls old.late_writes new.late_writes
+    → AreBacked waits old → AreBacked waits new
+backed-on waits old new reads writes backed = record {
+  reads = λ below.
+      let before : count_by waits_to_read waits ≤ old.late_reads + 1 = backed.reads (omega (arith, below, reads)) in
+      omega (arith, before, reads);
+  writes = λ below.
+      let before : count_by waits_to_write waits ≤ old.late_writes = backed.writes (omega (arith, below, writes)) in
+      omega (arith, before, writes);
+}
+
+-- a read that was not ready backs one more wait for something to read
+pub backed-read : (waits : List Kind) (kind : Kind) (old new : LinkCounts) → waits_to_read kind ≡ true → Rises old.late_reads new.late_reads
+    → NeverFalls old.late_writes new.late_writes → AreBacked waits old → AreBacked (waits ++ kind ∷ []) new
+backed-read waits kind old new is reads writes backed = record {
+  reads = λ below.
+      let earlier : old.late_reads < greatest_count = omega (arith, below, reads.0) in
+      let before : count_by waits_to_read waits ≤ old.late_reads + 1 = backed.reads earlier in
+      let rose : old.late_reads < new.late_reads = reads.1 earlier in
+      omega (arith, count-last waits_to_read waits kind true is, before, rose);
+  writes = λ below.
+      let before : count_by waits_to_write waits ≤ old.late_writes = backed.writes (omega (arith, below, writes)) in
+      omega (arith, count-last waits_to_write waits kind false (reads-only kind is), before, writes);
+}
+
+-- and a write that was not ready one more for room
+pub backed-write : (waits : List Kind) (kind : Kind) (old new : LinkCounts) → waits_to_write kind ≡ true → NeverFalls old.late_reads new.late_reads → Rises old.late_writes new.late_writes
+    → AreBacked waits old → AreBacked (waits ++ kind ∷ []) new
+backed-write waits kind old new is reads writes backed = record {
+  reads = λ below.
+      let before : count_by waits_to_read waits ≤ old.late_reads + 1 = backed.reads (omega (arith, below, reads)) in
+      omega (arith, count-last waits_to_read waits kind false (writes-only kind is), before, reads);
+  writes = λ below.
+      let earlier : old.late_writes < greatest_count = omega (arith, below, writes.0) in
+      let before : count_by waits_to_write waits ≤ old.late_writes = backed.writes earlier in
+      let rose : old.late_writes < new.late_writes = writes.1 earlier in
+      omega (arith, count-last waits_to_write waits kind true is, before, rose);
+}
+
+-- none needs none
+pub backed-none : (counts : LinkCounts) → AreBacked [] counts
+backed-none counts = record { reads = λ below. omega (arith); writes = λ below. omega (arith) }
+
+-- nor does the first one for something to read
+pub backed-first : (counts : LinkCounts) → AreBacked (Reading ∷ []) counts
+backed-first counts =
+    let one = count-last waits_to_read [] Reading true refl in
+    let none = count-last waits_to_write [] Reading false refl in
+    record { reads = λ below. omega (arith, one); writes = λ below. omega (arith, none) }
 
 -- ## Connections that ended
 

@@ -22,6 +22,7 @@ ghost use Rattle.rounds.specs.TableInside.{NoneOverdue};
 
 use crate::ends::LISTENER;
 use crate::showing::show_state;
+use board::laws::waits_are_backed_by_calls;
 use board::{Board, BoardFault};
 use conn_machine::laws_of_runs::{histories_join, rows_change_one_at_a_time};
 use conn_state::laws::{lingering_connections_keep_their_cause, untouched_connections_may_be_late};
@@ -166,6 +167,7 @@ fn drain<L: Link, N: Known>(board: &mut Board<L, N>, name: ConnName) -> Result<(
     rows_change_one_at_a_time();
     passes_act_in_steps();
     lingering_connections_keep_their_cause();
+    waits_are_backed_by_calls();
     board.show();
     let (Some(cause), Some(kind)) = (board.cause(name), board.kind(name)) else {
         unreachable!()

@@ -21,7 +21,7 @@ ghost use Rattle.worker_group.specs.Service.{EndsOut, ExitsAfter, HasServed, IsM
 ghost use Rattle.worker_group.specs.ServiceInside.{MayLeave};
 
 use crate::hands::Hands;
-use board::laws::generations_keep_their_editions;
+use board::laws::{generations_keep_their_editions, waits_are_backed_by_calls};
 use board::{Board, BoardFault};
 use conn_state::{Conn, Known, ReadTurn, WriteTurn};
 use mpm_base::{Ask, Bell, Cause, ConnName, Gate, Kind, Link, NoMemory, Tail};
@@ -117,6 +117,7 @@ fn serve_once<L: Link, N: Known>(
     ensures fewer { IfNone result
         (sends_left board.new.book.state conn.new < sends_left board.old.book.state conn.old) }
 {
+    waits_are_backed_by_calls();
     board.show();
     match conn.write_turn() {
         WriteTurn::Done => (),

@@ -79,7 +79,7 @@ returns-in-More-clause-may g c =
         none_kept = sym c.rest_empty.ensures.kept ∙ c.if-rest_empty.true;
       },
       grind (arith, nat_tests, c.noted.ensures, c.if-noted.true),
-      backs-read c.args.board.now.book.state c.write_turn.new.self c.read_turn.new.self KeepAlive served.row refl served.found served.fits.backed
+      backs-read c.waits_are_backed_by_calls.ensures c.args.board.now.book.state c.write_turn.new.self c.read_turn.new.self KeepAlive served.row refl served.found served.fits.backed
           c.in-More.ensures.reads,
     )
 
@@ -89,7 +89,7 @@ returns-in-More-2-clause-may g c =
       served-read c.args.board.now.book.state c.write_turn.new.self c.read_turn.new.self read.More served c.in-More-2.ensures.reads refl,
       inr c.in-More-2.ensures.reads.turn,
       tt,
-      backs-read c.args.board.now.book.state c.write_turn.new.self c.read_turn.new.self Reading served.row refl served.found served.fits.backed
+      backs-read c.waits_are_backed_by_calls.ensures c.args.board.now.book.state c.write_turn.new.self c.read_turn.new.self Reading served.row refl served.found served.fits.backed
           c.in-More-2.ensures.reads,
     )
 
@@ -99,7 +99,7 @@ returns-in-NotReady-clause-may g c =
       served-written c.args.board.now.book.state c.args.conn.now c.write_turn.new.self write.NotReady served c.in-NotReady.ensures refl,
       c.in-NotReady.ensures.turn,
       tt,
-      backs-write c.args.board.now.book.state c.args.conn.now c.write_turn.new.self served.row served.found served.fits.backed c.in-NotReady.ensures,
+      backs-write c.waits_are_backed_by_calls.ensures c.args.board.now.book.state c.args.conn.now c.write_turn.new.self served.row served.found served.fits.backed c.in-NotReady.ensures,
     )
 
 pub returns-in-More-clause-acts : goal.returns-in-More-clause-acts
