@@ -172,7 +172,7 @@ asks-ended false is = absurd (cc is)
 pub asks-stop : (ending : Bool) → asked_in ending (command_word word.Stop) ≡ []
 asks-stop ending = refl
 
-other-word : (line other : List ℕ) → line ≢ other → bytes_eq line other ≡ false
+pub other-word : (line other : List ℕ) → line ≢ other → bytes_eq line other ≡ false
 other-word line other differs = false_from_ne_true (bytes_eq line other) (λ same. differs ((bytes_eq-Decides line other).0 same))
 
 pub asks-nothing : (ending : Bool) (line : List ℕ) → ((w : CommandWord) → line ≢ command_word w) → asked_in ending line ≡ []

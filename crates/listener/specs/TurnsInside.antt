@@ -1,12 +1,11 @@
 -- What is seen of a listener with all that it works on, what it needs to take turns, and what its turns do.
-use Rattle.std.specs.Prelude.{◌≡◌, ◌<◌, ℕ, List, Option, Result, Ok, Err, Some, is_some, false, IfSome, OnErr, OnOk}
-use Rattle.mpm_base.specs.Front.{FrontCounts, FrontSeen}
+use Rattle.std.specs.Prelude.{◌≡◌, ◌<◌, ℕ, List, Option, Result, is_some, false, IfSome, OnErr, OnOk}
+use Rattle.mpm_base.specs.Front.{FrontSeen}
 use Rattle.mpm_base.specs.Store.{StoreSeen}
 use Rattle.conn_machine.specs.States.{is_halted}
 use Rattle.conn_state.specs.Known.{KnownOutside}
 use Rattle.board.specs.declared.faults.BoardFault.{BoardFault}
 use Rattle.board.specs.Board.{SeenBoard}
-use Rattle.board.specs.Book.{SeenBook}
 use Rattle.worker_group.specs.Service.{IsUp}
 use Rattle.rounds.specs.declared.ends.End.{End}
 use Rattle.rounds.specs.PartsInside.{NoneHas, StartsAsAsked}
@@ -14,12 +13,10 @@ use Rattle.rounds.specs.TableInside.{IsOpening}
 use Rattle.listener.specs.declared.edition.LoadedEdition.{LoadedEdition}
 use Rattle.listener.specs.declared.edition.NamedConfig.{NamedConfig}
 use Rattle.listener.specs.Commands.{HeedsLines}
-use Rattle.listener.specs.Counted.{CountsRun}
-use Rattle.listener.specs.CountedInside.{CountsOn, CountsSo, CountsUntil}
 use Rattle.listener.specs.ListenInside.{Follows, HandedOut, HandsOut, HasNoneToHeed, HasStarted, HasStopped, HeedsUntil, IsAtStart, IsInStep, ListensAsServed, TurnsEnd, TurnsInform, WatchesAll, contacts_of}
 use Rattle.listener.specs.OrdersInside.{KnowsComing, ServesNewest}
 use Rattle.listener.specs.Patient.{IsPatientRun}
-use Rattle.listener.specs.StandingInside.{Standing, StandsToEnd, TurnsStand, owed_at, standing}
+use Rattle.listener.specs.StandingInside.{Standing, StandsToEnd, TurnsStand, standing}
 use Rattle.listener.specs.Times.{IsInTime, IsInformed, WasInformed, waits_of}
 use Rattle.listener.specs.Watched.{IsHushed}
 
@@ -73,11 +70,6 @@ pub record MayListen (known : Option KnownOutside) (now : SeenListener) : Type 0
 
 -- ## What its turns do
 
--- the front counted on by turns that ended so: one line that says `stop`, where they ended for that
-abbrev pub TurnsCount : Result End BoardFault → FrontCounts → FrontCounts → SeenBook → SeenBook → Type 0
-TurnsCount (Ok end) old new a b = CountsOn (owed_at (Some end)) old new a b
-TurnsCount (Err fault) old new a b = CountsUntil old new a b
-
 -- its turns ended so, since it was the first: what all orders did goes on from where it stood, each child was started that was asked for, and
 -- no pass has a connection; and what the turns did with the front, the clock and the waits is what they ended with
 pub record AreOver (known : Option KnownOutside) (turns : Result End BoardFault) (first now : SeenListener) : Type 0 where
@@ -98,7 +90,6 @@ pub record AreOver (known : Option KnownOutside) (turns : Result End BoardFault)
   pub time : InTime first → InTime now
   pub patient : IsAtStart first.front.told first.board.book → HasPatience now
   pub ends : TurnsEnd turns first.front now.front now.board.book
-  pub counts : TurnsCount turns first.front.counts now.front.counts first.board.book now.board.book
   pub informed : TurnsInform turns (waits_of now.front.told) now.calls now.board.book
 
 -- it listened to the end, since it was the first: the same behind the stop of the server, which closed down, and the front listens no more
@@ -118,6 +109,3 @@ pub record HasListened (known : Option KnownOutside) (first now : SeenListener) 
   pub time : InTime first → InTime now
   pub patient : IsAtStart first.front.told first.board.book → HasPatience now
   pub informed : WasInformed (waits_of now.front.told) now.calls now.board.book
-  pub counts :
-      (counts : FrontCounts) → CountsSo 0 counts first.front.counts first.board.book
-      → CountsRun now.board.book counts now.front.counts

@@ -13,7 +13,7 @@ ghost use Rattle.board.specs.Finds.{acceptable, next_deadline_of};
 ghost use Rattle.board.specs.Book.{row_in};
 ghost use Rattle.board.specs.Editions.{orders_in};
 ghost use Rattle.worker_group.specs.Service.{IsUp, LeavesRest, RefusalLasts};
-ghost use Rattle.listener.specs.CountedInside.{ClocksOn, CountsOn, CountsUntil, KeepsClockFrom, LacksLink, MovesClock};
+ghost use Rattle.listener.specs.CountedInside.{ClocksOn, CountsOn, CountsToEnd, CountsUntil, KeepsClockFrom, LacksLink, MovesClock, TurnsCount};
 ghost use Rattle.listener.specs.ListenInside.{AsksFor, Follows, HandsOut, HasNoneToHeed, IsArrival, IsInStep, IsKnownOfFront, IsWatching, ListensAsServed, OnlyReadsAndTakes, OnlyTakes, TakesInTo, TellsAlike, TookAll};
 ghost use Rattle.rounds.specs.TableInside.{IsOpening, IsRestful, asked_children};
 ghost use Rattle.listener.specs.OrdersInside.{KnowsComing, ServesNewest};
@@ -27,7 +27,7 @@ ghost use Rattle.rounds.specs.Moments.{moment_for};
 use crate::folding::fold_history;
 use crate::listener_state::Listener;
 use board::BoardFault;
-use board::laws::generations_keep_their_editions;
+use board::laws::{generations_keep_their_editions, waits_are_backed_by_calls};
 use conn_machine::laws_of_runs::{histories_go_on_by_one_entry, histories_join};
 use conn_state::{Conn, Known};
 use file_table::Site;
@@ -63,11 +63,13 @@ impl<'a, 'c, L: Link + Send, N: Known, B: Bell, G: Gate> Listener<'a, 'c, L, N, 
         requires named { IsKnownOfFront N.known (F.seen front.old).told }
         requires may { MayListen N.known (listener_of self.old.board (F.seen front.old)
             (C.told clock.old) self.old.ready self.old.edition (D.seen store.old) self.old.config) }
-        ensures { let first = listener_of self.old.board (F.seen front.old)
+        ensures listened { let first = listener_of self.old.board (F.seen front.old)
             (C.told clock.old) self.old.ready self.old.edition (D.seen store.old) self.old.config in
             let now = listener_of self.new.board (F.seen front.new)
             (C.told clock.new) self.new.ready self.new.edition (D.seen store.new) self.new.config in
             HasListened N.known first now }
+        ensures counts { CountsToEnd (F.seen front.old).counts (F.seen front.new).counts
+            self.old.board.book self.new.board.book }
         ensures clock { KeepsClockFrom (C.greatest clock.old) (C.greatest clock.new)
             self.old.board.book.state self.new.board.book.state }
     {
@@ -101,11 +103,13 @@ impl<'a, 'c, L: Link + Send, N: Known, B: Bell, G: Gate> Listener<'a, 'c, L, N, 
         requires named { IsKnownOfFront N.known (F.seen front.old).told }
         requires may { MayListen N.known (listener_of self.old.board (F.seen front.old)
             (C.told clock.old) self.old.ready self.old.edition (D.seen store.old) self.old.config) }
-        ensures { let first = listener_of self.old.board (F.seen front.old)
+        ensures over { let first = listener_of self.old.board (F.seen front.old)
             (C.told clock.old) self.old.ready self.old.edition (D.seen store.old) self.old.config in
             let now = listener_of self.new.board (F.seen front.new)
             (C.told clock.new) self.new.ready self.new.edition (D.seen store.new) self.new.config in
             AreOver N.known result first now }
+        ensures counts { TurnsCount result (F.seen front.old).counts (F.seen front.new).counts
+            self.old.board.book self.new.board.book }
         ensures clock { ClocksOn result (C.greatest clock.old) (C.greatest clock.new)
             self.old.board.book.state self.new.board.book.state }
     {
@@ -369,6 +373,7 @@ impl<'a, 'c, L: Link + Send, N: Known, B: Bell, G: Gate> Listener<'a, 'c, L, N, 
         histories_go_on_by_one_entry();
         generations_keep_their_editions();
         passes_act_in_steps();
+        waits_are_backed_by_calls();
         let mut link = link;
         let taken = match accept(&mut self.board) {
             Ok(taken) => taken,
