@@ -1,5 +1,5 @@
 -- What a front and a clock counted where a run opens, in the parts of its turns, and at its end.
-use Rattle.std.proofs.Common.{◌≡◌, ◌⊎◌, inl, inr, ◌≤◌, ◌+◌, ℕ, Bool, true, false, cond, List, [], ◌∷◌, None, Option, Some, Result, Ok, Err, max, refl, sym, ap, subst, ◌∙◌, arith}
+use Rattle.std.proofs.Common.{◌≡◌, ◌⊎◌, inl, inr, IsErrAnd, ◌≤◌, ◌+◌, ℕ, Bool, true, false, cond, List, [], ◌∷◌, None, Option, Some, Result, Ok, Err, max, refl, sym, ap, subst, ◌∙◌, arith}
 use Rattle.std.proofs.lemmas.List.Sums.{sum_by-cons}
 use Rattle.mpm_base.specs.Count.{RisesJustBy}
 use Rattle.mpm_base.specs.Front.{FrontCounts, FrontSeen}
@@ -17,25 +17,30 @@ use Rattle.conn_machine.specs.declared.state.Going.TheVariants.{Ending, Halted, 
 use Rattle.conn_machine.specs.declared.state.State.{State}
 use Rattle.conn_machine.specs.Events.{count_events, is_order}
 use Rattle.conn_machine.specs.States.{is_over, is_serving}
+use Rattle.conn_state.specs.Known.{KnownOutside}
 use Rattle.board.specs.declared.faults.BoardFault.{BoardFault}
+use Rattle.board.specs.Board.{SeenBoard}
 use Rattle.board.specs.Book.{SeenBook}
 use Rattle.board.specs.Editions.{orders_in}
-use Rattle.worker_group.specs.Acts.{Acts}
+use Rattle.worker_group.specs.Acts.{Acts, ActsInSteps}
 use Rattle.worker_group.specs.Service.{LeavesRest}
 use Rattle.rounds.specs.declared.ends.End.{End}
 use Rattle.rounds.specs.declared.ends.End.TheVariants as end
 use Rattle.rounds.specs.EndsInside.{why_of}
 use Rattle.rounds.specs.Moments.{moment_for}
-use Rattle.rounds.specs.PartsInside.{GoesDown, StartsSome, halt_events, halts_for}
+use Rattle.rounds.specs.PartsInside.{GoesDown, ServesSome, StartsSome, halt_events, halts_for}
 use Rattle.run_report.specs.Endings.{HasEndedGracefully}
 use Rattle.listener.specs.Counted.{CountsRun, stops_at}
-use Rattle.listener.specs.CountedInside.{ClocksAt, ClocksOn, CountsBroken, CountsSo, CountsToEnd, IsAtClock, KeepsClockFrom, MovesClock, TurnsCount}
+use Rattle.listener.specs.CountedInside.{ClocksAt, ClocksOn, CountsBroken, CountsOn, CountsSo, CountsToEnd, CountsUntil, IsAtClock, KeepsClockFrom, MovesClock, TurnsCount}
 use Rattle.listener.specs.FirstNumbersInside.{opened_book}
+use Rattle.listener.specs.FoldsInside.{ListensOn}
 use Rattle.listener.specs.ListenInside.{TurnsEnd}
+use Rattle.listener.specs.StandingInside.{owed_at}
 use Rattle.listener.specs.declared.run_numbers.RunNumbers.{RunNumbers}
 use Rattle.rounds.proofs.AddedLemmas.{added-events, events_in}
-use Rattle.listener.proofs.CommandlessLemmas.{commandless-gone, commandless-retires, commandless-starts, orders-added, orders-kept}
-use Rattle.listener.proofs.CountedLemmas.{CountsAlike, just-as, just-none}
+use Rattle.rounds.proofs.PassLemmas.{serves-acts}
+use Rattle.listener.proofs.CommandlessLemmas.{AreCommandless, commandless-gone, commandless-retires, commandless-served, commandless-starts, orders-added, orders-kept}
+use Rattle.listener.proofs.CountedLemmas.{CountsAlike, counts-more, just-as, just-none}
 use Rattle.listener.proofs.PartLemmas.{ActsOrderless}
 
 -- ## The parts of turns
@@ -49,6 +54,35 @@ alike-orderless a b acts going accepted =
 pub alike-started : (a b : SeenBook) → StartsSome a b → LeavesRest a b → CountsAlike a b
 alike-started a b starts rest =
     record { orders = orders-kept 0 _ None a b starts.acts (commandless-starts starts.children); going = rest.going; accepted = rest.accepted }
+
+-- in a service
+pub alike-served : ActsInSteps → (a b : SeenBoard) → ServesSome a b → LeavesRest a.book b.book → CountsAlike a.book b.book
+alike-served steps a b serves rest =
+    let did = serves-acts steps a b serves in
+    let none : AreCommandless did.events =
+    subst AreCommandless (added-events 1 did.events None a.book b.book did.acts)
+    (commandless-served 1 did.events None a.book b.book (λ (same : 1 ≡ 0). cc) did.acts) in
+    record { orders = orders-kept 1 did.events None a.book b.book did.acts none; going = rest.going; accepted = rest.accepted }
+
+-- in a fold
+pub alike-folded : (known : Option KnownOutside) (a b : SeenBoard) → ListensOn known a b → CountsAlike a.book b.book
+alike-folded known a b listens = record {
+  orders = listens.orders;
+  going = ap (λ (s : State). s.going) listens.state;
+  accepted = ap (λ (s : State). s.accepted) listens.state;
+}
+
+-- what turns counted that ended for this
+pub counts-ending : (ended : Option End) (e : End) (x y z : FrontCounts) (a b c : SeenBook) → ended ≡ Some e → CountsOn 0 x y a b
+    → CountsOn (owed_at ended) y z b c → CountsOn (owed_at (Some e)) x z a c
+counts-ending ended e x y z a b c is on more =
+    counts-more (owed_at (Some e)) x y z a b c on (subst (λ (o : Option End). CountsOn (owed_at o) y z b c) is more)
+
+-- and those that were broken off
+pub turns-broken : (turns : Result End BoardFault) (fault : BoardFault) (old new : FrontCounts) (a b : SeenBook) → IsErrAnd turns (λ f. f ≡ fault)
+    → CountsUntil old new a b → TurnsCount turns old new a b
+turns-broken (Ok e) fault old new a b is until = absurd is
+turns-broken (Err f) fault old new a b is until = until
 
 -- ## The opening
 
@@ -171,6 +205,13 @@ counts-end (Err fault) old new f f' a b d counts ends down first so =
 
 -- ## The clock
 
+-- a moment that stayed, or passed, is not behind the greater one
+pub moment-stays : (s s' : State) (to : ℕ) → s'.moment ≡ s.moment → s'.moment ≤ max s.moment to
+moment-stays s s' to same = omega (arith, same)
+
+pub moment-passed : (s s' : State) (to : ℕ) → s'.moment ≡ max s.moment to → s'.moment ≤ max s.moment to
+moment-passed s s' to passed = omega (arith, passed)
+
 -- the moment behind a wait goes on with the clock
 pub clock-on : (answer : Woke) (present old new m : ℕ) (s s' : State) → MovesClock answer present old new m → present ≡ s.moment
     → s'.moment ≡ max s.moment (moment_for m) → ClocksAt old new s s'
@@ -200,6 +241,12 @@ clock-behind first greatest s s' same at = omega (arith, same, at)
 -- a moment that stays stays so
 pub clock-stays : (first greatest : ℕ) (s s' : State) → s'.moment ≡ s.moment → IsAtClock first greatest s → IsAtClock first greatest s'
 clock-stays first greatest s s' same at = omega (arith, same, at)
+
+-- so it is with turns that were broken off
+pub clocks-broken : (turns : Result End BoardFault) (fault : BoardFault) (old new : ℕ) (s s' : State) → IsErrAnd turns (λ f. f ≡ fault)
+    → ((first : ℕ) → IsAtClock first old s → s'.moment ≤ moment_for new) → ClocksOn turns old new s s'
+clocks-broken (Ok e) fault old new s s' is behind = absurd is
+clocks-broken (Err f) fault old new s s' is behind = behind
 
 -- to the end of a run
 pub clock-down : (turns : Result End BoardFault) (old new : ℕ) (a b d : SeenBook) → ClocksOn turns old new a.state b.state → GoesDown turns b d

@@ -18,7 +18,7 @@ use Rattle.conn_state.specs.Known.{KnownOutside}
 use Rattle.board.specs.Editions.{GenerationsKeepTheirEditions, KeepsEditions}
 use Rattle.listener.specs.Commands.{DoesLines}
 use Rattle.listener.specs.Runs.{KeepsLines}
-use Rattle.listener.specs.RunsInside.{HasRunBy}
+use Rattle.listener.specs.RunsInside.{BacksWaits, HasRunBy}
 use Rattle.listener.specs.FirstNumbers.{numbers_of}
 use Rattle.listener.specs.Generations.{Opening, renewed}
 use Rattle.listener.specs.Listen.{HasClosedAll, IsRunFrom}
@@ -90,8 +90,8 @@ module _ (keep : GenerationsKeepTheirEditions) (join : (known : Option KnownOuts
   -- a run that opened so, over the store and the front that it left so
   pub has-run-by : (o : Opening) (store : StoreSeen) (f : FrontSeen) (b : SeenBoard) → IsRunFrom (numbers_of o.config) b
       → HasStood (Some (known_outside o)) o (numbers_of o.config) (standing 0 store f b.book) → HasClosedAll b → AreOfOutside (Some (known_outside o)) b
-      → HasRunBy o store f b
-  has-run-by o store f b run stood closed outside =
+      → BacksWaits (numbers_of o.config) b → HasRunBy o store f b
+  has-run-by o store f b run stood closed outside backed =
       let n = numbers_of o.config in
       record {
         has_run = record {
@@ -100,6 +100,7 @@ module _ (keep : GenerationsKeepTheirEditions) (join : (known : Option KnownOuts
           closed = closed;
           ordered = stood.ordered;
           served = serves-editions keep join stay o n b stood.folded stood.outside outside.ended;
+          backed = backed stood.folded;
         };
         done = keeps-lines f.told (all_entries n b.book stood.folded) b stood.lines stood.each;
         given = stood.given;

@@ -15,6 +15,7 @@ ghost use Rattle.listener.specs.Listen.{HasClosedAll, IsRunFrom};
 ghost use Rattle.rounds.specs.ClosedDown.{IsClosedDown};
 ghost use Rattle.listener.specs.ListenInside.{Follows, IsUnopened, clients_known};
 ghost use Rattle.listener.specs.Outside.{KeepsOutside};
+ghost use Rattle.listener.specs.RunsInside.{BacksWaits};
 ghost use Rattle.rounds.specs.Started.{AreAskedFor};
 ghost use Rattle.listener.specs.Tells.{AllReceive};
 
@@ -23,7 +24,7 @@ use crate::folding::{folds_join, show_for_folds};
 use crate::listener_state::Listener;
 use crate::run_numbers::{RunNumbers, numbers_of};
 use board::Board;
-use board::laws::ended_links_are_of_closed_connections;
+use board::laws::{ended_connections_are_backed, ended_links_are_of_closed_connections};
 use conn_machine::laws::{accepted_connections_are_closed_or_live, events_keep_states_sound};
 use conn_machine::laws_of_runs::made_histories_are_runs;
 use conn_state::{Known, Nothing};
@@ -93,6 +94,8 @@ pub fn run_server<
         (standing 0 (D.seen store.new) (F.seen front.new) s.board.book)) }
     ensures closed { IfOk result (λ s. HasClosedAll s.board) }
     ensures edition { IfOk result (λ s. AreOfOutside N.known s.board) }
+    ensures backed { IfOk result
+        (λ s. BacksWaits (opening.numbers_of config.entry.config.now) s.board) }
     ensures outside { IfOk result
         (λ s. KeepsOutside (opening.numbers_of config.entry.config.now) (F.seen front.old)
         (F.seen front.new) (C.told clock.new) s.board) }
@@ -183,7 +186,9 @@ fn show_run<L: Link, N: Known>(board: &Board<L, N>, numbers: RunNumbers)
         → clients_known N.known ≡ Some clients
         → AllReceive clients board.now.ended }
     ensures outside { AreOfOutside N.known board.now }
+    ensures backed { BacksWaits numbers board.now }
 {
+    ended_connections_are_backed();
     events_keep_states_sound();
     accepted_connections_are_closed_or_live();
     ended_links_are_of_closed_connections();

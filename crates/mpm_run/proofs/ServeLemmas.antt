@@ -115,6 +115,7 @@ serves (Some b) call name c site loaded f f' calls status ready asked shows run 
         closed = ran.closed;
         ordered = ordered-reopened opening call.store f 0 0 (opened_by n) entries (sym asked.told) ran.ordered;
         served = served-reopened opening call.store f (whole_book n entries) (ran.folded.ended ++ b.ended) (sym asked.told) ran.served;
+        backed = ran.backed;
       };
       outside = outside;
       lines = run.done;

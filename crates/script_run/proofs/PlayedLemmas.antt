@@ -32,6 +32,7 @@ use Rattle.listener.specs.FirstNumbers.{numbers_of, opened_by}
 use Rattle.listener.specs.Generations.{Opening}
 use Rattle.listener.specs.Listen.{HasClosedAll, IsRunFrom}
 use Rattle.listener.specs.OrdersInside.{known_outside}
+use Rattle.listener.specs.RunsInside.{BacksWaits}
 use Rattle.listener.specs.Served.{all_entries, whole_book}
 use Rattle.listener.specs.StandingInside.{HasStood, standing}
 use Rattle.listener.specs.Tells.{AllReceive}
@@ -97,8 +98,8 @@ module _ (keep : GenerationsKeepTheirEditions) (join : (known : Option KnownOuts
       told ≡ editions_of lines → counts.faults ≡ 0 → f.told.clients ≡ clients_of lines → f'.told.clients ≡ clients_of lines
       → (b.book.state.going ≡ Halted why.FrontEnded → b.book.state.accepted ≡ f'.told.accepted) → IsRunFrom (numbers_of c) b
       → HasStood (Some (known_outside o)) o (numbers_of c) (standing 0 (telling_store store.told store.counts) (front_seen f') b.book) → HasClosedAll b
-      → AreOfOutside (Some (known_outside o)) b → HasRunScript lines c site b f' store
-  has-run_script lines c site told counts f f' b store is none clients clients' taken run stood closed outside =
+      → AreOfOutside (Some (known_outside o)) b → BacksWaits (numbers_of c) b → HasRunScript lines c site b f' store
+  has-run_script lines c site told counts f f' b store is none clients clients' taken run stood closed outside backed =
       let o : Opening = record { name = conf_name; config = c; site = site; store = telling_store told counts; front = front_seen f } in
       let known = Some (known_outside o) in
       let n = numbers_of c in
@@ -115,6 +116,7 @@ module _ (keep : GenerationsKeepTheirEditions) (join : (known : Option KnownOuts
           served =
               served-reopened o first front (whole_book n entries) (stood.folded.ended ++ b.ended) same
               (serves-editions keep join stay o n b stood.folded stood.outside outside.ended);
+          backed = backed stood.folded;
         };
         receive =
             subst (λ (sent : List (List ℕ)). AllReceive sent b.ended) clients

@@ -1,7 +1,9 @@
-use Rattle.std.proofs.Common.{subst}
+use Rattle.std.proofs.Common.{List, ◌++◌, subst}
+use Rattle.conn_machine.specs.declared.event.Entry.{Entry}
 use Rattle.conn_machine.specs.Made.{AreOfPasses}
+use Rattle.board.specs.Backed.{AllBacked}
 use Rattle.listener.specs.FirstNumbers.{folded_by, opened_by}
-use Rattle.listener.proofs.FoldedRunLemmas.{whole-run}
+use Rattle.listener.proofs.FoldedRunLemmas.{has-joined, whole-run}
 use Rattle.listener.proofs.RunLemmas.{closed-all, ends-links, known-receive, run-from}
 use Rattle.listener.proofs.TellLemmas.{tells-stop}
 use Rattle.listener.proofs.server.show_run.Goals as goal
@@ -40,3 +42,13 @@ returns-clause-links g c clients knows down =
 pub returns-clause-receive : goal.returns-clause-receive
 returns-clause-receive g c clients knows =
     known-receive g.N.Known.known clients c.args.board.now.book c.args.board.now.ended knows c.show.ensures.agrees.answered c.show.ensures.outside.ended
+
+pub returns-clause-backed : goal.returns-clause-backed
+returns-clause-backed g c before =
+    let n = c.args.numbers in
+    let b = c.args.board.now in
+    let joined = has-joined c.folds_join.ensures g.N.Known.known n b c.show_for_folds.ensures before c.requires.folded.passes c.requires.asked in
+    let is_run = c.made_histories_are_runs.ensures.run (opened_by n) (folded_by n) joined.whole.entries joined.whole.made in
+    subst (λ (entries : List Entry). AllBacked entries (before.ended ++ b.ended)) joined.entries_are
+    (subst (AllBacked joined.whole.entries) joined.ended_are
+    (c.ended_connections_are_backed.ensures n.slots n.children n.shape joined.whole.entries joined.whole.ended is_run joined.whole.closed))

@@ -13,7 +13,7 @@ returns-in-Ok-clause-run g c =
     let kept = c.in-Ok.ensures in
     has-run-by c.generations_keep_their_editions.ensures c.ended_connections_join.ensures.outside c.ended_connections_join.ensures.outside_stays
     (opening_by c.args.config c.args.edition (g.D.Store.seen c.args.store.now) (g.F.Front.seen c.args.front.now)) (g.D.Store.seen c.run_server-answer.new.store)
-    (g.F.Front.seen c.run_server-answer.new.front) c.in-Ok.served.board kept.run kept.stood kept.closed kept.edition
+    (g.F.Front.seen c.run_server-answer.new.front) c.in-Ok.served.board kept.run kept.stood kept.closed kept.edition kept.backed
 
 pub returns-in-Ok-clause-ends : goal.returns-in-Ok-clause-ends
 returns-in-Ok-clause-ends g c =

@@ -20,7 +20,7 @@ returns-in-Ok-answer-clause-kept g c =
     has-run_script c.generations_keep_their_editions.ensures c.ended_connections_join.ensures.outside c.ended_connections_join.ensures.outside_stays c.args.script
     c.args.config c.args.edition.site.value c.args.store.told c.args.store.counts c.in-Ok.front f b c.run_server-answer.new.store c.requires.store c.requires.faults
     (ap (λ (x : SeenFront). x.told.clients) c.in-Ok.ensures) (c.show.ensures.is.clients ∙ ap (λ (lines : List ScriptLine). clients_of lines) script)
-    (λ going. (ended going).taken) kept.run kept.stood kept.closed kept.edition
+    (λ going. (ended going).taken) kept.run kept.stood kept.closed kept.edition kept.backed
 
 pub returns-in-Ok-answer-clause-left : goal.returns-in-Ok-answer-clause-left
 returns-in-Ok-answer-clause-left g c =

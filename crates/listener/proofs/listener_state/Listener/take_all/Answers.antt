@@ -212,6 +212,6 @@ returns-in_err-take-in-Some-accept-clause-counts g c =
     c.take.ensures.going c.in_err-take-in-Some-accept.ensures.lacks) in
     search (rules, until)
 
-pub returns-in_err-Err-clause-counts : goal.returns-in_err-Err-clause-counts
-returns-in_err-Err-clause-counts g c =
+pub returns-in_default-clause-counts : goal.returns-in_default-clause-counts
+returns-in_default-clause-counts g c =
     counts-unbroken (g.F.Front.seen c.args.front.now).counts (g.F.Front.seen c.loop.front).counts c.args.self.now.board.book c.loop.self.board.book c.loop.invariant.counts

@@ -1,8 +1,9 @@
-use Rattle.std.proofs.Common.{ℕ, ◌<◌, List, None, true, false, inl, inr, ap, refl, sym, subst, ◌∙◌, rules}
+use Rattle.std.proofs.Common.{ℕ, ◌<◌, Bool, List, None, true, false, inl, inr, ap, refl, sym, subst, ◌∙◌, rules}
 use Rattle.conn_machine.specs.States.{is_halted}
 use Rattle.worker_group.specs.Acts.{Acts}
 use Rattle.rounds.specs.ClosingInside.{IsLateWay}
-use Rattle.listener.specs.OrdersInside.{KnowsComing, ServesNewest}
+use Rattle.listener.specs.CountedInside.{CountsOn, CountsUntil}
+use Rattle.listener.specs.OrdersInside.{KnowsComing, ServesNewest, owed_by}
 use Rattle.listener.specs.RoundInside.{BreaksOff}
 use Rattle.rounds.specs.PartsInside.{SignalsFirst, signal_events}
 use Rattle.listener.specs.StandingInside.{StandsBroken, standing}
@@ -10,6 +11,8 @@ use Rattle.rounds.specs.Moments.{moment_for}
 use Rattle.listener.specs.declared.edition.LoadedEdition.{LoadedEdition}
 use Rattle.listener.specs.declared.edition.NamedConfig.{NamedConfig}
 use Rattle.listener.proofs.CommandLemmas.{all-read, heeded-takes}
+use Rattle.listener.proofs.CountedEndLemmas.{alike-orderless, moment-passed, moment-stays}
+use Rattle.listener.proofs.CountedLemmas.{counts-alike, counts-more, counts-unbroken, counts-until, same-counts}
 use Rattle.listener.proofs.FrontLemmas.{both-only, follows-same, follows-trans, listens-takes, named-follows, only-reads, only-takes, step-kept, step-listens, takes-same}
 use Rattle.listener.proofs.LinkLemmas.{hands-step}
 use Rattle.listener.proofs.PartLemmas.{coming-orderless, newest-orderless, orderless-before, orderless-children, orderless-first, orderless-gone, orderless-more, orderless-retires, orderless-signals, orderless-takes, orderless-takes_until, orderless-time, orderless-until}
@@ -135,6 +138,13 @@ returns-in_err-pass_time g c =
       serves = search rules;
       up = ap is_halted (c.pass_time.ensures.going) ∙ c.requires.up;
       moment = search rules;
+      stays = on-err c.from_residual.result _ (moment-stays c.args.self.now.board.book.state c.pass_time.new.board.book.state (moment_for c.args.moment) (c.in_err-pass_time.ensures.stays));
+      counts =
+          let until : CountsUntil (g.F.Front.seen c.args.front.now).counts (g.F.Front.seen c.args.front.now).counts c.args.self.now.board.book c.pass_time.new.board.book =
+          counts-unbroken (g.F.Front.seen c.args.front.now).counts (g.F.Front.seen c.args.front.now).counts c.args.self.now.board.book c.pass_time.new.board.book
+          (counts-alike (g.F.Front.seen c.args.front.now).counts (g.F.Front.seen c.args.front.now).counts c.args.self.now.board.book c.pass_time.new.board.book (same-counts (g.F.Front.seen c.args.front.now).counts (g.F.Front.seen c.args.front.now).counts refl)
+          (alike-orderless c.args.self.now.board.book c.pass_time.new.board.book (orderless-gone c.args.self.now.board.book c.pass_time.new.board.book c.in_err-pass_time.ensures.refused) c.pass_time.ensures.going c.pass_time.ensures.taken)) in
+          search (rules, until);
       step = search rules;
       ends = search rules;
       unheeded = on-err c.from_residual.result _ c.requires.heeded;
@@ -158,6 +168,9 @@ returns-then-is_overdue g c =
       serves = newest-orderless c.generations_keep_their_editions.ensures g.N.Known.known c.args.self.now.board.book c.pass_time.new.board.book c.args.self.now.edition (orderless-time (moment_for c.args.moment) c.args.self.now.board.book c.pass_time.new.board.book c.in_ok-pass_time.ensures.passes) c.pass_time.ensures.newest c.requires.serves;
       up = ap is_halted (c.pass_time.ensures.going) ∙ c.requires.up;
       moment = search rules;
+      stays = search rules;
+      counts = (counts-alike (g.F.Front.seen c.args.front.now).counts (g.F.Front.seen c.args.front.now).counts c.args.self.now.board.book c.pass_time.new.board.book (same-counts (g.F.Front.seen c.args.front.now).counts (g.F.Front.seen c.args.front.now).counts refl)
+          (alike-orderless c.args.self.now.board.book c.pass_time.new.board.book (orderless-time (moment_for c.args.moment) c.args.self.now.board.book c.pass_time.new.board.book c.in_ok-pass_time.ensures.passes) c.pass_time.ensures.going c.pass_time.ensures.taken));
       step = (step-kept (g.F.Front.seen c.args.front.now).told c.args.self.now.board.book.state c.pass_time.new.board.book.state (c.pass_time.ensures.taken) (c.pass_time.ensures.going) c.requires.step);
       ends = (sym c.is_overdue.ensures ∙ c.if-is_overdue.true, c.requires.heeded);
       unheeded = search rules;
@@ -190,6 +203,13 @@ returns-in_err-signal_all g c =
       serves = search rules;
       up = ap is_halted (c.signal_all.ensures.rest.going ∙ c.pass_time.ensures.going) ∙ c.requires.up;
       moment = search rules;
+      stays = on-err c.from_residual-in_err-signal_all.result _ (moment-passed c.args.self.now.board.book.state c.signal_all.new.board.book.state (moment_for c.args.moment) (c.signal_all.ensures.rest.moment ∙ c.in_ok-pass_time.ensures.moment));
+      counts =
+          let until : CountsUntil (g.F.Front.seen c.args.front.now).counts (g.F.Front.seen c.args.front.now).counts c.args.self.now.board.book c.signal_all.new.board.book =
+          counts-unbroken (g.F.Front.seen c.args.front.now).counts (g.F.Front.seen c.args.front.now).counts c.args.self.now.board.book c.signal_all.new.board.book
+          (counts-alike (g.F.Front.seen c.args.front.now).counts (g.F.Front.seen c.args.front.now).counts c.args.self.now.board.book c.signal_all.new.board.book (same-counts (g.F.Front.seen c.args.front.now).counts (g.F.Front.seen c.args.front.now).counts refl)
+          (alike-orderless c.args.self.now.board.book c.signal_all.new.board.book (orderless-more c.passes_act_in_steps.ensures.acts c.args.self.now.board.book c.pass_time.new.board.book c.signal_all.new.board.book (orderless-time (moment_for c.args.moment) c.args.self.now.board.book c.pass_time.new.board.book c.in_ok-pass_time.ensures.passes) (orderless-first c.args.self.now.ready c.pass_time.new.board.book c.signal_all.new.board.book (subst (λ (xs : List ℕ). SignalsFirst xs c.pass_time.new.board.book c.signal_all.new.board.book) c.slots.ensures.is c.in_err-signal_all.ensures.first))) (c.signal_all.ensures.rest.going ∙ c.pass_time.ensures.going) (c.signal_all.ensures.rest.accepted ∙ c.pass_time.ensures.taken))) in
+          search (rules, until);
       step = search rules;
       ends = search rules;
       unheeded = on-err c.from_residual-in_err-signal_all.result _ c.requires.heeded;
@@ -225,6 +245,13 @@ returns-in_err-let_go_of_conns g c =
       serves = search rules;
       up = ap is_halted (c.let_go_of_conns.ensures.rest.going ∙ c.signal_all.ensures.rest.going ∙ c.pass_time.ensures.going) ∙ c.requires.up;
       moment = search rules;
+      stays = on-err c.from_residual-in_err-let_go_of_conns.result _ (moment-passed c.args.self.now.board.book.state c.let_go_of_conns.new.board.book.state (moment_for c.args.moment) (c.let_go_of_conns.ensures.rest.moment ∙ c.signal_all.ensures.rest.moment ∙ c.in_ok-pass_time.ensures.moment));
+      counts =
+          let until : CountsUntil (g.F.Front.seen c.args.front.now).counts (g.F.Front.seen c.args.front.now).counts c.args.self.now.board.book c.let_go_of_conns.new.board.book =
+          counts-unbroken (g.F.Front.seen c.args.front.now).counts (g.F.Front.seen c.args.front.now).counts c.args.self.now.board.book c.let_go_of_conns.new.board.book
+          (counts-alike (g.F.Front.seen c.args.front.now).counts (g.F.Front.seen c.args.front.now).counts c.args.self.now.board.book c.let_go_of_conns.new.board.book (same-counts (g.F.Front.seen c.args.front.now).counts (g.F.Front.seen c.args.front.now).counts refl)
+          (alike-orderless c.args.self.now.board.book c.let_go_of_conns.new.board.book (orderless-more c.passes_act_in_steps.ensures.acts c.args.self.now.board.book c.signal_all.new.board.book c.let_go_of_conns.new.board.book (orderless-more c.passes_act_in_steps.ensures.acts c.args.self.now.board.book c.pass_time.new.board.book c.signal_all.new.board.book (orderless-time (moment_for c.args.moment) c.args.self.now.board.book c.pass_time.new.board.book c.in_ok-pass_time.ensures.passes) (orderless-signals c.args.self.now.ready c.pass_time.new.board.book c.signal_all.new.board.book (subst (λ (xs : List ℕ). Acts 0 (signal_events c.pass_time.new.board.book xs) None c.pass_time.new.board.book c.signal_all.new.board.book) c.slots.ensures.is c.in_ok-signal_all.ensures.signals))) (orderless-until c.passes_act_in_steps.ensures.acts c.in_err-let_go_of_conns.field-0.0 c.signal_all.new.board.book c.let_go_of_conns.new.board.book c.in_err-let_go_of_conns.ensures.until)) (c.let_go_of_conns.ensures.rest.going ∙ c.signal_all.ensures.rest.going ∙ c.pass_time.ensures.going) (c.let_go_of_conns.ensures.rest.accepted ∙ c.signal_all.ensures.rest.accepted ∙ c.pass_time.ensures.taken))) in
+          search (rules, until);
       step = search rules;
       ends = search rules;
       unheeded = on-err c.from_residual-in_err-let_go_of_conns.result _ c.requires.heeded;
@@ -261,6 +288,14 @@ returns-in_err-asked g c =
       serves = search rules;
       up = c.heed.ensures.up;
       moment = search rules;
+      stays = on-err c.from_residual-in_err-asked.result _ (moment-passed c.args.self.now.board.book.state c.heed.new.self.board.book.state (moment_for c.args.moment) (c.heed.ensures.moment ∙ c.let_go_of_conns.ensures.rest.moment ∙ c.signal_all.ensures.rest.moment ∙ c.in_ok-pass_time.ensures.moment));
+      counts =
+          let until : CountsUntil (g.F.Front.seen c.args.front.now).counts (g.F.Front.seen c.heed.new.front).counts c.args.self.now.board.book c.heed.new.self.board.book =
+          counts-until (g.F.Front.seen c.args.front.now).counts (g.F.Front.seen c.args.front.now).counts (g.F.Front.seen c.heed.new.front).counts c.args.self.now.board.book c.let_go_of_conns.new.board.book c.heed.new.self.board.book
+          (counts-alike (g.F.Front.seen c.args.front.now).counts (g.F.Front.seen c.args.front.now).counts c.args.self.now.board.book c.let_go_of_conns.new.board.book (same-counts (g.F.Front.seen c.args.front.now).counts (g.F.Front.seen c.args.front.now).counts refl)
+          (alike-orderless c.args.self.now.board.book c.let_go_of_conns.new.board.book (orderless-before c.passes_act_in_steps.ensures.acts (moment_for c.args.moment) c.args.self.now.ready c.args.self.now.board.book c.pass_time.new.board.book c.signal_all.new.board.book c.let_go_of_conns.new.board.book c.in_ok-pass_time.ensures.passes (subst (λ (xs : List ℕ). Acts 0 (signal_events c.pass_time.new.board.book xs) None c.pass_time.new.board.book c.signal_all.new.board.book) c.slots.ensures.is c.in_ok-signal_all.ensures.signals) c.in_ok-let_go_of_conns.ensures.gone) (c.let_go_of_conns.ensures.rest.going ∙ c.signal_all.ensures.rest.going ∙ c.pass_time.ensures.going) (c.let_go_of_conns.ensures.rest.accepted ∙ c.signal_all.ensures.rest.accepted ∙ c.pass_time.ensures.taken)))
+          c.in_err-asked.ensures.counts in
+          search (rules, until);
       step = search rules;
       ends = search rules;
       unheeded = on-err c.from_residual-in_err-asked.result _ c.in_err-asked.ensures.unheeded;
@@ -290,6 +325,11 @@ returns-then-asked g c =
       serves = c.heed.ensures.serves;
       up = c.heed.ensures.up;
       moment = c.heed.ensures.moment ∙ c.let_go_of_conns.ensures.rest.moment ∙ c.signal_all.ensures.rest.moment ∙ c.in_ok-pass_time.ensures.moment;
+      stays = search rules;
+      counts = (counts-more 1 (g.F.Front.seen c.args.front.now).counts (g.F.Front.seen c.args.front.now).counts (g.F.Front.seen c.heed.new.front).counts c.args.self.now.board.book c.let_go_of_conns.new.board.book c.heed.new.self.board.book
+          (counts-alike (g.F.Front.seen c.args.front.now).counts (g.F.Front.seen c.args.front.now).counts c.args.self.now.board.book c.let_go_of_conns.new.board.book (same-counts (g.F.Front.seen c.args.front.now).counts (g.F.Front.seen c.args.front.now).counts refl)
+          (alike-orderless c.args.self.now.board.book c.let_go_of_conns.new.board.book (orderless-before c.passes_act_in_steps.ensures.acts (moment_for c.args.moment) c.args.self.now.ready c.args.self.now.board.book c.pass_time.new.board.book c.signal_all.new.board.book c.let_go_of_conns.new.board.book c.in_ok-pass_time.ensures.passes (subst (λ (xs : List ℕ). Acts 0 (signal_events c.pass_time.new.board.book xs) None c.pass_time.new.board.book c.signal_all.new.board.book) c.slots.ensures.is c.in_ok-signal_all.ensures.signals) c.in_ok-let_go_of_conns.ensures.gone) (c.let_go_of_conns.ensures.rest.going ∙ c.signal_all.ensures.rest.going ∙ c.pass_time.ensures.going) (c.let_go_of_conns.ensures.rest.accepted ∙ c.signal_all.ensures.rest.accepted ∙ c.pass_time.ensures.taken)))
+          (subst (λ (b : Bool). CountsOn (owed_by b) (g.F.Front.seen c.args.front.now).counts (g.F.Front.seen c.heed.new.front).counts c.let_go_of_conns.new.board.book c.heed.new.self.board.book) c.if-asked.true c.in_ok-asked.ensures.counts));
       step = c.heed.ensures.step;
       ends = (c.heed.ensures.up, (c.in_ok-asked.ensures.asked c.if-asked.true).0, (c.in_ok-asked.ensures.asked c.if-asked.true).1);
       unheeded = search rules;
@@ -320,6 +360,14 @@ returns-then-is_gone g c =
       serves = newest-orderless c.generations_keep_their_editions.ensures g.N.Known.known c.heed.new.self.board.book c.retire_all.new.board.book c.heed.new.self.edition (orderless-retires c.heed.new.self.board.book c.retire_all.new.board.book c.retire_all.ensures.retires) c.retire_all.ensures.rest.newest c.heed.ensures.serves;
       up = ap is_halted c.retire_all.ensures.going ∙ c.heed.ensures.up;
       moment = c.retire_all.ensures.rest.moment ∙ c.heed.ensures.moment ∙ c.let_go_of_conns.ensures.rest.moment ∙ c.signal_all.ensures.rest.moment ∙ c.in_ok-pass_time.ensures.moment;
+      stays = search rules;
+      counts = (counts-more 0 (g.F.Front.seen c.args.front.now).counts (g.F.Front.seen c.heed.new.front).counts (g.F.Front.seen c.heed.new.front).counts c.args.self.now.board.book c.heed.new.self.board.book c.retire_all.new.board.book
+          (counts-more 0 (g.F.Front.seen c.args.front.now).counts (g.F.Front.seen c.args.front.now).counts (g.F.Front.seen c.heed.new.front).counts c.args.self.now.board.book c.let_go_of_conns.new.board.book c.heed.new.self.board.book
+          (counts-alike (g.F.Front.seen c.args.front.now).counts (g.F.Front.seen c.args.front.now).counts c.args.self.now.board.book c.let_go_of_conns.new.board.book (same-counts (g.F.Front.seen c.args.front.now).counts (g.F.Front.seen c.args.front.now).counts refl)
+          (alike-orderless c.args.self.now.board.book c.let_go_of_conns.new.board.book (orderless-before c.passes_act_in_steps.ensures.acts (moment_for c.args.moment) c.args.self.now.ready c.args.self.now.board.book c.pass_time.new.board.book c.signal_all.new.board.book c.let_go_of_conns.new.board.book c.in_ok-pass_time.ensures.passes (subst (λ (xs : List ℕ). Acts 0 (signal_events c.pass_time.new.board.book xs) None c.pass_time.new.board.book c.signal_all.new.board.book) c.slots.ensures.is c.in_ok-signal_all.ensures.signals) c.in_ok-let_go_of_conns.ensures.gone) (c.let_go_of_conns.ensures.rest.going ∙ c.signal_all.ensures.rest.going ∙ c.pass_time.ensures.going) (c.let_go_of_conns.ensures.rest.accepted ∙ c.signal_all.ensures.rest.accepted ∙ c.pass_time.ensures.taken)))
+          (subst (λ (b : Bool). CountsOn (owed_by b) (g.F.Front.seen c.args.front.now).counts (g.F.Front.seen c.heed.new.front).counts c.let_go_of_conns.new.board.book c.heed.new.self.board.book) c.if-asked.false c.in_ok-asked.ensures.counts))
+          (counts-alike (g.F.Front.seen c.heed.new.front).counts (g.F.Front.seen c.heed.new.front).counts c.heed.new.self.board.book c.retire_all.new.board.book (same-counts (g.F.Front.seen c.heed.new.front).counts (g.F.Front.seen c.heed.new.front).counts refl)
+          (alike-orderless c.heed.new.self.board.book c.retire_all.new.board.book (orderless-retires c.heed.new.self.board.book c.retire_all.new.board.book c.retire_all.ensures.retires) c.retire_all.ensures.going c.retire_all.ensures.rest.accepted)));
       step = (step-kept (g.F.Front.seen c.heed.new.front).told c.heed.new.self.board.book.state c.retire_all.new.board.book.state c.retire_all.ensures.rest.accepted c.retire_all.ensures.going c.heed.ensures.step);
       ends = (c.is_gone.ensures.0 c.if-is_gone.true, (c.in_ok-asked.ensures.none c.if-asked.false).0);
       unheeded = search rules;
@@ -354,6 +402,18 @@ returns-in_err-start_children g c =
       serves = search rules;
       up = ap is_halted (c.start_children.ensures.going ∙ c.retire_all.ensures.going) ∙ c.heed.ensures.up;
       moment = search rules;
+      stays = on-err c.from_residual-in_err-start_children.result _ (moment-passed c.args.self.now.board.book.state c.start_children.new.board.book.state (moment_for c.args.moment) (c.start_children.ensures.rest.moment ∙ c.retire_all.ensures.rest.moment ∙ c.heed.ensures.moment ∙ c.let_go_of_conns.ensures.rest.moment ∙ c.signal_all.ensures.rest.moment ∙ c.in_ok-pass_time.ensures.moment));
+      counts =
+          let until : CountsUntil (g.F.Front.seen c.args.front.now).counts (g.F.Front.seen c.heed.new.front).counts c.args.self.now.board.book c.start_children.new.board.book =
+          counts-unbroken (g.F.Front.seen c.args.front.now).counts (g.F.Front.seen c.heed.new.front).counts c.args.self.now.board.book c.start_children.new.board.book
+          (counts-more 0 (g.F.Front.seen c.args.front.now).counts (g.F.Front.seen c.heed.new.front).counts (g.F.Front.seen c.heed.new.front).counts c.args.self.now.board.book c.heed.new.self.board.book c.start_children.new.board.book
+          (counts-more 0 (g.F.Front.seen c.args.front.now).counts (g.F.Front.seen c.args.front.now).counts (g.F.Front.seen c.heed.new.front).counts c.args.self.now.board.book c.let_go_of_conns.new.board.book c.heed.new.self.board.book
+          (counts-alike (g.F.Front.seen c.args.front.now).counts (g.F.Front.seen c.args.front.now).counts c.args.self.now.board.book c.let_go_of_conns.new.board.book (same-counts (g.F.Front.seen c.args.front.now).counts (g.F.Front.seen c.args.front.now).counts refl)
+          (alike-orderless c.args.self.now.board.book c.let_go_of_conns.new.board.book (orderless-before c.passes_act_in_steps.ensures.acts (moment_for c.args.moment) c.args.self.now.ready c.args.self.now.board.book c.pass_time.new.board.book c.signal_all.new.board.book c.let_go_of_conns.new.board.book c.in_ok-pass_time.ensures.passes (subst (λ (xs : List ℕ). Acts 0 (signal_events c.pass_time.new.board.book xs) None c.pass_time.new.board.book c.signal_all.new.board.book) c.slots.ensures.is c.in_ok-signal_all.ensures.signals) c.in_ok-let_go_of_conns.ensures.gone) (c.let_go_of_conns.ensures.rest.going ∙ c.signal_all.ensures.rest.going ∙ c.pass_time.ensures.going) (c.let_go_of_conns.ensures.rest.accepted ∙ c.signal_all.ensures.rest.accepted ∙ c.pass_time.ensures.taken)))
+          (subst (λ (b : Bool). CountsOn (owed_by b) (g.F.Front.seen c.args.front.now).counts (g.F.Front.seen c.heed.new.front).counts c.let_go_of_conns.new.board.book c.heed.new.self.board.book) c.if-asked.false c.in_ok-asked.ensures.counts))
+          (counts-alike (g.F.Front.seen c.heed.new.front).counts (g.F.Front.seen c.heed.new.front).counts c.heed.new.self.board.book c.start_children.new.board.book (same-counts (g.F.Front.seen c.heed.new.front).counts (g.F.Front.seen c.heed.new.front).counts refl)
+          (alike-orderless c.heed.new.self.board.book c.start_children.new.board.book (orderless-children c.passes_act_in_steps.ensures.acts c.heed.new.self.board.book c.retire_all.new.board.book c.start_children.new.board.book c.retire_all.ensures.retires c.start_children.ensures.starts) (c.start_children.ensures.going ∙ c.retire_all.ensures.going) (c.start_children.ensures.rest.accepted ∙ c.retire_all.ensures.rest.accepted)))) in
+          search (rules, until);
       step = search rules;
       ends = search rules;
       unheeded = on-err c.from_residual-in_err-start_children.result _ (c.in_ok-asked.ensures.none c.if-asked.false).0;
@@ -389,6 +449,19 @@ returns-in_err-take_all g c =
       serves = search rules;
       up = ap is_halted c.take_all.ensures.going ∙ ap is_halted (c.start_children.ensures.going ∙ c.retire_all.ensures.going) ∙ c.heed.ensures.up;
       moment = search rules;
+      stays = on-err c.from_residual-in_err-take_all.result _ (moment-passed c.args.self.now.board.book.state c.take_all.new.self.board.book.state (moment_for c.args.moment) (c.take_all.ensures.moment ∙ c.start_children.ensures.rest.moment ∙ c.retire_all.ensures.rest.moment ∙ c.heed.ensures.moment ∙ c.let_go_of_conns.ensures.rest.moment ∙ c.signal_all.ensures.rest.moment ∙ c.in_ok-pass_time.ensures.moment));
+      counts =
+          let until : CountsUntil (g.F.Front.seen c.args.front.now).counts (g.F.Front.seen c.take_all.new.front).counts c.args.self.now.board.book c.take_all.new.self.board.book =
+          counts-until (g.F.Front.seen c.args.front.now).counts (g.F.Front.seen c.heed.new.front).counts (g.F.Front.seen c.take_all.new.front).counts c.args.self.now.board.book c.start_children.new.board.book c.take_all.new.self.board.book
+          (counts-more 0 (g.F.Front.seen c.args.front.now).counts (g.F.Front.seen c.heed.new.front).counts (g.F.Front.seen c.heed.new.front).counts c.args.self.now.board.book c.heed.new.self.board.book c.start_children.new.board.book
+          (counts-more 0 (g.F.Front.seen c.args.front.now).counts (g.F.Front.seen c.args.front.now).counts (g.F.Front.seen c.heed.new.front).counts c.args.self.now.board.book c.let_go_of_conns.new.board.book c.heed.new.self.board.book
+          (counts-alike (g.F.Front.seen c.args.front.now).counts (g.F.Front.seen c.args.front.now).counts c.args.self.now.board.book c.let_go_of_conns.new.board.book (same-counts (g.F.Front.seen c.args.front.now).counts (g.F.Front.seen c.args.front.now).counts refl)
+          (alike-orderless c.args.self.now.board.book c.let_go_of_conns.new.board.book (orderless-before c.passes_act_in_steps.ensures.acts (moment_for c.args.moment) c.args.self.now.ready c.args.self.now.board.book c.pass_time.new.board.book c.signal_all.new.board.book c.let_go_of_conns.new.board.book c.in_ok-pass_time.ensures.passes (subst (λ (xs : List ℕ). Acts 0 (signal_events c.pass_time.new.board.book xs) None c.pass_time.new.board.book c.signal_all.new.board.book) c.slots.ensures.is c.in_ok-signal_all.ensures.signals) c.in_ok-let_go_of_conns.ensures.gone) (c.let_go_of_conns.ensures.rest.going ∙ c.signal_all.ensures.rest.going ∙ c.pass_time.ensures.going) (c.let_go_of_conns.ensures.rest.accepted ∙ c.signal_all.ensures.rest.accepted ∙ c.pass_time.ensures.taken)))
+          (subst (λ (b : Bool). CountsOn (owed_by b) (g.F.Front.seen c.args.front.now).counts (g.F.Front.seen c.heed.new.front).counts c.let_go_of_conns.new.board.book c.heed.new.self.board.book) c.if-asked.false c.in_ok-asked.ensures.counts))
+          (counts-alike (g.F.Front.seen c.heed.new.front).counts (g.F.Front.seen c.heed.new.front).counts c.heed.new.self.board.book c.start_children.new.board.book (same-counts (g.F.Front.seen c.heed.new.front).counts (g.F.Front.seen c.heed.new.front).counts refl)
+          (alike-orderless c.heed.new.self.board.book c.start_children.new.board.book (orderless-children c.passes_act_in_steps.ensures.acts c.heed.new.self.board.book c.retire_all.new.board.book c.start_children.new.board.book c.retire_all.ensures.retires c.start_children.ensures.starts) (c.start_children.ensures.going ∙ c.retire_all.ensures.going) (c.start_children.ensures.rest.accepted ∙ c.retire_all.ensures.rest.accepted))))
+          c.in_err-take_all.ensures.counts in
+          search (rules, until);
       step = search rules;
       ends = search rules;
       unheeded = on-err c.from_residual-in_err-take_all.result _ (heeded-takes (g.F.Front.seen c.heed.new.front).told (g.F.Front.seen c.take_all.new.front).told c.take_all.ensures.front (c.in_ok-asked.ensures.none c.if-asked.false).0);
@@ -425,6 +498,16 @@ returns g c =
       moment =
           c.take_all.ensures.moment ∙ c.start_children.ensures.rest.moment ∙ c.retire_all.ensures.rest.moment ∙ c.heed.ensures.moment
           ∙ c.let_go_of_conns.ensures.rest.moment ∙ c.signal_all.ensures.rest.moment ∙ c.in_ok-pass_time.ensures.moment;
+      stays = search rules;
+      counts = (counts-more 0 (g.F.Front.seen c.args.front.now).counts (g.F.Front.seen c.heed.new.front).counts (g.F.Front.seen c.take_all.new.front).counts c.args.self.now.board.book c.start_children.new.board.book c.take_all.new.self.board.book
+          (counts-more 0 (g.F.Front.seen c.args.front.now).counts (g.F.Front.seen c.heed.new.front).counts (g.F.Front.seen c.heed.new.front).counts c.args.self.now.board.book c.heed.new.self.board.book c.start_children.new.board.book
+          (counts-more 0 (g.F.Front.seen c.args.front.now).counts (g.F.Front.seen c.args.front.now).counts (g.F.Front.seen c.heed.new.front).counts c.args.self.now.board.book c.let_go_of_conns.new.board.book c.heed.new.self.board.book
+          (counts-alike (g.F.Front.seen c.args.front.now).counts (g.F.Front.seen c.args.front.now).counts c.args.self.now.board.book c.let_go_of_conns.new.board.book (same-counts (g.F.Front.seen c.args.front.now).counts (g.F.Front.seen c.args.front.now).counts refl)
+          (alike-orderless c.args.self.now.board.book c.let_go_of_conns.new.board.book (orderless-before c.passes_act_in_steps.ensures.acts (moment_for c.args.moment) c.args.self.now.ready c.args.self.now.board.book c.pass_time.new.board.book c.signal_all.new.board.book c.let_go_of_conns.new.board.book c.in_ok-pass_time.ensures.passes (subst (λ (xs : List ℕ). Acts 0 (signal_events c.pass_time.new.board.book xs) None c.pass_time.new.board.book c.signal_all.new.board.book) c.slots.ensures.is c.in_ok-signal_all.ensures.signals) c.in_ok-let_go_of_conns.ensures.gone) (c.let_go_of_conns.ensures.rest.going ∙ c.signal_all.ensures.rest.going ∙ c.pass_time.ensures.going) (c.let_go_of_conns.ensures.rest.accepted ∙ c.signal_all.ensures.rest.accepted ∙ c.pass_time.ensures.taken)))
+          (subst (λ (b : Bool). CountsOn (owed_by b) (g.F.Front.seen c.args.front.now).counts (g.F.Front.seen c.heed.new.front).counts c.let_go_of_conns.new.board.book c.heed.new.self.board.book) c.if-asked.false c.in_ok-asked.ensures.counts))
+          (counts-alike (g.F.Front.seen c.heed.new.front).counts (g.F.Front.seen c.heed.new.front).counts c.heed.new.self.board.book c.start_children.new.board.book (same-counts (g.F.Front.seen c.heed.new.front).counts (g.F.Front.seen c.heed.new.front).counts refl)
+          (alike-orderless c.heed.new.self.board.book c.start_children.new.board.book (orderless-children c.passes_act_in_steps.ensures.acts c.heed.new.self.board.book c.retire_all.new.board.book c.start_children.new.board.book c.retire_all.ensures.retires c.start_children.ensures.starts) (c.start_children.ensures.going ∙ c.retire_all.ensures.going) (c.start_children.ensures.rest.accepted ∙ c.retire_all.ensures.rest.accepted))))
+          c.in_ok-take_all.ensures.counts);
       step = search rules;
       ends = (
         c.in_ok-take_all.ensures.taken,
