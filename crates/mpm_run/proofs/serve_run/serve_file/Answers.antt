@@ -5,7 +5,7 @@ use Rattle.run_opening.proofs.ConfigLemmas.{had-accepted, has-accepted}
 use Rattle.listener.specs.RunsInside.{HasRunBy}
 use Rattle.mpm_run.proofs.ConfigLemmas.{config-refused, config-unread}
 use Rattle.mpm_run.proofs.InvocationLemmas.{serve-config}
-use Rattle.mpm_run.proofs.ServeLemmas.{asked-only, folder-refused, folder-unread, is-ready, leaves-front, serves, unbound, unserved}
+use Rattle.mpm_run.proofs.ServeLemmas.{asked-only, clock-unserved, folder-refused, folder-unread, is-ready, leaves-front, serves, unbound, unserved}
 use Rattle.mpm_run.proofs.serve_run.serve_file.Goals as goal
 
 pub returns-in-Err-clause-ends : goal.returns-in-Err-clause-ends
@@ -71,3 +71,11 @@ returns-clause-ends g c words command =
       silent = ended.silent;
       site_refused = λ nine. absurd (omega (arith, ended.known, nine));
     }
+
+pub returns-in-Err-clause-clocked : goal.returns-in-Err-clause-clocked
+returns-in-Err-clause-clocked g c =
+    clock-unserved c.refuse_config_of.result.left (g.C.Clock.greatest c.args.clock.now) c.refuse_config_of.ensures.left
+
+pub returns-in-Err-load_site-clause-clocked : goal.returns-in-Err-load_site-clause-clocked
+returns-in-Err-load_site-clause-clocked g c =
+    clock-unserved c.refuse_folder.result.left (g.C.Clock.greatest c.args.clock.now) c.refuse_folder.ensures.left
