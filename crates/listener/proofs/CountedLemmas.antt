@@ -184,13 +184,14 @@ module _ (f f' : FrontSeen) (a b : SeenBook) (line : List ℕ) (gave : Commands 
       → b.state.accepted ≡ a.state.accepted → CountsOn 0 f.counts f'.counts a b
   counts-restarted is orders going accepted first so =
       let says = gave-word f f' line gave word.Graceful is in
+      let stays : f'.counts.words.graceful_stop ≡ f.counts.words.graceful_stop = says.words.graceful_stop in
       record {
         orders =
             subst (λ (many : ℕ). RisesJustBy many first.words.graceful f'.counts.words.graceful) (sym orders)
             (just-more (orders_in a) first.words.graceful f.counts.words.graceful f'.counts.words.graceful so.orders says.words.graceful);
-        endings = subst (NeverFalls first.words.graceful_stop) (sym says.words.graceful_stop) so.endings;
+        endings = subst (NeverFalls first.words.graceful_stop) (sym stays) so.endings;
         ending =
-            λ ends. subst (Rises first.words.graceful_stop) (sym says.words.graceful_stop) (so.ending (ending-alike a b going ends));
+            λ ends. subst (Rises first.words.graceful_stop) (sym stays) (so.ending (ending-alike a b going ends));
         stops = just-as 0 0 first.words.stop f.counts.words.stop f'.counts.words.stop so.stops says.words.stop refl;
         links = just-as a.state.accepted b.state.accepted first.handed f.counts.handed f'.counts.handed so.links gave.handed accepted;
       }
@@ -199,13 +200,14 @@ module _ (f f' : FrontSeen) (a b : SeenBook) (line : List ℕ) (gave : Commands 
   pub counts-unrestarted : line ≡ command_word word.Graceful → b ≡ a → CountsUntil f.counts f'.counts a b
   counts-unrestarted is same first so =
       let says = gave-word f f' line gave word.Graceful is in
+      let stays : f'.counts.words.graceful_stop ≡ f.counts.words.graceful_stop = says.words.graceful_stop in
       let alike = alike-same a b same in
       record {
         orders =
             inr (subst (λ (many : ℕ). RisesJustBy (many + 1) first.words.graceful f'.counts.words.graceful) (sym alike.orders)
             (just-more (orders_in a) first.words.graceful f.counts.words.graceful f'.counts.words.graceful so.orders says.words.graceful));
         ending =
-            λ ends. subst (Rises first.words.graceful_stop) (sym says.words.graceful_stop) (so.ending (ending-alike a b alike.going ends));
+            λ ends. subst (Rises first.words.graceful_stop) (sym stays) (so.ending (ending-alike a b alike.going ends));
         stops = just-as 0 0 first.words.stop f.counts.words.stop f'.counts.words.stop so.stops says.words.stop refl;
         links = inl (just-as a.state.accepted b.state.accepted first.handed f.counts.handed f'.counts.handed so.links gave.handed alike.accepted);
       }
@@ -215,13 +217,14 @@ module _ (f f' : FrontSeen) (a b : SeenBook) (line : List ℕ) (gave : Commands 
       → CountsOn 0 f.counts f'.counts a b
   counts-ended is orders accepted first so =
       let says = gave-word f f' line gave word.GracefulStop is in
+      let one : RisesByOne f.counts.words.graceful_stop f'.counts.words.graceful_stop = says.words.graceful_stop in
       record {
         orders =
             just-as (orders_in a) (orders_in b) first.words.graceful f.counts.words.graceful f'.counts.words.graceful so.orders says.words.graceful orders;
-        endings = omega (arith, so.endings, says.words.graceful_stop.0);
+        endings = omega (arith, so.endings, one.0);
         ending =
             λ ends. rises-behind first.words.graceful_stop f.counts.words.graceful_stop f'.counts.words.graceful_stop so.endings
-            (one-rises f.counts.words.graceful_stop f'.counts.words.graceful_stop says.words.graceful_stop);
+            (one-rises f.counts.words.graceful_stop f'.counts.words.graceful_stop one);
         stops = just-as 0 0 first.words.stop f.counts.words.stop f'.counts.words.stop so.stops says.words.stop refl;
         links = just-as a.state.accepted b.state.accepted first.handed f.counts.handed f'.counts.handed so.links gave.handed accepted;
       }
@@ -230,14 +233,15 @@ module _ (f f' : FrontSeen) (a b : SeenBook) (line : List ℕ) (gave : Commands 
   pub counts-stopped : line ≡ command_word word.Stop → b ≡ a → CountsOn 1 f.counts f'.counts a b
   counts-stopped is same first so =
       let says = gave-word f f' line gave word.Stop is in
+      let stays : f'.counts.words.graceful_stop ≡ f.counts.words.graceful_stop = says.words.graceful_stop in
       let alike = alike-same a b same in
       record {
         orders =
             just-as (orders_in a) (orders_in b) first.words.graceful f.counts.words.graceful f'.counts.words.graceful so.orders says.words.graceful
             alike.orders;
-        endings = subst (NeverFalls first.words.graceful_stop) (sym says.words.graceful_stop) so.endings;
+        endings = subst (NeverFalls first.words.graceful_stop) (sym stays) so.endings;
         ending =
-            λ ends. subst (Rises first.words.graceful_stop) (sym says.words.graceful_stop) (so.ending (ending-alike a b alike.going ends));
+            λ ends. subst (Rises first.words.graceful_stop) (sym stays) (so.ending (ending-alike a b alike.going ends));
         stops = just-more 0 first.words.stop f.counts.words.stop f'.counts.words.stop so.stops says.words.stop;
         links = just-as a.state.accepted b.state.accepted first.handed f.counts.handed f'.counts.handed so.links gave.handed alike.accepted;
       }
