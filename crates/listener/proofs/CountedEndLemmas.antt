@@ -1,7 +1,7 @@
 -- What a front and a clock counted where a run opens, in the parts of its turns, and at its end.
 use Rattle.std.proofs.Common.{◌≡◌, ◌⊎◌, inl, inr, IsErrAnd, ◌≤◌, ◌+◌, ℕ, Bool, true, false, cond, List, [], ◌∷◌, None, Option, Some, Result, Ok, Err, max, refl, sym, ap, subst, ◌∙◌, arith}
 use Rattle.std.proofs.lemmas.List.Sums.{sum_by-cons}
-use Rattle.mpm_base.specs.Count.{RisesJustBy}
+use Rattle.mpm_base.specs.Count.{CountsWhere, RisesJustBy}
 use Rattle.mpm_base.specs.Front.{FrontCounts, FrontSeen}
 use Rattle.mpm_base.specs.declared.front.Woke.{Woke}
 use Rattle.mpm_base.specs.declared.front.Woke.TheVariants as woke
@@ -30,7 +30,7 @@ use Rattle.rounds.specs.EndsInside.{why_of}
 use Rattle.rounds.specs.Moments.{moment_for}
 use Rattle.rounds.specs.PartsInside.{GoesDown, ServesSome, StartsSome, halt_events, halts_for}
 use Rattle.run_report.specs.Endings.{HasEndedGracefully}
-use Rattle.listener.specs.Counted.{CountsRun, stops_at}
+use Rattle.listener.specs.Counted.{AsksOnce, CountsRun, stops_at}
 use Rattle.listener.specs.CountedInside.{ClocksAt, ClocksOn, CountsBroken, CountsOn, CountsSo, CountsToEnd, CountsUntil, IsAtClock, KeepsClockFrom, MovesClock, TurnsCount}
 use Rattle.listener.specs.FirstNumbersInside.{opened_book}
 use Rattle.listener.specs.FoldsInside.{ListensOn}
@@ -247,6 +247,48 @@ pub clocks-broken : (turns : Result End BoardFault) (fault : BoardFault) (old ne
     → ((first : ℕ) → IsAtClock first old s → s'.moment ≤ moment_for new) → ClocksOn turns old new s s'
 clocks-broken (Ok e) fault old new s s' is behind = absurd is
 clocks-broken (Err f) fault old new s s' is behind = behind
+
+-- the clock was not asked, and no wait was made
+pub asks-none : (wakes asked : ℕ) → AsksOnce wakes wakes asked asked
+asks-none wakes asked = record { wakes_on = omega arith; asked_on = omega arith; once = λ few few'. omega arith }
+
+-- a wait was made, and the clock asked where it gave a moment
+pub asks-wait : (gave : Bool) (wakes wakes' asked asked' : ℕ) → CountsWhere gave wakes wakes' → CountsWhere gave asked asked'
+    → AsksOnce wakes wakes' asked asked'
+asks-wait true wakes wakes' asked asked' woke asks = record {
+  wakes_on = woke.0;
+  asked_on = asks.0;
+  once =
+      λ few few'.
+      let one : wakes' ≡ wakes + 1 = woke.1 (omega (arith, few, woke.0)) in
+      let also : asked' ≡ asked + 1 = asks.1 (omega (arith, few', asks.0)) in
+      omega (arith, one, also);
+}
+asks-wait false wakes wakes' asked asked' woke asks = record {
+  wakes_on = omega (arith, woke);
+  asked_on = omega (arith, asks);
+  once = λ few few'. omega (arith, woke, asks);
+}
+
+-- one behind the other
+pub asks-more : (w w' w'' a a' a'' : ℕ) → AsksOnce w w' a a' → AsksOnce w' w'' a' a'' → AsksOnce w w'' a a''
+asks-more w w' w'' a a' a'' first second = record {
+  wakes_on = omega (arith, first.wakes_on, second.wakes_on);
+  asked_on = omega (arith, first.asked_on, second.asked_on);
+  once =
+      λ few few'.
+      let one : a' + w ≡ a + w' = first.once (omega (arith, few, second.wakes_on)) (omega (arith, few', second.asked_on)) in
+      let two : a'' + w' ≡ a' + w'' = second.once few few' in
+      omega (arith, one, two);
+}
+
+-- no wait was made behind that
+pub asks-as : (w w' w'' a a' : ℕ) → w'' ≡ w' → AsksOnce w w' a a' → AsksOnce w w'' a a'
+asks-as w w' w'' a a' same asks = subst (λ (n : ℕ). AsksOnce w n a a') (sym same) asks
+
+-- nor before it
+pub asks-since : (w w' w'' a a' : ℕ) → w' ≡ w → AsksOnce w' w'' a a' → AsksOnce w w'' a a'
+asks-since w w' w'' a a' same asks = subst (λ (n : ℕ). AsksOnce n w'' a a') same asks
 
 -- to the end of a run
 pub clock-down : (turns : Result End BoardFault) (old new : ℕ) (a b d : SeenBook) → ClocksOn turns old new a.state b.state → GoesDown turns b d

@@ -251,6 +251,11 @@ pub same-may : (f f' : FrontSeen) → MayHush f f' → CountsSame f.counts f'.co
 same-may f f' (inl same) = same-counts f.counts f'.counts (ap (λ (x : FrontSeen). x.counts) same)
 same-may f f' (inr hushed) = same-counts f.counts f'.counts (ap (λ (x : FrontSeen). x.counts) hushed)
 
+-- and no wait was made
+pub may-wakes : (f f' : FrontSeen) → MayHush f f' → f'.counts.wakes ≡ f.counts.wakes
+may-wakes f f' (inl same) = ap (λ (x : FrontSeen). x.counts.wakes) same
+may-wakes f f' (inr hushed) = ap (λ (x : FrontSeen). x.counts.wakes) hushed
+
 -- ## Links
 
 module _ {L : Type 0} (link_seen : L → LinkSeen) (f f' : FrontSeen) (link : L) (accepts : Accepts link_seen f f' (arrival.Some link)) (a b : SeenBook) (new : FrontCounts) (same : new ≡ f'.counts) where

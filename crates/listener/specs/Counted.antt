@@ -1,6 +1,6 @@
 -- What a front and a clock counted in a run, whether they tell or not.
-use Rattle.std.specs.Prelude.{◌≡◌, ◌⊎◌, ℕ, ◌+◌, ◌≤◌, max, Option, None, Some}
-use Rattle.mpm_base.specs.Count.{Rises, RisesJustBy}
+use Rattle.std.specs.Prelude.{◌≡◌, ◌⊎◌, ℕ, ◌+◌, ◌<◌, ◌≤◌, max, Option, None, Some}
+use Rattle.mpm_base.specs.Count.{Rises, RisesJustBy, greatest_count}
 use Rattle.mpm_base.specs.Front.{FrontCounts}
 use Rattle.conn_machine.specs.declared.event.Why.TheVariants as why
 use Rattle.conn_machine.specs.declared.state.Going.{Going}
@@ -41,7 +41,13 @@ abbrev pub KeepsClock : State → ℕ → ℕ → Type 0
 KeepsClock s old new =
     (moment_for new ≡ max (moment_for old) s.moment) ⊎ (IsBrokenOff s.going × (s.moment ≤ moment_for new))
 
--- so it is of what is left of a server, where one ran; and else the clock was asked nothing
+-- the clock was asked once for each wait of the front that gave a moment, while both counts are below the greatest number
+pub record AsksOnce (wakes wakes' asked asked' : ℕ) : Type 0 where
+  pub wakes_on : wakes ≤ wakes'
+  pub asked_on : asked ≤ asked'
+  pub once : wakes' < greatest_count → asked' < greatest_count → asked' + wakes ≡ asked + wakes'
+
+-- the moment is so of what is left of a server, where one ran; and else the clock answered nothing
 abbrev pub LeavesClock : Option SeenBoard → ℕ → ℕ → Type 0
 LeavesClock None old new = new ≡ old
 LeavesClock (Some b) old new = KeepsClock b.book.state old new

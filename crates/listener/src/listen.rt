@@ -6,13 +6,14 @@
 //! were taken, which generation is the newest, and how the server goes on. What all orders did since the run opened goes on from
 //! where it stood (`specs/StandingInside.antt`).
 ghost use Rattle.std.specs.Prelude.{◌≡◌, ◌<◌, ◌≤◌, [], None, true, is_some, max, IfOk, IfErr, IfSome, MatchResult, OnErr, OnOk};
-ghost use Rattle.mpm_base.specs.Count.{next_count};
-ghost use Rattle.mpm_base.specs.Front.{TellsOn, Waits, after_hush};
+ghost use Rattle.mpm_base.specs.Count.{CountsWhere, next_count};
+ghost use Rattle.mpm_base.specs.Front.{TellsOn, Waits, after_hush, is_woken};
 ghost use Rattle.conn_state.specs.Known.{IsOfClient};
 ghost use Rattle.board.specs.Finds.{acceptable, next_deadline_of};
 ghost use Rattle.board.specs.Book.{row_in};
 ghost use Rattle.board.specs.Editions.{orders_in};
 ghost use Rattle.worker_group.specs.Service.{IsUp, LeavesRest, RefusalLasts};
+ghost use Rattle.listener.specs.Counted.{AsksOnce};
 ghost use Rattle.listener.specs.CountedInside.{ClocksOn, CountsOn, CountsToEnd, CountsUntil, KeepsClockFrom, LacksLink, MovesClock, TurnsCount};
 ghost use Rattle.listener.specs.ListenInside.{AsksFor, Follows, HandsOut, HasNoneToHeed, IsArrival, IsInStep, IsKnownOfFront, IsWatching, ListensAsServed, OnlyReadsAndTakes, OnlyTakes, TakesInTo, TellsAlike, TookAll};
 ghost use Rattle.rounds.specs.TableInside.{IsOpening, IsRestful, asked_children};
@@ -72,6 +73,8 @@ impl<'a, 'c, L: Link + Send, N: Known, B: Bell, G: Gate> Listener<'a, 'c, L, N, 
             self.old.board.book self.new.board.book }
         ensures clock { KeepsClockFrom (C.greatest clock.old) (C.greatest clock.new)
             self.old.board.book.state self.new.board.book.state }
+        ensures asked { AsksOnce (F.seen front.old).counts.wakes (F.seen front.new).counts.wakes
+            (C.asked clock.old) (C.asked clock.new) }
     {
         let turns = self.take_turns(rt, store, front, clock);
         self.hush(front);
@@ -112,6 +115,8 @@ impl<'a, 'c, L: Link + Send, N: Known, B: Bell, G: Gate> Listener<'a, 'c, L, N, 
             self.old.board.book self.new.board.book }
         ensures clock { ClocksOn result (C.greatest clock.old) (C.greatest clock.new)
             self.old.board.book.state self.new.board.book.state }
+        ensures asked { AsksOnce (F.seen front.old).counts.wakes (F.seen front.new).counts.wakes
+            (C.asked clock.old) (C.asked clock.new) }
     {
         generations_keep_their_editions();
         histories_join();
@@ -233,6 +238,7 @@ impl<'a, 'c, L: Link + Send, N: Known, B: Bell, G: Gate> Listener<'a, 'c, L, N, 
             MatchResult result
             (λ ended. CountsOn (owed_at ended) old new self.old.board.book self.new.board.book)
             (λ fault. CountsUntil old new self.old.board.book self.new.board.book) }
+        ensures wakes { (F.seen front.new).counts.wakes ≡ (F.seen front.old).counts.wakes }
         ensures step { OnOk result (IsInStep (F.seen front.new).told self.new.board.book.state) }
         ensures ends { IfOk result
             (λ ended. TakesInTo ended (F.seen front.old) (F.seen front.new)
@@ -296,6 +302,7 @@ impl<'a, 'c, L: Link + Send, N: Known, B: Bell, G: Gate> Listener<'a, 'c, L, N, 
             MatchResult result
             (λ done. CountsOn 0 old new self.old.board.book self.new.board.book)
             (λ fault. CountsUntil old new self.old.board.book self.new.board.book) }
+        ensures wakes { (F.seen front.new).counts.wakes ≡ (F.seen front.old).counts.wakes }
         ensures follows { Follows (F.seen front.old) (F.seen front.new) }
         ensures front { TellsOn OnlyTakes (F.seen front.old).told (F.seen front.new).told }
         ensures watched { IsWatching (F.seen front.old).told self.old.board.book
@@ -413,6 +420,7 @@ fn take_pause<R: Wait, L: Link + Send, F: Front<L = L>, C: Clock>(
     ensures clock { is_some (C.told clock.new) ≡ is_some (C.told clock.old) }
     ensures moves { MovesClock result.woke present
         (C.greatest clock.old) (C.greatest clock.new) result.moment }
+    ensures asked { CountsWhere (is_woken result.woke) (C.asked clock.old) (C.asked clock.new) }
 {
     let woke = front.wait(rt, rest.until, rest.quiet, ready);
     Pause {
@@ -425,6 +433,7 @@ fn take_pause<R: Wait, L: Link + Send, F: Front<L = L>, C: Clock>(
 fn moment_of<C: Clock>(clock: &mut C, woke: Woke, present: Moment) -> Moment
     ensures asks { AsksFor woke present (C.told clock.old) (C.told clock.new) result }
     ensures moves { MovesClock woke present (C.greatest clock.old) (C.greatest clock.new) result }
+    ensures asked { CountsWhere (is_woken woke) (C.asked clock.old) (C.asked clock.new) }
 {
     match woke {
         Woke::Woke(at) => clock.now(at),

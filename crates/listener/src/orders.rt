@@ -84,6 +84,7 @@ impl<'a, 'c, L: Link + Send, N: Known, B: Bell, G: Gate> Listener<'a, 'c, L, N, 
             MatchResult result
             (λ asked. CountsOn (owed_by asked) old new self.old.board.book self.new.board.book)
             (λ fault. CountsUntil old new self.old.board.book self.new.board.book) }
+        ensures wakes { (F.seen front.new).counts.wakes ≡ (F.seen front.old).counts.wakes }
         ensures follows { Follows (F.seen front.old) (F.seen front.new) }
         ensures front { TellsOn OnlyReads (F.seen front.old).told (F.seen front.new).told }
         ensures watched { IsWatching (F.seen front.old).told self.old.board.book

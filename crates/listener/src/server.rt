@@ -9,7 +9,7 @@ ghost use Rattle.listener.specs.FirstNumbers as opening;
 ghost use Rattle.listener.specs.OrdersInside.{known_outside, opening_by};
 ghost use Rattle.listener.specs.Generations.{head_limits_of};
 ghost use Rattle.listener.specs.StandingInside.{HasStood, standing};
-ghost use Rattle.listener.specs.Counted.{KeepsClock};
+ghost use Rattle.listener.specs.Counted.{AsksOnce, KeepsClock};
 ghost use Rattle.listener.specs.Links.{EndsLinks};
 ghost use Rattle.listener.specs.Listen.{HasClosedAll, IsRunFrom};
 ghost use Rattle.rounds.specs.ClosedDown.{IsClosedDown};
@@ -104,6 +104,8 @@ pub fn run_server<
     ensures clocked { IfOk result
         (λ s. KeepsClock s.board.book.state (C.greatest clock.old) (C.greatest clock.new)) }
     ensures unclocked { OnErr result (C.greatest clock.new ≡ C.greatest clock.old) }
+    ensures asked { AsksOnce (F.seen front.old).counts.wakes (F.seen front.new).counts.wakes
+        (C.asked clock.old) (C.asked clock.new) }
     ensures written { IfOk result
         (λ s. WritesAll (K.seen out.old) (K.seen out.new) text.now s.written) }
     ensures faults { IfOk result (λ s. NeverFalls (K.seen out.old).faults (K.seen out.new).faults) }

@@ -69,12 +69,14 @@ pub record FrontTold : Type 0 where
   pub waits : List WaitTold
 
 -- counts that each front keeps, whether it tells or not: of failed binds, waits and dials, of failed accepts, of waits that answered
--- Ended, of the command lines that it gave, of those of them that say each of the words, and of the links that it handed out
+-- Ended, of waits that gave a moment, of the command lines that it gave, of those of them that say each of the words, and of the links that
+-- it handed out
 pub record FrontCounts : Type 0 where
   pub faults : ℕ
   pub accept_faults : ℕ
   pub ends : ℕ
   pub commands : ℕ
+  pub wakes : ℕ
   pub words : GivenWords
   pub handed : ℕ
 
@@ -104,6 +106,7 @@ pub record Binds (old new : FrontSeen) (listen : Addr) (control : Option ℕ) (a
   pub faults : RisesWhere (not answer) old.counts.faults new.counts.faults
   pub accept_faults : new.counts.accept_faults ≡ old.counts.accept_faults
   pub ends : new.counts.ends ≡ old.counts.ends
+  pub wakes : new.counts.wakes ≡ old.counts.wakes
   pub commands : new.counts.commands ≡ old.counts.commands
   pub words : new.counts.words ≡ old.counts.words
   pub handed : new.counts.handed ≡ old.counts.handed
@@ -123,6 +126,12 @@ abbrev pub is_ended : Woke → Bool
 is_ended (woke.Woke m) = false
 is_ended woke.Ended = true
 is_ended woke.Failed = false
+
+-- the wait gave a moment
+abbrev pub is_woken : Woke → Bool
+is_woken (woke.Woke m) = true
+is_woken woke.Ended = false
+is_woken woke.Failed = false
 
 -- the wait failed
 abbrev pub wait_failed : Woke → Bool
@@ -232,6 +241,7 @@ pub record Waits (old new : FrontSeen) (until : Option ℕ) (quiet : Bool) (answ
   pub faults : RisesWhere (wait_failed answer) old.counts.faults new.counts.faults
   pub accept_faults : new.counts.accept_faults ≡ old.counts.accept_faults
   pub ends : RisesExactlyWhere (is_ended answer) old.counts.ends new.counts.ends
+  pub wakes : CountsWhere (is_woken answer) old.counts.wakes new.counts.wakes
   pub commands : new.counts.commands ≡ old.counts.commands
   pub words : new.counts.words ≡ old.counts.words
   pub handed : new.counts.handed ≡ old.counts.handed
@@ -294,6 +304,7 @@ pub record Accepts {L : Type 0} (link_seen : L → LinkSeen) (old new : FrontSee
   pub faults : new.counts.faults ≡ old.counts.faults
   pub accept_faults : RisesWhere (accept_failed answer) old.counts.accept_faults new.counts.accept_faults
   pub ends : new.counts.ends ≡ old.counts.ends
+  pub wakes : new.counts.wakes ≡ old.counts.wakes
   pub commands : new.counts.commands ≡ old.counts.commands
   pub words : new.counts.words ≡ old.counts.words
   pub handed : CountsWhere (is_handed answer) old.counts.handed new.counts.handed
@@ -347,6 +358,7 @@ pub record Commands (old new : FrontSeen) (answer : Option (List ℕ)) : Type 0 
   pub faults : new.counts.faults ≡ old.counts.faults
   pub accept_faults : new.counts.accept_faults ≡ old.counts.accept_faults
   pub ends : new.counts.ends ≡ old.counts.ends
+  pub wakes : new.counts.wakes ≡ old.counts.wakes
   pub commands : RisesExactlyWhere (is_some answer) old.counts.commands new.counts.commands
   pub words : CountsWords answer old.counts.words new.counts.words
   pub handed : new.counts.handed ≡ old.counts.handed
@@ -364,6 +376,7 @@ pub record Dials (old new : FrontSeen) (port : ℕ) (word : List ℕ) (answer : 
   pub faults : RisesWhere (not answer) old.counts.faults new.counts.faults
   pub accept_faults : new.counts.accept_faults ≡ old.counts.accept_faults
   pub ends : new.counts.ends ≡ old.counts.ends
+  pub wakes : new.counts.wakes ≡ old.counts.wakes
   pub commands : new.counts.commands ≡ old.counts.commands
   pub words : new.counts.words ≡ old.counts.words
   pub handed : new.counts.handed ≡ old.counts.handed

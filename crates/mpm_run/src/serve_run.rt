@@ -3,7 +3,7 @@ ghost use Rattle.std.specs.Prelude.{◌≡◌, ◌⊎◌, ℕ, List, [], None, f
 ghost use Rattle.command_words.specs.Invocations.{IsServeWords};
 ghost use Rattle.mpm_base.specs.Front.{Binds};
 ghost use Rattle.mpm_run.specs.ExitStatusesInside.{EndsServe, IsOpenedStatus, LeavesUnbound, RefusesFolder};
-ghost use Rattle.listener.specs.Counted.{LeavesClock};
+ghost use Rattle.listener.specs.Counted.{AsksOnce, LeavesClock};
 ghost use Rattle.listener.specs.FirstNumbers as opening;
 ghost use Rattle.listener.specs.Generations.{head_limits_of};
 ghost use Rattle.listener.specs.OrdersInside.{opening_by};
@@ -55,6 +55,8 @@ pub fn serve_file<R: Wait, D: Store, F: Front, C: Clock, G: Gate, K: Sink>(
         (F.seen front.old) (F.seen front.new) (C.told clock.old) (C.told clock.new)
         result.status result.left }
     ensures clocked { LeavesClock result.left (C.greatest clock.old) (C.greatest clock.new) }
+    ensures asked { AsksOnce (F.seen front.old).counts.wakes (F.seen front.new).counts.wakes
+        (C.asked clock.old) (C.asked clock.new) }
 {
     let answer = store.read(alloc, name, MOST_CONFIG);
     let (config, told) = match config_from(alloc, answer) {
@@ -147,6 +149,8 @@ fn serve_edition<R: Wait, D: Store, F: Front, C: Clock, G: Gate, K: Sink>(
         LeavesUnbound (F.seen front.old) (F.seen front.new) config.entry.config.now result.status }
     ensures clock { IsNone result.left → C.told clock.new ≡ C.told clock.old }
     ensures clocked { LeavesClock result.left (C.greatest clock.old) (C.greatest clock.new) }
+    ensures asked { AsksOnce (F.seen front.old).counts.wakes (F.seen front.new).counts.wakes
+        (C.asked clock.old) (C.asked clock.new) }
     ensures silent { result.status ≡ 6 → IsNone result.left →
         EndsSilently (K.seen out.old) (K.seen out.new) result.shown }
 {

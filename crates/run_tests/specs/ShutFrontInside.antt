@@ -8,5 +8,5 @@ abbrev pub shut_front_seen : ℕ → FrontSeen
 shut_front_seen faults = record {
   script = None;
   told = None;
-  counts = record { faults = faults; accept_faults = 0; ends = 0; commands = 0; words = no_words; handed = 0 };
+  counts = record { faults = faults; accept_faults = 0; ends = 0; wakes = 0; commands = 0; words = no_words; handed = 0 };
 }

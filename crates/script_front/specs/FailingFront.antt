@@ -3,7 +3,7 @@ use Rattle.std.specs.Prelude.{◌≡◌, ℕ, Bool, true, false, List, [], ◌�
 use Rattle.mpm_base.specs.Count.{next_count}
 use Rattle.mpm_base.specs.Front.{FrontSeen}
 use Rattle.stand_ins.specs.Calls.{next_is_listed}
-use Rattle.script_front.specs.ScriptFront.{Plays, SeenFront, new_front}
+use Rattle.script_front.specs.ScriptFront.{Plays, SeenFront, new_front, woken_waits}
 use Rattle.mpm_base.specs.declared.front.Woke.{Woke}
 use Rattle.mpm_base.specs.declared.front.Woke.TheVariants as woke
 use Rattle.mpm_base.specs.declared.script_line.ScriptLine.{ScriptLine}
@@ -29,6 +29,7 @@ failing_front_seen f =
         faults = f.faults;
         accept_faults = f.accept_faults;
         ends = f.front.ends;
+        wakes = woken_waits f.front.told.waits;
         commands = f.front.told.read;
         words = f.front.words;
         handed = f.front.told.accepted;

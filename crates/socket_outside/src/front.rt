@@ -121,7 +121,7 @@ impl<'a, R: Net + time::Clock + Eprint> Front for SocketFront<'a, R> {
         let pressed = self.pressed || self.sockets.asks_control();
         self.pressed = false;
         let woke = self.wait_until(until, pressed, ready);
-        self.counters.test(woke);
+        self.counters.wait(woke);
         if woke {
             let last = self.clock.last();
             Woke::Woke(self.clock.now(last))

@@ -8,12 +8,13 @@ use crate::link::SocketLink;
 use mpm_base::{Arrival, GivenWords, Line};
 use std::marker::Model;
 
-/// Counts of binds, waits and dials that failed, of accepts that failed, of command lines that were given, and of links that were handed
-/// out. No wait answers that nothing comes any more.
+/// Counts of binds, waits and dials that failed, of accepts that failed, of waits that gave a moment, of command lines that were given, and
+/// of links that were handed out. No wait answers that nothing comes any more.
 #[derive(Drop)]
 pub(crate) struct FrontCounters {
     failures: u64,
     failed_accepts: u64,
+    wakes: u64,
     lines: u64,
     words: GivenWords,
     links: u64,
@@ -28,6 +29,7 @@ impl Model for FrontCounters {
       faults = c.failures;
       accept_faults = c.failed_accepts;
       ends = 0;
+      wakes = c.wakes;
       commands = c.lines;
       words = c.words;
       handed = c.links;
@@ -42,6 +44,7 @@ impl FrontCounters {
               faults = 0;
               accept_faults = 0;
               ends = 0;
+              wakes = 0;
               commands = 0;
               words = no_words;
               handed = 0;
@@ -50,13 +53,29 @@ impl FrontCounters {
         FrontCounters {
             failures: 0,
             failed_accepts: 0,
+            wakes: 0,
             lines: 0,
             words: GivenWords::none(),
             links: 0,
         }
     }
 
-    /// A bind, a wait or a dial succeeded, or failed.
+    /// A wait gave a moment, or failed.
+    pub(crate) fn wait(&mut self, woke: bool)
+        ensures others { self.new
+            ≡ record self.old { faults = self.new.faults; wakes = self.new.wakes } }
+        ensures faults { RisesWhere (not woke) self.old.faults self.new.faults }
+        ensures wakes { CountsWhere woke self.old.wakes self.new.wakes }
+        ensures never_ended { self.old.ends ≡ 0 }
+    {
+        if woke {
+            self.wakes = self.wakes.saturating_add(1);
+        } else {
+            self.failures = self.failures.saturating_add(1);
+        }
+    }
+
+    /// A bind or a dial succeeded, or failed.
     pub(crate) fn test(&mut self, succeeded: bool)
         ensures others { self.new ≡ record self.old { faults = self.new.faults } }
         ensures faults { RisesWhere (not succeeded) self.old.faults self.new.faults }

@@ -14,7 +14,7 @@ use Rattle.rounds.specs.Started.{BeginsWithStarts}
 use Rattle.listener.specs.Times.{waits_of}
 use Rattle.listener.specs.declared.run_numbers.RunNumbers.{RunNumbers}
 use Rattle.listener.proofs.StartedFirstLemmas.{started-first}
-use Rattle.listener.proofs.CountedEndLemmas.{clock-opened, counts-opened}
+use Rattle.listener.proofs.CountedEndLemmas.{asks-since, clock-opened, counts-opened}
 use Rattle.listener.proofs.CountedLemmas.{alike-same, counts-alike, same-words}
 use Rattle.listener.proofs.FrontLemmas.{follows-trans, named-follows}
 use Rattle.listener.proofs.FrontCallLemmas.{follows-bind}
@@ -163,3 +163,10 @@ pub returns-clause-backed : goal.returns-clause-backed
 returns-clause-backed g c =
     subst (λ (m : RunNumbers). BacksWaits m c.forget.result) c.numbers_of-numbers.ensures.value
     (subst (BacksWaits c.numbers_of-numbers.result) (sym c.forget.ensures.same) c.show_run.ensures.backed)
+
+pub returns-clause-asked : goal.returns-clause-asked
+returns-clause-asked g c =
+    let binds = binds-true c.numbers_of-numbers.result (g.F.Front.seen c.args.front.now) (g.F.Front.seen c.bell.new.self) (g.F.Front.seen c.bind.new.self) c.bind.result c.bell.ensures.same c.if-not-bind.false c.bind.ensures.binds in
+    asks-since (g.F.Front.seen c.args.front.now).counts.wakes (g.F.Front.seen c.bind.new.self).counts.wakes
+    (g.F.Front.seen c.listen.new.front).counts.wakes (g.C.Clock.asked c.args.clock.now) (g.C.Clock.asked c.listen.new.clock) binds.wakes
+    c.listen.ensures.asked

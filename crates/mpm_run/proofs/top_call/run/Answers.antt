@@ -12,6 +12,7 @@ use Rattle.mpm_run.specs.ExitStatuses.{Causes, LeavesAll}
 use Rattle.script_run.specs.Played.{IsLeftOfRun}
 use Rattle.mpm_run.specs.declared.outcome.Outcome.{Outcome}
 use Rattle.script_run.specs.declared.scripted.Scripted.{Scripted}
+use Rattle.listener.proofs.CountedEndLemmas.{asks-as, asks-none}
 use Rattle.mpm_run.proofs.FormLemmas.{script-causes, script-leaves, send-causes, send-leaves, serve-causes, serve-leaves, test-causes, test-leaves}
 use Rattle.mpm_run.proofs.top_call.run.Goals as goal
 
@@ -97,3 +98,18 @@ pub returns-in-Ok-Load-clause-clocked : goal.returns-in-Ok-Load-clause-clocked
 returns-in-Ok-Load-clause-clocked g c =
     subst (λ (o : Outcome _). LeavesClock o.board (g.C.Clock.greatest c.args.clock.now) (g.C.Clock.greatest c.args.clock.now))
     (sym c.scripted_outcome-in-Ok-Load.ensures) refl
+
+pub returns-in-Ok-Script-clause-asked : goal.returns-in-Ok-Script-clause-asked
+returns-in-Ok-Script-clause-asked g c = asks-none (g.F.Front.seen c.args.front.now).counts.wakes (g.C.Clock.asked c.args.clock.now)
+
+pub returns-in-Ok-Load-clause-asked : goal.returns-in-Ok-Load-clause-asked
+returns-in-Ok-Load-clause-asked g c = asks-none (g.F.Front.seen c.args.front.now).counts.wakes (g.C.Clock.asked c.args.clock.now)
+
+pub returns-in-Ok-Test-clause-asked : goal.returns-in-Ok-Test-clause-asked
+returns-in-Ok-Test-clause-asked g c = asks-none (g.F.Front.seen c.args.front.now).counts.wakes (g.C.Clock.asked c.args.clock.now)
+
+pub returns-in-Ok-Send-clause-asked : goal.returns-in-Ok-Send-clause-asked
+returns-in-Ok-Send-clause-asked g c =
+    asks-as (g.F.Front.seen c.args.front.now).counts.wakes (g.F.Front.seen c.args.front.now).counts.wakes
+    (g.F.Front.seen c.send_command.new.front).counts.wakes (g.C.Clock.asked c.args.clock.now) (g.C.Clock.asked c.args.clock.now)
+    c.send_command.ensures.wakes (asks-none (g.F.Front.seen c.args.front.now).counts.wakes (g.C.Clock.asked c.args.clock.now))

@@ -10,7 +10,7 @@ use Rattle.listener.specs.OrdersInside.{ServesNewest}
 use Rattle.listener.specs.StandingInside.{StandsBroken, standing}
 use Rattle.listener.specs.declared.edition.LoadedEdition.{LoadedEdition}
 use Rattle.listener.specs.declared.edition.NamedConfig.{NamedConfig}
-use Rattle.listener.proofs.CountedLemmas.{alike-same, counts-alike, counts-ended, counts-more, counts-restarted, counts-same, counts-stopped, counts-unbroken, counts-unrestarted, counts-until, same-dropped, same-may, same-none}
+use Rattle.listener.proofs.CountedLemmas.{alike-same, counts-alike, counts-ended, counts-more, counts-restarted, counts-same, counts-stopped, counts-unbroken, counts-unrestarted, counts-until, may-wakes, same-dropped, same-may, same-none}
 use Rattle.listener.proofs.FrontLemmas.{step-kept}
 use Rattle.listener.proofs.HeedLemmas.{HasHeeded, changed, does-asked, ending-other, graceful-other, heeded-dropped, heeded-ended, heeded-may, heeded-more, heeded-restarted, heeded-start, heeded-stopped, knows-kept, none-stops, serves-kept, stands-none, stands-stopped, step-line}
 use Rattle.listener.proofs.RestartLemmas.{knows-as}
@@ -23,6 +23,7 @@ loop-init g c =
       heeded = heeded-start c.passes_act_in_steps.ensures.acts g.N.Known.known c.args.self.now.config c.args.self.now.edition.stop_ms
           (g.D.Store.seen c.args.store.now) (g.F.Front.seen c.args.front.now) c.args.self.now.board.book c.requires.free;
       counts = counts-same (g.F.Front.seen c.args.front.now).counts c.args.self.now.board.book;
+      wakes = refl;
       knows = c.requires.knows;
       serves = c.requires.serves;
       up = c.requires.up;
@@ -101,6 +102,7 @@ loop-preserved-in-Continue-1 g c =
           c.restart.new.self.board.book before.counts
           (counts-restarted (g.F.Front.seen c.loop.front) (g.F.Front.seen c.command.new.self) c.loop.self.board.book c.restart.new.self.board.book
           c.in-Some-command.line c.in-Some-command.ensures.commands is restarted.orders c.restart.ensures.going c.restart.ensures.accepted);
+      wakes = c.in-Some-command.ensures.commands.wakes ∙ before.wakes;
       knows = restarted.knows;
       serves = c.restart.ensures.serves;
       up = ap is_halted c.restart.ensures.going ∙ before.up;
@@ -190,6 +192,8 @@ loop-preserved-in-Continue-branch-2 g c =
           (counts-alike (g.F.Front.seen c.command.new.self).counts (g.F.Front.seen c.end.new.front).counts c.end.new.self.board.book c.end.new.self.board.book
           (same-may (g.F.Front.seen c.command.new.self) (g.F.Front.seen c.end.new.front) c.end.ensures.hushed)
           (alike-same c.end.new.self.board.book c.end.new.self.board.book refl)));
+      wakes = may-wakes (g.F.Front.seen c.command.new.self) (g.F.Front.seen c.end.new.front) c.end.ensures.hushed
+          ∙ c.in-Some-command.ensures.commands.wakes ∙ before.wakes;
       knows =
           knows-as g.N.Known.known c.loop.self.config c.end.new.self.config (g.D.Store.seen c.loop.store).told c.end.new.self.board.book
           (ap (λ (l : _). l.config) c.end.ensures.others)
@@ -278,6 +282,7 @@ loop-preserved g c =
           (counts-alike (g.F.Front.seen c.loop.front).counts (g.F.Front.seen c.command.new.self).counts c.loop.self.board.book c.loop.self.board.book
           (same-dropped (g.F.Front.seen c.loop.front) (g.F.Front.seen c.command.new.self) c.in-Some-command.line unknown
           c.in-Some-command.ensures.commands) (alike-same c.loop.self.board.book c.loop.self.board.book refl));
+      wakes = c.in-Some-command.ensures.commands.wakes ∙ before.wakes;
       knows = before.knows;
       serves = before.serves;
       up = before.up;
@@ -287,3 +292,17 @@ loop-preserved g c =
           (unknown word.Stop) before.none;
       others = before.others;
     }
+
+pub returns-in_default-clause-wakes : goal.returns-in_default-clause-wakes
+returns-in_default-clause-wakes g c = c.in_default.ensures.commands.wakes ∙ c.loop.invariant.wakes
+
+pub returns-in-Ok-Stop-clause-wakes : goal.returns-in-Ok-Stop-clause-wakes
+returns-in-Ok-Stop-clause-wakes g c = c.in-Some-command.ensures.commands.wakes ∙ c.loop.invariant.wakes
+
+pub returns-in_err-restart-in-Ok-Graceful-clause-wakes : goal.returns-in_err-restart-in-Ok-Graceful-clause-wakes
+returns-in_err-restart-in-Ok-Graceful-clause-wakes g c = c.in-Some-command.ensures.commands.wakes ∙ c.loop.invariant.wakes
+
+pub returns-in_err-end-in-Ok-GracefulStop-clause-wakes : goal.returns-in_err-end-in-Ok-GracefulStop-clause-wakes
+returns-in_err-end-in-Ok-GracefulStop-clause-wakes g c =
+    may-wakes (g.F.Front.seen c.command.new.self) (g.F.Front.seen c.end.new.front) c.end.ensures.hushed
+    ∙ c.in-Some-command.ensures.commands.wakes ∙ c.loop.invariant.wakes

@@ -6,7 +6,7 @@ use Rattle.listener.specs.Times.{WasInformed}
 use Rattle.listener.proofs.StartlessLemmas.{asked-silent, startless-gone, startless-halts, startless-retires}
 use Rattle.listener.proofs.StartedFirstLemmas.{begins-down}
 use Rattle.listener.proofs.CommandLemmas.{heeds-hushed}
-use Rattle.listener.proofs.CountedEndLemmas.{clock-down, counts-end}
+use Rattle.listener.proofs.CountedEndLemmas.{asks-as, clock-down, counts-end}
 use Rattle.listener.proofs.FrontLemmas.{follows-trans, time-kept}
 use Rattle.listener.proofs.FrontCallLemmas.{contacts-hushed, follows-hushed, is-hushed, waits-hushed}
 use Rattle.listener.proofs.LinkLemmas.{handed-out}
@@ -95,3 +95,9 @@ pub returns-clause-clock : goal.returns-clause-clock
 returns-clause-clock g c =
     clock-down c.take_turns-turns.result (g.C.Clock.greatest c.args.clock.now) (g.C.Clock.greatest c.take_turns-turns.new.clock)
     c.args.self.now.board.book c.take_turns-turns.new.self.board.book c.close_down.new.board.book c.take_turns-turns.ensures.clock c.close_down.ensures
+
+pub returns-clause-asked : goal.returns-clause-asked
+returns-clause-asked g c =
+    asks-as (g.F.Front.seen c.args.front.now).counts.wakes (g.F.Front.seen c.take_turns-turns.new.front).counts.wakes
+    (g.F.Front.seen c.hush.new.front).counts.wakes (g.C.Clock.asked c.args.clock.now) (g.C.Clock.asked c.take_turns-turns.new.clock)
+    (ap (λ (f : FrontSeen). f.counts.wakes) c.hush.ensures) c.take_turns-turns.ensures.asked

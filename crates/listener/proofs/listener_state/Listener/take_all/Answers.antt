@@ -1,4 +1,5 @@
 use Rattle.std.proofs.Common.{ℕ, ◌<◌, refl, sym, ap, subst, ◌∙◌, rules}
+use Rattle.mpm_base.specs.Front.{FrontCounts}
 use Rattle.conn_machine.specs.States.{is_halted}
 use Rattle.listener.specs.CountedInside.{CountsUntil}
 use Rattle.listener.specs.OrdersInside.{ServesNewest}
@@ -23,6 +24,7 @@ loop-init g c =
       moment = refl;
       step = c.requires.step;
       counts = counts-same (g.F.Front.seen c.args.front.now).counts c.args.self.now.board.book;
+      wakes = refl;
       follows = follows-same _;
       front = takes-same _;
       watched = λ before. before;
@@ -92,6 +94,7 @@ loop-preserved g c =
           (counts-taken g.L.Link.seen (g.F.Front.seen c.loop.front) (g.F.Front.seen c.accept.new.self) c.in-Some-accept.link
           c.in-Some-accept.ensures.accepts c.loop.self.board.book c.take.new.self.board.book (g.F.Front.seen c.take.new.front).counts c.take.ensures.counts c.take.ensures.orders
           c.take.ensures.going c.in_ok-take-in-Some-accept.ensures.taken);
+      wakes = ap (λ (x : FrontCounts). x.wakes) c.take.ensures.counts ∙ c.in-Some-accept.ensures.accepts.wakes ∙ before.wakes;
       follows =
           follows-trans _ _ _ before.follows
           (follows-trans _ _ _ (follows-accept g.L.Link.seen _ _ _ c.accept.ensures.accepts)
@@ -177,6 +180,7 @@ returns-in-None-accept g c =
           (counts-alike (g.F.Front.seen c.loop.front).counts (g.F.Front.seen c.accept.new.self).counts c.loop.self.board.book c.loop.self.board.book
           (same-unhanded g.L.Link.seen (g.F.Front.seen c.loop.front) (g.F.Front.seen c.accept.new.self) c.accept.result c.in-None-accept.is
           c.accept.ensures.accepts) (alike-same c.loop.self.board.book c.loop.self.board.book refl));
+      wakes = c.accept.ensures.accepts.wakes ∙ before.wakes;
       follows =
           follows-trans _ _ _ before.follows
           (follows-accept g.L.Link.seen _ _ _ c.accept.ensures.accepts);
@@ -215,3 +219,7 @@ returns-in_err-take-in-Some-accept-clause-counts g c =
 pub returns-in_default-clause-counts : goal.returns-in_default-clause-counts
 returns-in_default-clause-counts g c =
     counts-unbroken (g.F.Front.seen c.args.front.now).counts (g.F.Front.seen c.loop.front).counts c.args.self.now.board.book c.loop.self.board.book c.loop.invariant.counts
+
+pub returns-in_err-take-in-Some-accept-clause-wakes : goal.returns-in_err-take-in-Some-accept-clause-wakes
+returns-in_err-take-in-Some-accept-clause-wakes g c =
+    ap (λ (x : FrontCounts). x.wakes) c.take.ensures.counts ∙ c.in-Some-accept.ensures.accepts.wakes ∙ c.loop.invariant.wakes

@@ -16,6 +16,7 @@ invariant-loop g l =
       moment : l.self.board.book.state.moment ≡ l.fn.self.board.book.state.moment;
       step : IsInStep (g.F.Front.seen l.front).told l.self.board.book.state;
       counts : CountsOn 0 (g.F.Front.seen l.fn.front).counts (g.F.Front.seen l.front).counts l.fn.self.board.book l.self.board.book;
+      wakes : (g.F.Front.seen l.front).counts.wakes ≡ (g.F.Front.seen l.fn.front).counts.wakes;
       follows : Follows (g.F.Front.seen l.fn.front) (g.F.Front.seen l.front);
       front : TellsOn OnlyTakes (g.F.Front.seen l.fn.front).told (g.F.Front.seen l.front).told;
       watched : IsWatching (g.F.Front.seen l.fn.front).told l.fn.self.board.book → IsWatching (g.F.Front.seen l.front).told l.self.board.book;

@@ -145,6 +145,7 @@ returns-in_err-pass_time g c =
           (counts-alike (g.F.Front.seen c.args.front.now).counts (g.F.Front.seen c.args.front.now).counts c.args.self.now.board.book c.pass_time.new.board.book (same-counts (g.F.Front.seen c.args.front.now).counts (g.F.Front.seen c.args.front.now).counts refl)
           (alike-orderless c.args.self.now.board.book c.pass_time.new.board.book (orderless-gone c.args.self.now.board.book c.pass_time.new.board.book c.in_err-pass_time.ensures.refused) c.pass_time.ensures.going c.pass_time.ensures.taken)) in
           search (rules, until);
+      wakes = refl;
       step = search rules;
       ends = search rules;
       unheeded = on-err c.from_residual.result _ c.requires.heeded;
@@ -171,6 +172,7 @@ returns-then-is_overdue g c =
       stays = search rules;
       counts = (counts-alike (g.F.Front.seen c.args.front.now).counts (g.F.Front.seen c.args.front.now).counts c.args.self.now.board.book c.pass_time.new.board.book (same-counts (g.F.Front.seen c.args.front.now).counts (g.F.Front.seen c.args.front.now).counts refl)
           (alike-orderless c.args.self.now.board.book c.pass_time.new.board.book (orderless-time (moment_for c.args.moment) c.args.self.now.board.book c.pass_time.new.board.book c.in_ok-pass_time.ensures.passes) c.pass_time.ensures.going c.pass_time.ensures.taken));
+      wakes = refl;
       step = (step-kept (g.F.Front.seen c.args.front.now).told c.args.self.now.board.book.state c.pass_time.new.board.book.state (c.pass_time.ensures.taken) (c.pass_time.ensures.going) c.requires.step);
       ends = (sym c.is_overdue.ensures ∙ c.if-is_overdue.true, c.requires.heeded);
       unheeded = search rules;
@@ -210,6 +212,7 @@ returns-in_err-signal_all g c =
           (counts-alike (g.F.Front.seen c.args.front.now).counts (g.F.Front.seen c.args.front.now).counts c.args.self.now.board.book c.signal_all.new.board.book (same-counts (g.F.Front.seen c.args.front.now).counts (g.F.Front.seen c.args.front.now).counts refl)
           (alike-orderless c.args.self.now.board.book c.signal_all.new.board.book (orderless-more c.passes_act_in_steps.ensures.acts c.args.self.now.board.book c.pass_time.new.board.book c.signal_all.new.board.book (orderless-time (moment_for c.args.moment) c.args.self.now.board.book c.pass_time.new.board.book c.in_ok-pass_time.ensures.passes) (orderless-first c.args.self.now.ready c.pass_time.new.board.book c.signal_all.new.board.book (subst (λ (xs : List ℕ). SignalsFirst xs c.pass_time.new.board.book c.signal_all.new.board.book) c.slots.ensures.is c.in_err-signal_all.ensures.first))) (c.signal_all.ensures.rest.going ∙ c.pass_time.ensures.going) (c.signal_all.ensures.rest.accepted ∙ c.pass_time.ensures.taken))) in
           search (rules, until);
+      wakes = refl;
       step = search rules;
       ends = search rules;
       unheeded = on-err c.from_residual-in_err-signal_all.result _ c.requires.heeded;
@@ -252,6 +255,7 @@ returns-in_err-let_go_of_conns g c =
           (counts-alike (g.F.Front.seen c.args.front.now).counts (g.F.Front.seen c.args.front.now).counts c.args.self.now.board.book c.let_go_of_conns.new.board.book (same-counts (g.F.Front.seen c.args.front.now).counts (g.F.Front.seen c.args.front.now).counts refl)
           (alike-orderless c.args.self.now.board.book c.let_go_of_conns.new.board.book (orderless-more c.passes_act_in_steps.ensures.acts c.args.self.now.board.book c.signal_all.new.board.book c.let_go_of_conns.new.board.book (orderless-more c.passes_act_in_steps.ensures.acts c.args.self.now.board.book c.pass_time.new.board.book c.signal_all.new.board.book (orderless-time (moment_for c.args.moment) c.args.self.now.board.book c.pass_time.new.board.book c.in_ok-pass_time.ensures.passes) (orderless-signals c.args.self.now.ready c.pass_time.new.board.book c.signal_all.new.board.book (subst (λ (xs : List ℕ). Acts 0 (signal_events c.pass_time.new.board.book xs) None c.pass_time.new.board.book c.signal_all.new.board.book) c.slots.ensures.is c.in_ok-signal_all.ensures.signals))) (orderless-until c.passes_act_in_steps.ensures.acts c.in_err-let_go_of_conns.field-0.0 c.signal_all.new.board.book c.let_go_of_conns.new.board.book c.in_err-let_go_of_conns.ensures.until)) (c.let_go_of_conns.ensures.rest.going ∙ c.signal_all.ensures.rest.going ∙ c.pass_time.ensures.going) (c.let_go_of_conns.ensures.rest.accepted ∙ c.signal_all.ensures.rest.accepted ∙ c.pass_time.ensures.taken))) in
           search (rules, until);
+      wakes = refl;
       step = search rules;
       ends = search rules;
       unheeded = on-err c.from_residual-in_err-let_go_of_conns.result _ c.requires.heeded;
@@ -296,6 +300,7 @@ returns-in_err-asked g c =
           (alike-orderless c.args.self.now.board.book c.let_go_of_conns.new.board.book (orderless-before c.passes_act_in_steps.ensures.acts (moment_for c.args.moment) c.args.self.now.ready c.args.self.now.board.book c.pass_time.new.board.book c.signal_all.new.board.book c.let_go_of_conns.new.board.book c.in_ok-pass_time.ensures.passes (subst (λ (xs : List ℕ). Acts 0 (signal_events c.pass_time.new.board.book xs) None c.pass_time.new.board.book c.signal_all.new.board.book) c.slots.ensures.is c.in_ok-signal_all.ensures.signals) c.in_ok-let_go_of_conns.ensures.gone) (c.let_go_of_conns.ensures.rest.going ∙ c.signal_all.ensures.rest.going ∙ c.pass_time.ensures.going) (c.let_go_of_conns.ensures.rest.accepted ∙ c.signal_all.ensures.rest.accepted ∙ c.pass_time.ensures.taken)))
           c.in_err-asked.ensures.counts in
           search (rules, until);
+      wakes = c.heed.ensures.wakes;
       step = search rules;
       ends = search rules;
       unheeded = on-err c.from_residual-in_err-asked.result _ c.in_err-asked.ensures.unheeded;
@@ -330,6 +335,7 @@ returns-then-asked g c =
           (counts-alike (g.F.Front.seen c.args.front.now).counts (g.F.Front.seen c.args.front.now).counts c.args.self.now.board.book c.let_go_of_conns.new.board.book (same-counts (g.F.Front.seen c.args.front.now).counts (g.F.Front.seen c.args.front.now).counts refl)
           (alike-orderless c.args.self.now.board.book c.let_go_of_conns.new.board.book (orderless-before c.passes_act_in_steps.ensures.acts (moment_for c.args.moment) c.args.self.now.ready c.args.self.now.board.book c.pass_time.new.board.book c.signal_all.new.board.book c.let_go_of_conns.new.board.book c.in_ok-pass_time.ensures.passes (subst (λ (xs : List ℕ). Acts 0 (signal_events c.pass_time.new.board.book xs) None c.pass_time.new.board.book c.signal_all.new.board.book) c.slots.ensures.is c.in_ok-signal_all.ensures.signals) c.in_ok-let_go_of_conns.ensures.gone) (c.let_go_of_conns.ensures.rest.going ∙ c.signal_all.ensures.rest.going ∙ c.pass_time.ensures.going) (c.let_go_of_conns.ensures.rest.accepted ∙ c.signal_all.ensures.rest.accepted ∙ c.pass_time.ensures.taken)))
           (subst (λ (b : Bool). CountsOn (owed_by b) (g.F.Front.seen c.args.front.now).counts (g.F.Front.seen c.heed.new.front).counts c.let_go_of_conns.new.board.book c.heed.new.self.board.book) c.if-asked.true c.in_ok-asked.ensures.counts));
+      wakes = c.heed.ensures.wakes;
       step = c.heed.ensures.step;
       ends = (c.heed.ensures.up, (c.in_ok-asked.ensures.asked c.if-asked.true).0, (c.in_ok-asked.ensures.asked c.if-asked.true).1);
       unheeded = search rules;
@@ -368,6 +374,7 @@ returns-then-is_gone g c =
           (subst (λ (b : Bool). CountsOn (owed_by b) (g.F.Front.seen c.args.front.now).counts (g.F.Front.seen c.heed.new.front).counts c.let_go_of_conns.new.board.book c.heed.new.self.board.book) c.if-asked.false c.in_ok-asked.ensures.counts))
           (counts-alike (g.F.Front.seen c.heed.new.front).counts (g.F.Front.seen c.heed.new.front).counts c.heed.new.self.board.book c.retire_all.new.board.book (same-counts (g.F.Front.seen c.heed.new.front).counts (g.F.Front.seen c.heed.new.front).counts refl)
           (alike-orderless c.heed.new.self.board.book c.retire_all.new.board.book (orderless-retires c.heed.new.self.board.book c.retire_all.new.board.book c.retire_all.ensures.retires) c.retire_all.ensures.going c.retire_all.ensures.rest.accepted)));
+      wakes = c.heed.ensures.wakes;
       step = (step-kept (g.F.Front.seen c.heed.new.front).told c.heed.new.self.board.book.state c.retire_all.new.board.book.state c.retire_all.ensures.rest.accepted c.retire_all.ensures.going c.heed.ensures.step);
       ends = (c.is_gone.ensures.0 c.if-is_gone.true, (c.in_ok-asked.ensures.none c.if-asked.false).0);
       unheeded = search rules;
@@ -414,6 +421,7 @@ returns-in_err-start_children g c =
           (counts-alike (g.F.Front.seen c.heed.new.front).counts (g.F.Front.seen c.heed.new.front).counts c.heed.new.self.board.book c.start_children.new.board.book (same-counts (g.F.Front.seen c.heed.new.front).counts (g.F.Front.seen c.heed.new.front).counts refl)
           (alike-orderless c.heed.new.self.board.book c.start_children.new.board.book (orderless-children c.passes_act_in_steps.ensures.acts c.heed.new.self.board.book c.retire_all.new.board.book c.start_children.new.board.book c.retire_all.ensures.retires c.start_children.ensures.starts) (c.start_children.ensures.going ∙ c.retire_all.ensures.going) (c.start_children.ensures.rest.accepted ∙ c.retire_all.ensures.rest.accepted)))) in
           search (rules, until);
+      wakes = c.heed.ensures.wakes;
       step = search rules;
       ends = search rules;
       unheeded = on-err c.from_residual-in_err-start_children.result _ (c.in_ok-asked.ensures.none c.if-asked.false).0;
@@ -462,6 +470,7 @@ returns-in_err-take_all g c =
           (alike-orderless c.heed.new.self.board.book c.start_children.new.board.book (orderless-children c.passes_act_in_steps.ensures.acts c.heed.new.self.board.book c.retire_all.new.board.book c.start_children.new.board.book c.retire_all.ensures.retires c.start_children.ensures.starts) (c.start_children.ensures.going ∙ c.retire_all.ensures.going) (c.start_children.ensures.rest.accepted ∙ c.retire_all.ensures.rest.accepted))))
           c.in_err-take_all.ensures.counts in
           search (rules, until);
+      wakes = c.take_all.ensures.wakes ∙ c.heed.ensures.wakes;
       step = search rules;
       ends = search rules;
       unheeded = on-err c.from_residual-in_err-take_all.result _ (heeded-takes (g.F.Front.seen c.heed.new.front).told (g.F.Front.seen c.take_all.new.front).told c.take_all.ensures.front (c.in_ok-asked.ensures.none c.if-asked.false).0);
@@ -508,6 +517,7 @@ returns g c =
           (counts-alike (g.F.Front.seen c.heed.new.front).counts (g.F.Front.seen c.heed.new.front).counts c.heed.new.self.board.book c.start_children.new.board.book (same-counts (g.F.Front.seen c.heed.new.front).counts (g.F.Front.seen c.heed.new.front).counts refl)
           (alike-orderless c.heed.new.self.board.book c.start_children.new.board.book (orderless-children c.passes_act_in_steps.ensures.acts c.heed.new.self.board.book c.retire_all.new.board.book c.start_children.new.board.book c.retire_all.ensures.retires c.start_children.ensures.starts) (c.start_children.ensures.going ∙ c.retire_all.ensures.going) (c.start_children.ensures.rest.accepted ∙ c.retire_all.ensures.rest.accepted))))
           c.in_ok-take_all.ensures.counts);
+      wakes = c.take_all.ensures.wakes ∙ c.heed.ensures.wakes;
       step = search rules;
       ends = (
         c.in_ok-take_all.ensures.taken,

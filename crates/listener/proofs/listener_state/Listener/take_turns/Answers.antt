@@ -1,4 +1,5 @@
 use Rattle.std.proofs.Common.{◌≡◌, inl, inr, Option, None, refl, sym, ap, subst, ◌∙◌}
+use Rattle.mpm_base.specs.Front.{is_woken}
 use Rattle.conn_machine.specs.declared.state.State.{State}
 use Rattle.rounds.specs.declared.ends.End.{End}
 use Rattle.listener.specs.CountedInside.{CountsOn}
@@ -8,7 +9,7 @@ use Rattle.listener.specs.StandingInside.{owed_at}
 use Rattle.listener.specs.TurnsInside.{listener_of}
 use Rattle.rounds.specs.Moments.{moment_for}
 use Rattle.listener.proofs.CommandLemmas.{heeded-wait}
-use Rattle.listener.proofs.CountedEndLemmas.{alike-folded, alike-served, alike-started, clock-behind, clock-broken, clock-idle, clock-on, clock-stays, clocks-broken, counts-ending, turns-broken}
+use Rattle.listener.proofs.CountedEndLemmas.{alike-folded, alike-served, alike-started, asks-as, asks-more, asks-none, asks-wait, clock-behind, clock-broken, clock-idle, clock-on, clock-stays, clocks-broken, counts-ending, turns-broken}
 use Rattle.listener.proofs.CountedLemmas.{alike-same, counts-alike, counts-more, counts-unbroken, counts-until, same-counts, same-wait}
 use Rattle.listener.proofs.FoldedTurnLemmas.{turn-folded}
 use Rattle.listener.proofs.FrontLemmas.{follows-trans, follows-wait, named-follows, step-wait}
@@ -37,6 +38,7 @@ loop-init g c =
           turn-started g.N.Known.known c.in_ok-first.first first m between c.requires.may.heeded c.in_ok-first.ensures.first same c.start.ensures.starts c.start.ensures.rest.moment
           c.in_ok-first.ensures.until c.in_ok-first.ensures.quiet;
       counts = counts-alike (g.F.Front.seen c.args.front.now).counts (g.F.Front.seen c.args.front.now).counts c.args.self.now.board.book c.start.new.self.board.book (same-counts (g.F.Front.seen c.args.front.now).counts (g.F.Front.seen c.args.front.now).counts refl) (alike-started c.args.self.now.board.book c.start.new.self.board.book c.start.ensures.starts c.start.ensures.rest);
+      asked = asks-none (g.F.Front.seen c.args.front.now).counts.wakes (g.C.Clock.asked c.args.clock.now);
       clock = λ first at. clock-stays first (g.C.Clock.greatest c.args.clock.now) c.args.self.now.board.book.state c.start.new.self.board.book.state c.start.ensures.rest.moment at;
     }
 
@@ -305,6 +307,10 @@ loop-preserved g c =
           (alike-served c.passes_act_in_steps.ensures.acts c.take_in.new.self.board c.serve.new.self.board c.serve.ensures.serves c.serve.ensures.rest)))
           (counts-alike (g.F.Front.seen c.take_in.new.front).counts (g.F.Front.seen c.take_in.new.front).counts c.serve.new.self.board.book c.fold_history.new.board.book (same-counts (g.F.Front.seen c.take_in.new.front).counts (g.F.Front.seen c.take_in.new.front).counts refl)
           (alike-folded g.N.Known.known c.serve.new.self.board c.fold_history.new.board c.fold_history.ensures));
+      asked =
+          asks-as (g.F.Front.seen c.args.front.now).counts.wakes (g.F.Front.seen c.take_pause-pause.new.front).counts.wakes (g.F.Front.seen c.take_in.new.front).counts.wakes (g.C.Clock.asked c.args.clock.now) (g.C.Clock.asked c.take_pause-pause.new.clock) c.take_in.ensures.wakes
+    (asks-more (g.F.Front.seen c.args.front.now).counts.wakes (g.F.Front.seen c.loop.front).counts.wakes (g.F.Front.seen c.take_pause-pause.new.front).counts.wakes (g.C.Clock.asked c.args.clock.now) (g.C.Clock.asked c.loop.clock) (g.C.Clock.asked c.take_pause-pause.new.clock) c.loop.invariant.asked
+    (asks-wait (is_woken c.take_pause-pause.result.woke) (g.F.Front.seen c.loop.front).counts.wakes (g.F.Front.seen c.take_pause-pause.new.front).counts.wakes (g.C.Clock.asked c.loop.clock) (g.C.Clock.asked c.take_pause-pause.new.clock) c.take_pause-pause.ensures.waits.wakes c.take_pause-pause.ensures.asked));
       clock =
           λ first at. clock-stays first (g.C.Clock.greatest c.take_pause-pause.new.clock) c.serve.new.self.board.book.state c.fold_history.new.board.book.state (ap (λ (s : State). s.moment) c.fold_history.ensures.state)
           (clock-stays first (g.C.Clock.greatest c.take_pause-pause.new.clock) c.take_in.new.self.board.book.state c.serve.new.self.board.book.state c.serve.ensures.rest.moment
@@ -398,3 +404,35 @@ returns-in_err-rest-clause-clock g c =
     (λ first at. clock-behind first (g.C.Clock.greatest c.take_pause-pause.new.clock) c.take_in.new.self.board.book.state c.serve.new.self.board.book.state c.serve.ensures.rest.moment
     (clock-on c.take_pause-pause.result.woke c.moment-present.result (g.C.Clock.greatest c.loop.clock) (g.C.Clock.greatest c.take_pause-pause.new.clock) c.take_pause-pause.result.moment c.loop.self.board.book.state c.take_in.new.self.board.book.state c.take_pause-pause.ensures.moves
     c.moment-present.ensures c.in_ok-ended.ensures.moment first (c.loop.invariant.clock first at)))
+
+pub returns-in_err-first-clause-asked : goal.returns-in_err-first-clause-asked
+returns-in_err-first-clause-asked g c =
+    asks-none (g.F.Front.seen c.args.front.now).counts.wakes (g.C.Clock.asked c.args.clock.now)
+
+pub returns-in-Ended-clause-asked : goal.returns-in-Ended-clause-asked
+returns-in-Ended-clause-asked g c =
+    asks-more (g.F.Front.seen c.args.front.now).counts.wakes (g.F.Front.seen c.loop.front).counts.wakes (g.F.Front.seen c.take_pause-pause.new.front).counts.wakes (g.C.Clock.asked c.args.clock.now) (g.C.Clock.asked c.loop.clock) (g.C.Clock.asked c.take_pause-pause.new.clock) c.loop.invariant.asked
+    (asks-wait (is_woken c.take_pause-pause.result.woke) (g.F.Front.seen c.loop.front).counts.wakes (g.F.Front.seen c.take_pause-pause.new.front).counts.wakes (g.C.Clock.asked c.loop.clock) (g.C.Clock.asked c.take_pause-pause.new.clock) c.take_pause-pause.ensures.waits.wakes c.take_pause-pause.ensures.asked)
+
+pub returns-in-Failed-clause-asked : goal.returns-in-Failed-clause-asked
+returns-in-Failed-clause-asked g c =
+    asks-more (g.F.Front.seen c.args.front.now).counts.wakes (g.F.Front.seen c.loop.front).counts.wakes (g.F.Front.seen c.take_pause-pause.new.front).counts.wakes (g.C.Clock.asked c.args.clock.now) (g.C.Clock.asked c.loop.clock) (g.C.Clock.asked c.take_pause-pause.new.clock) c.loop.invariant.asked
+    (asks-wait (is_woken c.take_pause-pause.result.woke) (g.F.Front.seen c.loop.front).counts.wakes (g.F.Front.seen c.take_pause-pause.new.front).counts.wakes (g.C.Clock.asked c.loop.clock) (g.C.Clock.asked c.take_pause-pause.new.clock) c.take_pause-pause.ensures.waits.wakes c.take_pause-pause.ensures.asked)
+
+pub returns-in_err-ended-clause-asked : goal.returns-in_err-ended-clause-asked
+returns-in_err-ended-clause-asked g c =
+    asks-as (g.F.Front.seen c.args.front.now).counts.wakes (g.F.Front.seen c.take_pause-pause.new.front).counts.wakes (g.F.Front.seen c.take_in.new.front).counts.wakes (g.C.Clock.asked c.args.clock.now) (g.C.Clock.asked c.take_pause-pause.new.clock) c.take_in.ensures.wakes
+    (asks-more (g.F.Front.seen c.args.front.now).counts.wakes (g.F.Front.seen c.loop.front).counts.wakes (g.F.Front.seen c.take_pause-pause.new.front).counts.wakes (g.C.Clock.asked c.args.clock.now) (g.C.Clock.asked c.loop.clock) (g.C.Clock.asked c.take_pause-pause.new.clock) c.loop.invariant.asked
+    (asks-wait (is_woken c.take_pause-pause.result.woke) (g.F.Front.seen c.loop.front).counts.wakes (g.F.Front.seen c.take_pause-pause.new.front).counts.wakes (g.C.Clock.asked c.loop.clock) (g.C.Clock.asked c.take_pause-pause.new.clock) c.take_pause-pause.ensures.waits.wakes c.take_pause-pause.ensures.asked))
+
+pub returns-in-Some-ended-clause-asked : goal.returns-in-Some-ended-clause-asked
+returns-in-Some-ended-clause-asked g c =
+    asks-as (g.F.Front.seen c.args.front.now).counts.wakes (g.F.Front.seen c.take_pause-pause.new.front).counts.wakes (g.F.Front.seen c.take_in.new.front).counts.wakes (g.C.Clock.asked c.args.clock.now) (g.C.Clock.asked c.take_pause-pause.new.clock) c.take_in.ensures.wakes
+    (asks-more (g.F.Front.seen c.args.front.now).counts.wakes (g.F.Front.seen c.loop.front).counts.wakes (g.F.Front.seen c.take_pause-pause.new.front).counts.wakes (g.C.Clock.asked c.args.clock.now) (g.C.Clock.asked c.loop.clock) (g.C.Clock.asked c.take_pause-pause.new.clock) c.loop.invariant.asked
+    (asks-wait (is_woken c.take_pause-pause.result.woke) (g.F.Front.seen c.loop.front).counts.wakes (g.F.Front.seen c.take_pause-pause.new.front).counts.wakes (g.C.Clock.asked c.loop.clock) (g.C.Clock.asked c.take_pause-pause.new.clock) c.take_pause-pause.ensures.waits.wakes c.take_pause-pause.ensures.asked))
+
+pub returns-in_err-rest-clause-asked : goal.returns-in_err-rest-clause-asked
+returns-in_err-rest-clause-asked g c =
+    asks-as (g.F.Front.seen c.args.front.now).counts.wakes (g.F.Front.seen c.take_pause-pause.new.front).counts.wakes (g.F.Front.seen c.take_in.new.front).counts.wakes (g.C.Clock.asked c.args.clock.now) (g.C.Clock.asked c.take_pause-pause.new.clock) c.take_in.ensures.wakes
+    (asks-more (g.F.Front.seen c.args.front.now).counts.wakes (g.F.Front.seen c.loop.front).counts.wakes (g.F.Front.seen c.take_pause-pause.new.front).counts.wakes (g.C.Clock.asked c.args.clock.now) (g.C.Clock.asked c.loop.clock) (g.C.Clock.asked c.take_pause-pause.new.clock) c.loop.invariant.asked
+    (asks-wait (is_woken c.take_pause-pause.result.woke) (g.F.Front.seen c.loop.front).counts.wakes (g.F.Front.seen c.take_pause-pause.new.front).counts.wakes (g.C.Clock.asked c.loop.clock) (g.C.Clock.asked c.take_pause-pause.new.clock) c.take_pause-pause.ensures.waits.wakes c.take_pause-pause.ensures.asked))

@@ -1,3 +1,4 @@
+use Rattle.listener.specs.Counted.{AsksOnce}
 use Rattle.listener.specs.CountedInside.{ClocksAt, CountsOn}
 use Rattle.listener.specs.TurnsInside.{listener_of}
 use Rattle.listener.proofs.OverLemmas.{IsBeforeTurn}
@@ -13,5 +14,6 @@ invariant-loop g l =
           l.fn.self.config) l.rest
           (listener_of l.self.board (g.F.Front.seen l.front) (g.C.Clock.told l.clock) l.self.ready l.self.edition (g.D.Store.seen l.store) l.self.config);
       counts : CountsOn 0 (g.F.Front.seen l.fn.front).counts (g.F.Front.seen l.front).counts l.fn.self.board.book l.self.board.book;
+      asked : AsksOnce (g.F.Front.seen l.fn.front).counts.wakes (g.F.Front.seen l.front).counts.wakes (g.C.Clock.asked l.fn.clock) (g.C.Clock.asked l.clock);
       clock : ClocksAt (g.C.Clock.greatest l.fn.clock) (g.C.Clock.greatest l.clock) l.fn.self.board.book.state l.self.board.book.state;
     }
