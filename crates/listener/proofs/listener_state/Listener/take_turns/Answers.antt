@@ -309,8 +309,8 @@ loop-preserved g c =
           (alike-folded g.N.Known.known c.serve.new.self.board c.fold_history.new.board c.fold_history.ensures));
       asked =
           asks-as (g.F.Front.seen c.args.front.now).counts.wakes (g.F.Front.seen c.take_pause-pause.new.front).counts.wakes (g.F.Front.seen c.take_in.new.front).counts.wakes (g.C.Clock.asked c.args.clock.now) (g.C.Clock.asked c.take_pause-pause.new.clock) c.take_in.ensures.wakes
-    (asks-more (g.F.Front.seen c.args.front.now).counts.wakes (g.F.Front.seen c.loop.front).counts.wakes (g.F.Front.seen c.take_pause-pause.new.front).counts.wakes (g.C.Clock.asked c.args.clock.now) (g.C.Clock.asked c.loop.clock) (g.C.Clock.asked c.take_pause-pause.new.clock) c.loop.invariant.asked
-    (asks-wait (is_woken c.take_pause-pause.result.woke) (g.F.Front.seen c.loop.front).counts.wakes (g.F.Front.seen c.take_pause-pause.new.front).counts.wakes (g.C.Clock.asked c.loop.clock) (g.C.Clock.asked c.take_pause-pause.new.clock) c.take_pause-pause.ensures.waits.wakes c.take_pause-pause.ensures.asked));
+          (asks-more (g.F.Front.seen c.args.front.now).counts.wakes (g.F.Front.seen c.loop.front).counts.wakes (g.F.Front.seen c.take_pause-pause.new.front).counts.wakes (g.C.Clock.asked c.args.clock.now) (g.C.Clock.asked c.loop.clock) (g.C.Clock.asked c.take_pause-pause.new.clock) c.loop.invariant.asked
+          (asks-wait (is_woken c.take_pause-pause.result.woke) (g.F.Front.seen c.loop.front).counts.wakes (g.F.Front.seen c.take_pause-pause.new.front).counts.wakes (g.C.Clock.asked c.loop.clock) (g.C.Clock.asked c.take_pause-pause.new.clock) c.take_pause-pause.ensures.waits.wakes c.take_pause-pause.ensures.asked));
       clock =
           λ first at. clock-stays first (g.C.Clock.greatest c.take_pause-pause.new.clock) c.serve.new.self.board.book.state c.fold_history.new.board.book.state (ap (λ (s : State). s.moment) c.fold_history.ensures.state)
           (clock-stays first (g.C.Clock.greatest c.take_pause-pause.new.clock) c.take_in.new.self.board.book.state c.serve.new.self.board.book.state c.serve.ensures.rest.moment
