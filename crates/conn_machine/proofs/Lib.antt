@@ -40,4 +40,5 @@ pub mod SoundLemmas
 pub mod SoundRuns
 pub mod UpdateLemmas
 pub mod WaitLemmas
+pub mod WaitsLaw
 pub mod WeightLemmas

@@ -18,3 +18,5 @@ pub mod Sizes
 pub mod Sound
 pub mod States
 pub mod Table
+pub mod Waits
+pub mod WaitsInside

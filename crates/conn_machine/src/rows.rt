@@ -283,6 +283,7 @@ impl Rows {
               short = false;
               cause = None;
               notes = [];
+              waits = [];
             }) }
     {
         let row = &mut self.items[slot as usize];
@@ -303,6 +304,7 @@ impl Rows {
               from = Some kind;
               deadline = deadline;
               mid = mid_after kind r;
+              waits = r.waits ++ kind ∷ [];
             }) }
     {
         let row = &mut self.items[slot as usize];

@@ -10,6 +10,7 @@ use Rattle.mpm_base.specs.Link.{LinkTold, LinkSeen}
 use Rattle.mpm_base.specs.declared.front.Arrival.{Arrival}
 use Rattle.mpm_base.specs.declared.front.Arrival.TheVariants as arrival
 use Rattle.mpm_base.specs.declared.front.Woke.{Woke}
+use Rattle.mpm_base.specs.declared.given_words.GivenWords.{GivenWords}
 use Rattle.mpm_base.specs.declared.front.Woke.TheVariants as woke
 use Rattle.conn_machine.specs.declared.state.Going.{Going}
 use Rattle.conn_machine.specs.declared.state.State.{State}
@@ -32,10 +33,12 @@ follows-trans a b c first second = record {
   faults = omega (arith, first.faults, second.faults);
   ends = omega (arith, first.ends, second.ends);
   commands = omega (arith, first.commands, second.commands);
+  stops = omega (arith, first.stops, second.stops);
 }
 
 pub follows-same : (a : FrontSeen) → Follows a a
-follows-same a = record { script = refl; clients = refl; comings = refl; faults = omega arith; ends = omega arith; commands = omega arith }
+follows-same a =
+    record { script = refl; clients = refl; comings = refl; faults = omega arith; ends = omega arith; commands = omega arith; stops = omega arith }
 
 -- a part that a change keeps
 pub mapped-part : {X : Type 0} (part : FrontTold → X) (change : FrontTold → FrontTold) (told told' : Option FrontTold)
@@ -76,6 +79,7 @@ follows-wait old new until quiet answer ready waits = record {
   faults = where-stays (wait_failed answer) old.counts.faults new.counts.faults waits.faults;
   ends = exactly-stays (is_ended answer) old.counts.ends new.counts.ends waits.ends;
   commands = omega (arith, waits.commands);
+  stops = omega (arith, ap (λ (w : GivenWords). w.stop) waits.words);
 }
 
 after_accept-clients : {L : Type 0} (answer : Arrival L) (t : FrontTold) → (after_accept answer t).clients ≡ t.clients
@@ -97,6 +101,7 @@ follows-accept link_seen old new answer accepts = record {
   faults = omega (arith, accepts.faults);
   ends = omega (arith, accepts.ends);
   commands = omega (arith, accepts.commands);
+  stops = omega (arith, ap (λ (w : GivenWords). w.stop) accepts.words);
 }
 
 -- ## Links that are taken

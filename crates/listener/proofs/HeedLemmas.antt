@@ -30,6 +30,7 @@ use Rattle.listener.specs.StandingInside.{KnowsLater, StandsOn, standing}
 use Rattle.listener.specs.declared.edition.LoadedEdition.{LoadedEdition}
 use Rattle.listener.specs.declared.edition.NamedConfig.{NamedConfig}
 use Rattle.listener.proofs.CommandLemmas.{heeded-line, stopped-line}
+use Rattle.listener.proofs.CountedLemmas.{gave-word, one-rises}
 use Rattle.run_report.proofs.CountLemmas.{rises-behind}
 use Rattle.listener.proofs.EditionLemmas.{newest-acts}
 use Rattle.listener.proofs.FrontLemmas.{follows-same, follows-trans}
@@ -444,8 +445,9 @@ serves-kept law known a b e does newest serves =
 
 -- the last line stops the server
 pub heeded-stopped : (f f' f'' : FrontSeen) (line : List ℕ) → line ≡ stop_line → Follows f f' → Commands f' f'' (Some line) → IfSome f'.told HasNoneToHeed
-    → Rises f.counts.commands f''.counts.commands × IfSome f''.told HasOneToHeed
+    → Rises f.counts.words.stop f''.counts.words.stop × IfSome f''.told HasOneToHeed
 heeded-stopped f f' f'' line is follows gave heeded = (
-  rises-behind f.counts.commands f'.counts.commands f''.counts.commands follows.commands gave.commands,
+  rises-behind f.counts.words.stop f'.counts.words.stop f''.counts.words.stop follows.stops
+      (one-rises f'.counts.words.stop f''.counts.words.stop (gave-word f' f'' line gave word.Stop is).words.stop),
   stopped-line f'.told f''.told line gave.told_is gave.gives is heeded,
 )

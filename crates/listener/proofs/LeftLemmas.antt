@@ -16,7 +16,8 @@ use Rattle.conn_machine.specs.declared.event.Entry.{Entry}
 use Rattle.conn_state.specs.Answered.{SeenEnded}
 use Rattle.conn_state.specs.Known.{KnownOutside}
 use Rattle.board.specs.Editions.{GenerationsKeepTheirEditions, KeepsEditions}
-use Rattle.listener.specs.RunsInside.{HasRunBy}
+use Rattle.listener.specs.Counted.{CountsRun}
+use Rattle.listener.specs.RunsInside.{BacksWaits, HasRunBy}
 use Rattle.listener.specs.FirstNumbers.{numbers_of}
 use Rattle.listener.specs.Generations.{Opening, renewed}
 use Rattle.listener.specs.Listen.{HasClosedAll, IsRunFrom}
@@ -89,6 +90,8 @@ pub record LeavesRun (o : Opening) (n : RunNumbers) (l : SeenListener) : Type 0 
   pub front : IfSome l.front.told (KeepsFront n l.board.book.state (all_entries n l.board.book stood.folded) (all_ended n l.board stood.folded))
   pub time : IsInTime (waits_of l.front.told) l.calls
   pub stopped : StoppedFor o.front l.front l.board.book.state
+  pub counted : CountsRun l.board.book o.front.counts l.front.counts
+  pub backed : BacksWaits n l.board
 
 -- the laws of editions, and of connections that ended
 module _ (keep : GenerationsKeepTheirEditions) (join : (known : Option KnownOutside) (book : SeenBook) (ended ended' : List SeenEnded) → EndedOfOutside known book ended → EndedOfOutside known book ended' → EndedOfOutside known book (ended ++ ended')) (stay : (known : Option KnownOutside) (old new : SeenBook) (ended : List SeenEnded) → KeepsEditions old new → EndedOfOutside known old ended → EndedOfOutside known new ended) where
@@ -107,6 +110,7 @@ module _ (keep : GenerationsKeepTheirEditions) (join : (known : Option KnownOuts
           closed = left.closed;
           ordered = stood.ordered;
           served = serves-editions keep join stay o m l.board stood.folded stood.outside left.outside.ended;
+          backed = left.backed stood.folded;
         };
         outside = record {
           front = left.front;
@@ -115,6 +119,7 @@ module _ (keep : GenerationsKeepTheirEditions) (join : (known : Option KnownOuts
           patient = stood.keeps.patient;
           stopped = left.stopped;
         };
+        counted = left.counted;
         given = stood.given;
         store_is = stood.store;
       })

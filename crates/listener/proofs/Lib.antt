@@ -2,6 +2,8 @@ pub mod BrokenLemmas
 pub mod BroughtLemmas
 pub mod CommandLemmas
 pub mod CommandlessLemmas
+pub mod CountedEndLemmas
+pub mod CountedLemmas
 pub mod EditionLemmas
 pub mod EventLemmas
 pub mod FoldLemmas

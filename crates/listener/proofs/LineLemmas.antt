@@ -190,7 +190,7 @@ pub asks-ending : (ending : Bool) → asked_in ending (command_word word.Gracefu
 asks-ending true = refl
 asks-ending false = refl
 
-other-word : (line other : List ℕ) → line ≢ other → bytes_eq line other ≡ false
+pub other-word : (line other : List ℕ) → line ≢ other → bytes_eq line other ≡ false
 other-word line other differs = false_from_ne_true (bytes_eq line other) (λ same. differs ((bytes_eq-Decides line other).0 same))
 
 -- a line that is no word asks for nothing

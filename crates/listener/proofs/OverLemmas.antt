@@ -259,8 +259,8 @@ module _ (steps : ActsInSteps) (known : Option KnownOutside) (rest : Rest) (paus
       (did-some (Some end.Asked) (moment_for pause.moment) w.ready w.board.book b.board.book gone.round)) gone.goes_on
       (heeds-asked b.front.told ends.2) (patient-then b gone.round.0 (Some end.Asked) gone) (
         ends.0,
-        rises-behind first.front.counts.commands w.front.counts.commands b.front.counts.commands
-            (kept-waited rest pause a w steps first before.between.kept waited).follows.commands ends.1,
+        rises-behind first.front.counts.words.stop w.front.counts.words.stop b.front.counts.words.stop
+            (kept-waited rest pause a w steps first before.between.kept waited).follows.stops ends.1,
       )
   over-taken end.Overdue b gone ends =
       over-gone end.Overdue b gone

@@ -1,23 +1,25 @@
 -- What the parts of a round do in which nothing is ordered: how many orders there were, the newest generation's edition, and what is known
 -- of the editions to come stay as they were.
-use Rattle.std.proofs.Common.{◌≡◌, inl, inr, ℕ, List, [], ◌∷◌, ◌++◌, length, Option, None, Some, refl, sym, subst}
+use Rattle.std.proofs.Common.{◌≡◌, inl, inr, ℕ, List, [], ◌∷◌, ◌++◌, length, Option, None, Some, IfErr, OnOk, Result, Ok, Err, refl, sym, subst, ◌∙◌}
 use Rattle.mpm_base.specs.Store.{StoreTold}
+use Rattle.mpm_base.specs.declared.conn.ConnName.{ConnName}
 use Rattle.conn_machine.specs.declared.event.Event.{Event}
 use Rattle.conn_machine.specs.declared.event.Event.TheVariants as event
 use Rattle.conn_state.specs.Known.{KnownOutside}
 use Rattle.board.specs.declared.faults.BoardFault.{BoardFault}
 use Rattle.board.specs.Book.{SeenBook, row_in}
-use Rattle.board.specs.Editions.{GenerationsKeepTheirEditions}
+use Rattle.board.specs.Editions.{GenerationsKeepTheirEditions, orders_in}
 use Rattle.worker_group.specs.Acts.{Acts, ActsInSteps}
-use Rattle.worker_group.specs.Service.{give_up_events}
+use Rattle.worker_group.specs.Service.{give_up_events, left_events}
+use Rattle.worker_group.specs.declared.service.Exit.{Exit}
 use Rattle.rounds.specs.ClosingInside.{GivesUpDrained, LetsGo, lingering_give_up_events}
 use Rattle.listener.specs.OrdersInside.{KnowsComing, ServesNewest}
 use Rattle.listener.specs.RoundInside.{FailsTaking, TakesSome, TakesUntil}
-use Rattle.rounds.specs.PartsInside.{LetsGoOfConns, LetsGoUntil, PassesTime, RetiresSome, SignalsFirst, StartsSome, signal_events}
+use Rattle.rounds.specs.PartsInside.{GivesUp, LetsGoOfConns, LetsGoUntil, PassesTime, RetiresSome, SignalsFirst, StartsSome, signal_events}
 use Rattle.rounds.specs.Moments.{known_slots, ticks_to}
 use Rattle.listener.specs.declared.edition.LoadedEdition.{LoadedEdition}
 use Rattle.listener.specs.declared.edition.NamedConfig.{NamedConfig}
-use Rattle.listener.proofs.CommandlessLemmas.{AreCommandless, commandless-both, commandless-departures, commandless-gone, commandless-readies, commandless-retires, commandless-starts, commandless-takes, commandless-time}
+use Rattle.listener.proofs.CommandlessLemmas.{AreCommandless, commandless-both, commandless-departures, commandless-gone, commandless-left, commandless-readies, commandless-retires, commandless-starts, commandless-takes, commandless-time, orders-kept}
 use Rattle.listener.proofs.EditionLemmas.{coming-acts, newest-acts}
 
 -- the listener did this, none of which is a command; it has no connection then
@@ -138,3 +140,14 @@ newest-orderless law known a b e orderless newest serves = newest-acts law known
 pub coming-orderless : (known : Option KnownOutside) (a b : SeenBook) (c : NamedConfig) (told : Option StoreTold) → ActsOrderless a b
     → KnowsComing known a c told → KnowsComing known b c told
 coming-orderless known a b c told orderless knows = coming-acts known 0 orderless.events None a b c told orderless.acts orderless.none knows
+
+-- ## A connection that was taken
+
+-- there were as many orders before it
+pub orders-taken : {T : Type 0} (r : Result T BoardFault) (name name' : ConnName) (way : Exit) (a b c : SeenBook)
+    → Acts 0 (event.Accept name.slot ∷ []) (Some name) a b → OnOk r (Acts 0 (left_events way name') None b c)
+    → IfErr r (λ f. GivesUp f name' b c) → orders_in c ≡ orders_in a
+orders-taken (Ok x) name name' way a b c took left given =
+    orders-kept 0 (left_events way name') None b c left (commandless-left way name') ∙ orders-kept 0 (event.Accept name.slot ∷ []) (Some name) a b took refl
+orders-taken (Err fault) name name' way a b c took left given =
+    orders-kept 0 (give_up_events fault name') None b c given refl ∙ orders-kept 0 (event.Accept name.slot ∷ []) (Some name) a b took refl

@@ -232,6 +232,13 @@ orders-acts c a b is acts =
     sum_by-cons (λ (x : Entry). cond (is_order x.event) 1 0) one.0 [] ∙ ap (λ (test : Bool). cond test 1 0 + 0) (ap is_order one.2 ∙ is) in
     omega (arith, folded, whole, counted, counted-both is_order a.history (one.0 ∷ []))
 
+pub orders-refused : (reason : Refusal) (a b : SeenBook) → Refuses reason a b → orders_in b ≡ orders_in a + 1
+orders-refused reason a b refuses = orders-acts (commanded.Refused reason) a b refl refuses.acts
+
+pub orders-carried : (plan : Plan) (a b : SeenBook) (e e' : LoadedEdition) → Carries plan a b e e' → orders_in b ≡ orders_in a + 1
+orders-carried plan a b e e' (inl begins) = orders-acts (commanded.Graceful (shape_by plan.config)) a b refl begins.acts
+orders-carried plan a b e e' (inr lacks) = orders-refused refusal.NoMemory a b lacks.refuses
+
 pub knows-refused : (reason : Refusal) (known : Option KnownOutside) (c : NamedConfig) (s s' : StoreSeen) (a b : SeenBook) → Refuses reason a b → Renews s s'
     → KnowsComing known a c s.told → KnowsComing known b c s'.told
 knows-refused reason known c s s' a b refuses renews knows =

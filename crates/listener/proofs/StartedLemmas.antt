@@ -143,7 +143,7 @@ stopped-before old bound new s follows stopped = record {
         })
         | inr (inl asked) ↦ inr (inl (record {
           going = asked.going;
-          gave = rises-behind old.counts.commands bound.counts.commands new.counts.commands follows.commands asked.gave;
+          gave = rises-behind old.counts.words.stop bound.counts.words.stop new.counts.words.stop follows.stops asked.gave;
         }))
         | inr (inr (inl failed)) ↦ inr (inr (inl (record {
           going = failed.going;

@@ -30,7 +30,7 @@ has-stopped (Ok end.Asked) first now front' b d ends down is = record {
   cause =
       inr (inl (record {
         going = down.going;
-        gave = subst (Rises first.counts.commands) (sym (ap (λ (f : FrontSeen). f.counts.commands) is)) ends.1;
+        gave = subst (Rises first.counts.words.stop) (sym (ap (λ (f : FrontSeen). f.counts.words.stop) is)) ends.1;
       }));
 }
 has-stopped (Ok end.Failed) first now front' b d ends down is = record {

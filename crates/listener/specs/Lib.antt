@@ -1,4 +1,6 @@
 pub mod Commands
+pub mod Counted
+pub mod CountedInside
 pub mod FirstNumbers
 pub mod FirstNumbersInside
 pub mod FoldsInside

@@ -105,6 +105,7 @@ pub record Follows (old new : FrontSeen) : Type 0 where
   pub faults : NeverFalls old.counts.faults new.counts.faults
   pub ends : NeverFalls old.counts.ends new.counts.ends
   pub commands : NeverFalls old.counts.commands new.counts.commands
+  pub stops : NeverFalls old.counts.words.stop new.counts.words.stop
 
 -- the front listens exactly while the server takes connections
 abbrev pub ListensAsServed : State → FrontTold → Type 0
@@ -182,7 +183,7 @@ pub record HasNothingToCome (old new : FrontSeen) (s : State) : Type 0 where
 -- over, or all is gone behind one, or the server has to stop
 abbrev pub TurnsEnd : Result End BoardFault → FrontSeen → FrontSeen → SeenBook → Type 0
 TurnsEnd (Ok end.Ended) old new b = HasNothingToCome old new b.state
-TurnsEnd (Ok end.Asked) old new b = (is_halted b.state.going ≡ false) × Rises old.counts.commands new.counts.commands
+TurnsEnd (Ok end.Asked) old new b = (is_halted b.state.going ≡ false) × Rises old.counts.words.stop new.counts.words.stop
 TurnsEnd (Ok end.Failed) old new b =
     (is_halted b.state.going ≡ false) × Rises old.counts.faults new.counts.faults × IfSome new.told HasFailedLast
 TurnsEnd (Ok end.Overdue) old new b = is_over b.state.moment b.state.going ≡ true
@@ -198,7 +199,7 @@ TookAll told s = (acceptable s ≡ None) ⊎ IfSome told HasNoneToTake ⊎ IfSom
 abbrev pub TakesInTo : Option End → FrontSeen → FrontSeen → State → Type 0
 TakesInTo None old new s = TookAll new.told s × HasReadAll new.told × IfSome new.told HasNoneToHeed
 TakesInTo (Some end.Asked) old new s =
-    (is_halted s.going ≡ false) × Rises old.counts.commands new.counts.commands × IfSome new.told HasOneToHeed
+    (is_halted s.going ≡ false) × Rises old.counts.words.stop new.counts.words.stop × IfSome new.told HasOneToHeed
 TakesInTo (Some end.Overdue) old new s = (is_over s.moment s.going ≡ true) × IfSome new.told HasNoneToHeed
 TakesInTo (Some end.Gone) old new s = IsAllGone s × IfSome new.told HasNoneToHeed
 TakesInTo (Some end.Ended) old new s = ⊥

@@ -5,15 +5,18 @@
 //! state it says no more than where it stands in the end, and what the listener alone changes: the moment, how many connections
 //! were taken, which generation is the newest, and how the server goes on. What all orders did since the run opened goes on from
 //! where it stood (`specs/StandingInside.antt`).
-ghost use Rattle.std.specs.Prelude.{◌≡◌, ◌<◌, [], ◌∷◌, ◌++◌, None, true, false, length, is_some, max, IfOk, IfErr, IfSome, MatchResult, OnErr, OnOk};
-ghost use Rattle.mpm_base.specs.Count.{next_count};
-ghost use Rattle.mpm_base.specs.Front.{TellsOn, Waits, after_hush};
+ghost use Rattle.std.specs.Prelude.{◌≡◌, ◌<◌, [], ◌∷◌, ◌++◌, ◌≤◌, None, true, false, length, is_some, max, IfOk, IfErr, IfSome, MatchResult, OnErr, OnOk};
+ghost use Rattle.mpm_base.specs.Count.{CountsWhere, next_count};
+ghost use Rattle.mpm_base.specs.Front.{TellsOn, Waits, after_hush, is_woken};
 ghost use Rattle.conn_state.specs.Known.{IsOfClient};
 ghost use Rattle.board.specs.Finds.{acceptable, next_deadline_of};
 ghost use Rattle.board.specs.Book.{row_in};
+ghost use Rattle.board.specs.Editions.{orders_in};
 ghost use Rattle.worker_group.specs.Service.{IsUp, LeavesRest, RefusalLasts};
 ghost use Rattle.listener.specs.ListenInside.{AsksFor, Follows, HandsOut, HasNoneToHeed, IsArrival, IsInStep, IsKnownOfFront, ListensAsServed, OnlyReadsAndTakes, OnlyTakes, StaysWatching, TakesInTo, TellsAlike, TookAll};
 ghost use Rattle.rounds.specs.TableInside.{IsOpening, IsRestful, NoneDueLate, StandsInTime, asked_children};
+ghost use Rattle.listener.specs.Counted.{AsksOnce};
+ghost use Rattle.listener.specs.CountedInside.{ClocksOn, CountsOn, CountsToEnd, CountsUntil, KeepsClockFrom, LacksLink, MovesClock, TurnsCount};
 ghost use Rattle.listener.specs.OrdersInside.{KnowsComing, ServesNewest};
 ghost use Rattle.listener.specs.RoundInside.{BreaksOff, EndsTaking, FailsTaking, IsTaking, RoundEnds, TakesSome, TakesUntil};
 ghost use Rattle.rounds.specs.PartsInside.{ServesSome, StartsSome, StaysTimely};
@@ -29,7 +32,7 @@ ghost use Rattle.rounds.specs.Moments.{moment_for};
 use crate::folding::fold_history;
 use crate::listener_state::Listener;
 use board::BoardFault;
-use board::laws::generations_keep_their_editions;
+use board::laws::{generations_keep_their_editions, waits_are_backed_by_calls};
 use conn_machine::laws_of_runs::{
     histories_go_on_by_one_entry, histories_join, rows_change_one_at_a_time,
 };
@@ -67,11 +70,17 @@ impl<'a, 'c, L: Link + Send, N: Known, B: Bell, G: Gate> Listener<'a, 'c, L, N, 
         requires named { IsKnownOfFront N.known (F.seen front.old).told }
         requires may { MayListen N.known (listener_of self.old.board (F.seen front.old)
             (C.told clock.old) self.old.ready self.old.edition (D.seen store.old) self.old.config) }
-        ensures { let first = listener_of self.old.board (F.seen front.old)
+        ensures listened { let first = listener_of self.old.board (F.seen front.old)
             (C.told clock.old) self.old.ready self.old.edition (D.seen store.old) self.old.config in
             let now = listener_of self.new.board (F.seen front.new)
             (C.told clock.new) self.new.ready self.new.edition (D.seen store.new) self.new.config in
             HasListened N.known first now }
+        ensures counts { CountsToEnd (F.seen front.old).counts (F.seen front.new).counts
+            self.old.board.book self.new.board.book }
+        ensures clock { KeepsClockFrom (C.greatest clock.old) (C.greatest clock.new)
+            self.old.board.book.state self.new.board.book.state }
+        ensures asked { AsksOnce (F.seen front.old).counts.wakes (F.seen front.new).counts.wakes
+            (C.asked clock.old) (C.asked clock.new) }
     {
         let turns = self.take_turns(rt, store, front, clock);
         self.hush(front);
@@ -103,11 +112,17 @@ impl<'a, 'c, L: Link + Send, N: Known, B: Bell, G: Gate> Listener<'a, 'c, L, N, 
         requires named { IsKnownOfFront N.known (F.seen front.old).told }
         requires may { MayListen N.known (listener_of self.old.board (F.seen front.old)
             (C.told clock.old) self.old.ready self.old.edition (D.seen store.old) self.old.config) }
-        ensures { let first = listener_of self.old.board (F.seen front.old)
+        ensures over { let first = listener_of self.old.board (F.seen front.old)
             (C.told clock.old) self.old.ready self.old.edition (D.seen store.old) self.old.config in
             let now = listener_of self.new.board (F.seen front.new)
             (C.told clock.new) self.new.ready self.new.edition (D.seen store.new) self.new.config in
             AreOver N.known result first now }
+        ensures counts { TurnsCount result (F.seen front.old).counts (F.seen front.new).counts
+            self.old.board.book self.new.board.book }
+        ensures clock { ClocksOn result (C.greatest clock.old) (C.greatest clock.new)
+            self.old.board.book.state self.new.board.book.state }
+        ensures asked { AsksOnce (F.seen front.old).counts.wakes (F.seen front.new).counts.wakes
+            (C.asked clock.old) (C.asked clock.new) }
     {
         generations_keep_their_editions();
         histories_join();
@@ -239,6 +254,15 @@ impl<'a, 'c, L: Link + Send, N: Known, B: Bell, G: Gate> Listener<'a, 'c, L, N, 
         ensures moment { OnOk result
             (self.new.board.book.state.moment ≡ max self.old.board.book.state.moment
             (moment_for moment)) }
+        ensures stays { OnErr result
+            (self.new.board.book.state.moment ≤ max self.old.board.book.state.moment
+            (moment_for moment)) }
+        ensures counts { let old = (F.seen front.old).counts in
+            let new = (F.seen front.new).counts in
+            MatchResult result
+            (λ ended. CountsOn (owed_at ended) old new self.old.board.book self.new.board.book)
+            (λ fault. CountsUntil old new self.old.board.book self.new.board.book) }
+        ensures wakes { (F.seen front.new).counts.wakes ≡ (F.seen front.old).counts.wakes }
         ensures step { OnOk result (IsInStep (F.seen front.new).told self.new.board.book.state) }
         ensures ends { IfOk result
             (λ ended. TakesInTo ended (F.seen front.old) (F.seen front.new)
@@ -309,6 +333,12 @@ impl<'a, 'c, L: Link + Send, N: Known, B: Bell, G: Gate> Listener<'a, 'c, L, N, 
         ensures moment { self.new.board.book.state.moment ≡ self.old.board.book.state.moment }
         ensures step { OnOk result (IsInStep (F.seen front.new).told self.new.board.book.state) }
         ensures taken { OnOk result (TookAll (F.seen front.new).told self.new.board.book.state) }
+        ensures counts { let old = (F.seen front.old).counts in
+            let new = (F.seen front.new).counts in
+            MatchResult result
+            (λ done. CountsOn 0 old new self.old.board.book self.new.board.book)
+            (λ fault. CountsUntil old new self.old.board.book self.new.board.book) }
+        ensures wakes { (F.seen front.new).counts.wakes ≡ (F.seen front.old).counts.wakes }
         ensures follows { Follows (F.seen front.old) (F.seen front.new) }
         ensures front { TellsOn OnlyTakes (F.seen front.old).told (F.seen front.new).told }
         ensures watched { StaysWatching (F.seen front.old).told (F.seen front.new).told
@@ -373,6 +403,10 @@ impl<'a, 'c, L: Link + Send, N: Known, B: Bell, G: Gate> Listener<'a, 'c, L, N, 
         ensures moment { self.new.board.book.state.moment ≡ self.old.board.book.state.moment }
         ensures taken { OnOk result
             (self.new.board.book.state.accepted ≡ next_count self.old.board.book.state.accepted) }
+        ensures counts { (F.seen front.new).counts ≡ (F.seen front.old).counts }
+        ensures orders { orders_in self.new.board.book ≡ orders_in self.old.board.book }
+        ensures lacks { OnErr result
+            (LacksLink self.old.board.book.state self.new.board.book.state) }
         ensures step { OnOk result
             (IsInStep (F.seen front.old).told self.new.board.book.state → IsInStep
             (F.seen front.new).told self.new.board.book.state) }
@@ -393,6 +427,7 @@ impl<'a, 'c, L: Link + Send, N: Known, B: Bell, G: Gate> Listener<'a, 'c, L, N, 
         generations_keep_their_editions();
         passes_act_in_steps();
         rows_change_one_at_a_time();
+        waits_are_backed_by_calls();
         show_state(&self.board);
         let mut link = link;
         let taken = match accept(&mut self.board) {
@@ -433,6 +468,9 @@ fn take_pause<R: Wait, L: Link + Send, F: Front<L = L>, C: Clock>(
         ready.new }
     ensures asks { AsksFor result.woke present (C.told clock.old) (C.told clock.new) result.moment }
     ensures clock { is_some (C.told clock.new) ≡ is_some (C.told clock.old) }
+    ensures moves { MovesClock result.woke present
+        (C.greatest clock.old) (C.greatest clock.new) result.moment }
+    ensures asked { CountsWhere (is_woken result.woke) (C.asked clock.old) (C.asked clock.new) }
 {
     let woke = front.wait(rt, rest.until, rest.quiet, ready);
     Pause {
@@ -443,7 +481,9 @@ fn take_pause<R: Wait, L: Link + Send, F: Front<L = L>, C: Clock>(
 
 /// The moment behind a wait: what the clock says where the wait gave one, and else the present one.
 fn moment_of<C: Clock>(clock: &mut C, woke: Woke, present: Moment) -> Moment
-    ensures { AsksFor woke present (C.told clock.old) (C.told clock.new) result }
+    ensures asks { AsksFor woke present (C.told clock.old) (C.told clock.new) result }
+    ensures moves { MovesClock woke present (C.greatest clock.old) (C.greatest clock.new) result }
+    ensures asked { CountsWhere (is_woken woke) (C.asked clock.old) (C.asked clock.new) }
 {
     match woke {
         Woke::Woke(at) => clock.now(at),

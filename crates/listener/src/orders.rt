@@ -3,7 +3,7 @@
 //! Each command line is done in its place, in the order in which they came (`specs/Orders.antt`, `specs/Commands.antt`): a restart reads
 //! the configuration and the site of the next edition of the store, and then a new generation begins, or the restart is refused for a
 //! reason, and all goes on as it was.
-ghost use Rattle.std.specs.Prelude.{◌≡◌, ◌<◌, ◌≤◌, [], ◌∷◌, None, Some, true, false, IfErr, IfOk, IfSome, MatchResult, OnErr, OnOk};
+ghost use Rattle.std.specs.Prelude.{◌≡◌, ◌<◌, ◌≤◌, [], ◌∷◌, ◌+◌, None, Some, true, false, IfErr, IfOk, IfSome, MatchResult, OnErr, OnOk};
 ghost use Rattle.mpm_base.specs.Count.{Rises};
 ghost use Rattle.mpm_base.specs.Front.{TellsOn};
 ghost use Rattle.mpm_base.specs.declared.script_line.CommandWord.TheVariants as word;
@@ -14,6 +14,7 @@ ghost use Rattle.board.specs.Editions.{orders_in};
 ghost use Rattle.board.specs.Faults.{IsRefusedFor};
 ghost use Rattle.worker_group.specs.Service.{IsUp, RefusalLasts};
 ghost use Rattle.listener.specs.ListenInside.{Follows, HasNoneToHeed, HasOneToHeed, HasReadAll, IsInStep, OnlyReads, StaysWatching};
+ghost use Rattle.listener.specs.CountedInside.{CountsOn, CountsUntil};
 ghost use Rattle.listener.specs.Orders as spec;
 ghost use Rattle.listener.specs.OrdersInside.{BreaksBehind, Carries, EndingBreaks, EndingStands, IsHushedIf, KnowsComing, MakesOrders, MayHush, Refuses, ServesNewest, StandsBehind, end_if, owed_by};
 ghost use Rattle.listener.specs.OrdersInside as inside;
@@ -86,12 +87,18 @@ impl<'a, 'c, L: Link + Send, N: Known, B: Bell, G: Gate> Listener<'a, 'c, L, N, 
         ensures accepted { self.new.board.book.state.accepted ≡ self.old.board.book.state.accepted }
         ensures step { IsInStep (F.seen front.new).told self.new.board.book.state }
         ensures asked { IfOk result
-            (λ asked. asked ≡ true → Rises (F.seen front.old).counts.commands
-            (F.seen front.new).counts.commands × IfSome (F.seen front.new).told HasOneToHeed) }
+            (λ asked. asked ≡ true → Rises (F.seen front.old).counts.words.stop
+            (F.seen front.new).counts.words.stop × IfSome (F.seen front.new).told HasOneToHeed) }
         ensures none { IfOk result
             (λ asked. asked ≡ false → IfSome (F.seen front.new).told HasNoneToHeed × HasReadAll
             (F.seen front.new).told) }
         ensures unheeded { OnErr result (IfSome (F.seen front.new).told HasNoneToHeed) }
+        ensures counts { let old = (F.seen front.old).counts in
+            let new = (F.seen front.new).counts in
+            MatchResult result
+            (λ asked. CountsOn (owed_by asked) old new self.old.board.book self.new.board.book)
+            (λ fault. CountsUntil old new self.old.board.book self.new.board.book) }
+        ensures wakes { (F.seen front.new).counts.wakes ≡ (F.seen front.old).counts.wakes }
         ensures follows { Follows (F.seen front.old) (F.seen front.new) }
         ensures front { TellsOn OnlyReads (F.seen front.old).told (F.seen front.new).told }
         ensures watched { StaysWatching (F.seen front.old).told (F.seen front.new).told
@@ -141,6 +148,8 @@ impl<'a, 'c, L: Link + Send, N: Known, B: Bell, G: Gate> Listener<'a, 'c, L, N, 
             (KnowsComing N.known self.new.board.book self.new.config (D.seen store.new).told) }
         ensures serves { ServesNewest N.known self.new.board.book self.new.edition }
         ensures going { self.new.board.book.state.going ≡ self.old.board.book.state.going }
+        ensures orders { OnOk result
+            (orders_in self.new.board.book ≡ orders_in self.old.board.book + 1) }
         ensures moment { self.new.board.book.state.moment ≡ self.old.board.book.state.moment }
         ensures accepted { self.new.board.book.state.accepted ≡ self.old.board.book.state.accepted }
         ensures same { OnErr result (self.new ≡ self.old) }

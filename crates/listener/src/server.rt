@@ -10,11 +10,13 @@ ghost use Rattle.listener.specs.OrdersInside.{known_outside, opening_by};
 ghost use Rattle.listener.specs.Generations.{head_limits_of};
 ghost use Rattle.listener.specs.RunsInside.{HasRunBy};
 ghost use Rattle.listener.specs.Served.{all_ended, whole_book};
+ghost use Rattle.listener.specs.Counted.{AsksOnce, KeepsClock};
 ghost use Rattle.listener.specs.Links.{EndsLinks};
 ghost use Rattle.listener.specs.Listen.{HasClosedAll, HasFolded, IsRunFrom};
 ghost use Rattle.rounds.specs.ClosedDown.{IsClosedDown};
 ghost use Rattle.listener.specs.ListenInside.{Follows, IsUnopened, clients_known};
 ghost use Rattle.rounds.specs.Timely.{AreTimely};
+ghost use Rattle.listener.specs.RunsInside.{BacksWaits};
 ghost use Rattle.listener.specs.Tells.{AllReceive};
 
 use crate::edition::{LoadedEdition, NamedConfig};
@@ -22,7 +24,10 @@ use crate::folding::{folds_join, show_for_folds};
 use crate::listener_state::Listener;
 use crate::run_numbers::{RunNumbers, numbers_of};
 use board::Board;
-use board::laws::{ended_links_are_of_closed_connections, generations_keep_their_editions};
+use board::laws::{
+    ended_connections_are_backed, ended_links_are_of_closed_connections,
+    generations_keep_their_editions,
+};
 use conn_machine::laws::{accepted_connections_are_closed_or_live, events_keep_states_sound};
 use conn_machine::laws_of_runs::made_histories_are_runs;
 use conn_state::{Known, Nothing};
@@ -89,6 +94,11 @@ pub fn run_server<
         (C.told clock.new) s.board) }
     ensures follows { Follows (F.seen front.old) (F.seen front.new) }
     ensures still { is_some (C.told clock.new) ≡ is_some (C.told clock.old) }
+    ensures clocked { IfOk result
+        (λ s. KeepsClock s.board.book.state (C.greatest clock.old) (C.greatest clock.new)) }
+    ensures unclocked { OnErr result (C.greatest clock.new ≡ C.greatest clock.old) }
+    ensures asked { AsksOnce (F.seen front.old).counts.wakes (F.seen front.new).counts.wakes
+        (C.asked clock.old) (C.asked clock.new) }
     ensures written { IfOk result
         (λ s. WritesAll (K.seen out.old) (K.seen out.new) text.now s.written) }
     ensures faults { IfOk result (λ s. NeverFalls (K.seen out.old).faults (K.seen out.new).faults) }
@@ -176,7 +186,9 @@ fn show_run<L: Link, N: Known>(board: &Board<L, N>, numbers: RunNumbers)
         → clients_known N.known ≡ Some clients
         → AllReceive clients (all_ended numbers board.now before) }
     ensures outside { AreOfOutside N.known board.now }
+    ensures backed { BacksWaits numbers board.now }
 {
+    ended_connections_are_backed();
     events_keep_states_sound();
     accepted_connections_are_closed_or_live();
     ended_links_are_of_closed_connections();

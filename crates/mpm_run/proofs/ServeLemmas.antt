@@ -18,6 +18,7 @@ use Rattle.restart_control.specs.Reload.{most_config, order_of}
 use Rattle.run_opening.specs.Configured.{warnings_of}
 use Rattle.run_report.specs.Endings.{EndsAs, MayEndWith}
 use Rattle.mpm_run.specs.ExitStatuses.{EndsSiteRefused, EndsUnbound, EndsUnread, HasRunServer, IsUnbound, LeavesFront, EndsConfigRefused}
+use Rattle.listener.specs.Counted.{LeavesClock}
 use Rattle.listener.specs.RunsInside.{HasRunBy}
 use Rattle.mpm_run.specs.ExitStatusesInside.{LeavesUnbound, RefusesFolder, IsOpenedStatus, EndsServe}
 use Rattle.run_opening.specs.RefusalsInside.{RefusesRun}
@@ -114,12 +115,19 @@ serves (Some b) call name c site loaded f f' calls status ready asked shows run 
         closed = ran.closed;
         ordered = ordered-reopened opening call.store f 0 0 (opened_by n) entries (sym asked.told) ran.ordered;
         served = served-reopened opening call.store f (whole_book n entries) (ended_of_run opening b ran) (sym asked.told) ran.served;
+        backed = ran.backed;
       };
       outside = run.outside;
+      counted = run.counted;
       given = run.given;
       store = store-since b.book.state.going entries call.store loaded call.store' asked.told asked.faults run.store_is;
       ends = ends;
     }
+
+-- where no run opened the clock was asked nothing
+pub clock-unserved : (left : Option SeenBoard) (greatest : ℕ) → IsNone left → LeavesClock left greatest greatest
+clock-unserved None greatest none = refl
+clock-unserved (Some b) greatest none = absurd none
 
 -- the front could not be bound
 is-unbound : (call : Call) (name : List ℕ) (c : Configuration) (site : SeenSite) (f f' : FrontSeen) → IsReady call name c site → KeepsFiles call

@@ -7,6 +7,7 @@ use Rattle.mpm_base.specs.Count.{Rises}
 use Rattle.mpm_base.specs.Front.{Binds, Dials, FrontSeen}
 use Rattle.mpm_base.specs.declared.script_line.CommandWord.{CommandWord}
 use Rattle.mpm_config.specs.Config.{Configuration}
+use Rattle.listener.specs.Counted.{CountsRun}
 use Rattle.listener.specs.Commands.{GivesLines}
 use Rattle.listener.specs.FirstNumbers.{numbers_of}
 use Rattle.listener.specs.Generations.{Opening}
@@ -201,7 +202,7 @@ server_opening call f name c site = record { name = name; config = c; site = sit
 
 -- a server was run over the front and the clock, and what is left is of a run by the configuration of the file that the words name and
 -- by the site of the store, and then by the store's editions; all its entries, and all its connections that ended, are tied to the front, the
--- clock and the store, and it ended as its exit status says
+-- clock and the store, of what the front counted too, and it ended as its exit status says
 pub record HasRunServer (call : Call) (f f' : FrontSeen) (calls : Option (List (ℕ × ℕ))) (status : ℕ) (b : SeenBoard) : Type 0 where
   pub name : List ℕ
   pub config : Configuration
@@ -214,6 +215,7 @@ pub record HasRunServer (call : Call) (f f' : FrontSeen) (calls : Option (List (
   pub outside :
       KeepsOutside (numbers_of config) f f' calls b.book.state (entries_of_run (server_opening call f name config site) b has_run)
       (ended_of_run (server_opening call f name config site) b has_run)
+  pub counted : CountsRun b.book f.counts f'.counts
   pub given : GivesLines (entries_of_run (server_opening call f name config site) b has_run) f f'
   pub store :
       KeepsStore b.book.state.going (entries_of_run (server_opening call f name config site) b has_run) call.store call.store'

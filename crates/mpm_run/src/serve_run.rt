@@ -3,6 +3,7 @@ ghost use Rattle.std.specs.Prelude.{◌≡◌, ◌⊎◌, ℕ, List, [], None, f
 ghost use Rattle.command_words.specs.Invocations.{IsServeWords};
 ghost use Rattle.mpm_base.specs.Front.{Binds};
 ghost use Rattle.mpm_run.specs.ExitStatusesInside.{EndsServe, IsOpenedStatus, LeavesUnbound, RefusesFolder};
+ghost use Rattle.listener.specs.Counted.{AsksOnce, LeavesClock};
 ghost use Rattle.listener.specs.Generations.{head_limits_of};
 ghost use Rattle.listener.specs.OrdersInside.{opening_by};
 ghost use Rattle.listener.specs.Outside.{TellsStill};
@@ -51,6 +52,9 @@ pub fn serve_file<R: Wait, D: Store, F: Front, C: Clock, G: Gate, K: Sink>(
         (K.seen out.old) (K.seen out.new) result.shown)
         (F.seen front.old) (F.seen front.new) (C.told clock.old) (C.told clock.new)
         result.status result.left }
+    ensures clocked { LeavesClock result.left (C.greatest clock.old) (C.greatest clock.new) }
+    ensures asked { AsksOnce (F.seen front.old).counts.wakes (F.seen front.new).counts.wakes
+        (C.asked clock.old) (C.asked clock.new) }
 {
     let answer = store.read(alloc, name, MOST_CONFIG);
     let (config, told) = match config_from(alloc, answer) {
@@ -139,6 +143,9 @@ fn serve_edition<R: Wait, D: Store, F: Front, C: Clock, G: Gate, K: Sink>(
     ensures front { IsNone result.left →
         LeavesUnbound (F.seen front.old) (F.seen front.new) config.entry.config.now result.status }
     ensures clock { IsNone result.left → C.told clock.new ≡ C.told clock.old }
+    ensures clocked { LeavesClock result.left (C.greatest clock.old) (C.greatest clock.new) }
+    ensures asked { AsksOnce (F.seen front.old).counts.wakes (F.seen front.new).counts.wakes
+        (C.asked clock.old) (C.asked clock.new) }
     ensures silent { result.status ≡ 6 → IsNone result.left →
         EndsSilently (K.seen out.old) (K.seen out.new) result.shown }
 {

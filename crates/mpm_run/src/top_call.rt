@@ -2,6 +2,7 @@
 ghost use Rattle.std.specs.Prelude.{◌≡◌, [], IfSome};
 ghost use Rattle.command_words.specs.Invocations.{CallsFront};
 ghost use Rattle.mpm_run.specs.ExitStatuses.{Causes, LeavesAll};
+ghost use Rattle.listener.specs.Counted.{AsksOnce, LeavesClock};
 ghost use Rattle.listener.specs.Outside.{TellsStill};
 ghost use Rattle.listener.specs.Unused.{IsUnused};
 ghost use Rattle.run_opening.specs.Calls.{seen_call};
@@ -65,6 +66,13 @@ pub fn run<R: Threads + Wait + Sync, D: Store, F: Front, C: Clock, G: Gate + Syn
     // Whatever became of them, a front and a clock that told tell still.
     ensures telling { TellsStill (F.seen front.old) (F.seen front.new)
         (C.told clock.old) (C.told clock.new) }
+
+    // Over each clock, whether it tells or not, the moment of a server is its greatest answer (`specs/Counted.antt` of `listener`).
+    ensures clocked { LeavesClock result.board (C.greatest clock.old) (C.greatest clock.new) }
+
+    // Over each front and clock the clock is asked once for each wait that gave a moment, in every form.
+    ensures asked { AsksOnce (F.seen front.old).counts.wakes (F.seen front.new).counts.wakes
+        (C.asked clock.old) (C.asked clock.new) }
 
     // Other words than those that serve or send a command leave the front and the clock as they were.
     ensures unmoved { ¬ CallsFront words.now →

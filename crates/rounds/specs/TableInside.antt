@@ -32,6 +32,7 @@ pub record HasTaken (s : State) (name : ConnName) (child generation arrival : �
   pub generation_is : row.generation ≡ generation
   pub arrival_is : row.arrival ≡ arrival
   pub notes : row.notes ≡ []
+  pub waits : row.waits ≡ []
 
 -- no connection is late
 abbrev pub NoneOverdue : State → Type 0

@@ -12,6 +12,7 @@ ghost use Rattle.conn_machine.specs.States.{is_halted, is_over};
 ghost use Rattle.conn_machine.specs.Table.{is_allowed};
 ghost use Rattle.conn_machine.specs.declared.event.Event.TheVariants as event;
 ghost use Rattle.board.specs.Faults.{IsRefusedFor};
+ghost use Rattle.board.specs.Backed.{BacksWait};
 ghost use Rattle.board.specs.Fits.{IsSettled};
 ghost use Rattle.board.specs.Finds.{acceptable, next_deadline_of, startable};
 ghost use Rattle.board.specs.Book.{row_in};
@@ -60,6 +61,7 @@ pub fn settle<L: Link, N: Known>(
     requires allowed { is_halted board.old.book.state.going ≡ false
         → is_allowed board.old.book.state (event.Park conn.name Reading) ≡ true }
     requires settled { watched ≡ true → IsSettled Reading None conn }
+    requires backed { watched ≡ true → BacksWait Reading board.old.book.state conn }
     requires closable { watched ≡ false
         → IsClosable board.old.book.state cause.LinkFailed Direct conn }
     ensures left { OnOk result
@@ -155,6 +157,8 @@ pub fn pass_time<L: Link, N: Known>(
     ensures newest { board.new.book.state.newest ≡ board.old.book.state.newest }
     ensures moment { OnOk result
         (board.new.book.state.moment ≡ max board.old.book.state.moment (moment_for moment)) }
+    ensures stays { OnErr result
+        (board.new.book.state.moment ≡ board.old.book.state.moment) }
     ensures taken { board.new.book.state.accepted ≡ board.old.book.state.accepted }
     ensures err { IfErr result (λ fault. RefusalLasts fault board.new.book) }
 {

@@ -3,7 +3,7 @@ use Rattle.std.specs.Prelude.{◌≡◌, ℕ, Bool, true, false, List, [], ◌�
 use Rattle.mpm_base.specs.Count.{next_count}
 use Rattle.mpm_base.specs.Front.{FrontSeen, progress_of}
 use Rattle.stand_ins.specs.Calls.{next_is_listed}
-use Rattle.script_front.specs.ScriptFront.{Plays, SeenFront, new_front}
+use Rattle.script_front.specs.ScriptFront.{Plays, SeenFront, new_front, woken_waits}
 use Rattle.mpm_base.specs.declared.front.Woke.{Woke}
 use Rattle.mpm_base.specs.declared.front.Woke.TheVariants as woke
 use Rattle.mpm_base.specs.declared.script_line.ScriptLine.{ScriptLine}
@@ -25,7 +25,15 @@ failing_front_seen f =
     record {
       script = Some f.front.script;
       told = Some f.front.told;
-      counts = record { faults = f.faults; accept_faults = f.accept_faults; ends = f.front.ends; commands = f.front.told.read };
+      counts = record {
+        faults = f.faults;
+        accept_faults = f.accept_faults;
+        ends = f.front.ends;
+        wakes = woken_waits f.front.told.waits;
+        commands = f.front.told.read;
+        words = f.front.words;
+        handed = f.front.told.accepted;
+      };
     }
 
 -- no line has happened, and no call was made

@@ -21,7 +21,8 @@ use crate::wait_end::{WaitEnd, WaitingCounts, passed_between};
 use crate::word_log::log_of;
 use http_server::Log;
 use mpm_base::{
-    Addr, Arrival, ConnName, Front, Line, Link, Moment, NoMemory, Ready, ScriptLine, Woke,
+    Addr, Arrival, ConnName, Front, GivenWords, Line, Link, Moment, NoMemory, Ready, ScriptLine,
+    Woke,
 };
 use mpm_script::Script;
 use stand_ins::ScriptLink;
@@ -45,6 +46,7 @@ pub struct ScriptFront {
     clients: ScriptClients,
     commands: ScriptCommands,
     ends: u64,
+    words: GivenWords,
     // Kept for clauses alone: they take no memory.
     binds: Log<Addr, Option<u16>>,
     dials: Log<u16, Log<u8, bool>>,
@@ -87,6 +89,7 @@ impl Model for ScriptFront {
         waits = map wait_told f.waits.items;
       };
       ends = f.ends;
+      words = f.words;
     } };
 
     ghost invariant = { λ f.
@@ -117,6 +120,7 @@ impl ScriptFront {
             clients,
             commands,
             ends: 0,
+            words: GivenWords::none(),
             binds: Log::new(),
             dials: Log::new(),
             watches: Log::new(),
@@ -459,10 +463,15 @@ impl Front for ScriptFront {
         ensures commands { Commands (front_seen self.old) (front_seen self.new) result }
         ensures line { result ≡ slice_get self.old.told.lines self.old.told.read }
         ensures rest { self.new
-            ≡ record self.old { told = after_command (is_some result) self.old.told } }
+            ≡ record self.old {
+              told = after_command (is_some result) self.old.told;
+              words = self.new.words;
+            } }
     {
         let word = self.commands.next()?;
-        Some(line_of(word))
+        let given = Some(line_of(word));
+        self.words.count(&given);
+        given
     }
 
     /// The call does not fail.

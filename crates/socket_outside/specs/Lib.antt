@@ -6,3 +6,4 @@ pub mod CommandLinesInside
 pub mod Events
 pub mod EventsInside
 pub mod Moments
+pub mod SeenClock

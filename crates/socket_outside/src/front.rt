@@ -121,7 +121,7 @@ impl<'a, R: Net + time::Clock + Eprint> Front for SocketFront<'a, R> {
         let pressed = self.pressed || self.sockets.asks_control();
         self.pressed = false;
         let woke = self.wait_until(until, pressed, ready);
-        self.counters.test(woke);
+        self.counters.wait(woke);
         if woke {
             let last = self.clock.last();
             Woke::Woke(self.clock.now(last))
@@ -138,9 +138,8 @@ impl<'a, R: Net + time::Clock + Eprint> Front for SocketFront<'a, R> {
             self.sockets.attend_control();
         }
         let arrival = self.sockets.accept();
-        let failed = has_failed(&arrival);
-        self.pressed = self.pressed || failed || owes;
-        self.counters.accept(failed);
+        self.pressed = self.pressed || has_failed(&arrival) || owes;
+        self.counters.accept(&arrival);
         arrival
     }
 
@@ -160,7 +159,7 @@ impl<'a, R: Net + time::Clock + Eprint> Front for SocketFront<'a, R> {
 
     fn command(&mut self) -> Option<Line> {
         let line = self.sockets.take_line();
-        self.counters.command(line.is_some());
+        self.counters.command(&line);
         line
     }
 

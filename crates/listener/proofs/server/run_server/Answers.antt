@@ -6,6 +6,9 @@ use Rattle.listener.specs.ListenInside.{clients_known}
 use Rattle.listener.specs.OrdersInside.{opening_by}
 use Rattle.listener.specs.Served.{whole_book}
 use Rattle.listener.specs.TurnsInside.{HasStood, IsBegun, listener_of}
+use Rattle.listener.specs.Counted.{KeepsClock}
+use Rattle.listener.proofs.CountedEndLemmas.{asks-since, clock-opened, counts-opened}
+use Rattle.listener.proofs.CountedLemmas.{alike-same, counts-alike, same-words}
 use Rattle.listener.proofs.FrontLemmas.{follows-trans, named-follows}
 use Rattle.listener.proofs.FrontCallLemmas.{follows-bind}
 use Rattle.listener.proofs.LeftLemmas.{LeavesRun, has-run-by}
@@ -46,11 +49,11 @@ listen-requires-clause-may g c κs within =
 
 pub show_run-requires-clause-passes : goal.show_run-requires-clause-passes
 show_run-requires-clause-passes g c =
-    c.listen.ensures.passes ∙ ap (λ (x : SeenBook). x.passes) c.in-Ok-open_board.ensures.book
+    c.listen.ensures.listened.passes ∙ ap (λ (x : SeenBook). x.passes) c.in-Ok-open_board.ensures.book
 
 pub show_run-requires-clause-timely : goal.show_run-requires-clause-timely
 show_run-requires-clause-timely g c =
-    c.listen.ensures.timely (timely-opened c.numbers_of-numbers.result c.in-Ok-open_board.board.book c.in-Ok-open_board.ensures.book)
+    c.listen.ensures.listened.timely (timely-opened c.numbers_of-numbers.result c.in-Ok-open_board.board.book c.in-Ok-open_board.ensures.book)
 
 pub returns-clause-run : goal.returns-clause-run
 returns-clause-run g c =
@@ -73,10 +76,10 @@ returns-clause-run g c =
     (g.D.Store.seen c.listen.new.store) c.listen.new.self.config in
     let begun : IsBegun known o n first =
     begun-opened c.folds_join.ensures known store old n first c.numbers_of-numbers.ensures.allowed book refl c.requires.timeout binds idle in
-    let stood : HasStood known o n last = c.listen.ensures.stood o n (record { name = refl; config = refl }) begun in
-    let stopped = stopped-before old front new c.listen.new.self.board.book.state (follows-bind _ _ _ _ _ binds) c.listen.ensures.stopped in
+    let stood : HasStood known o n last = c.listen.ensures.listened.stood o n (record { name = refl; config = refl }) begun in
+    let stopped = stopped-before old front new c.listen.new.self.board.book.state (follows-bind _ _ _ _ _ binds) c.listen.ensures.listened.stopped in
     let named =
-    named-follows known old new (follows-trans _ _ _ (follows-bind _ _ _ _ _ binds) c.listen.ensures.follows) (known-front known o c.requires.named) in
+    named-follows known old new (follows-trans _ _ _ (follows-bind _ _ _ _ _ binds) c.listen.ensures.listened.follows) (known-front known o c.requires.named) in
     let known_stood : HasStood _ o n last = subst (λ (k : Option KnownOutside). HasStood k o n last) c.requires.named stood in
     let leaves : LeavesRun o n last =
     record {
@@ -86,17 +89,25 @@ returns-clause-run g c =
       outside = subst (λ (k : Option KnownOutside). AreOfOutside k last.board) c.requires.named c.show_run.ensures.outside;
       front =
           keeps-front n last.board.book.state _ _ (clients_known known) new.told named
-          (opened-hushed n old front new binds c.requires.unused c.listen.ensures.contacts c.listen.ensures.hushed) known_stood.keeps.started
-          known_stood.keeps.watched c.listen.ensures.links
+          (opened-hushed n old front new binds c.requires.unused c.listen.ensures.listened.contacts c.listen.ensures.listened.hushed) known_stood.keeps.started
+          known_stood.keeps.watched c.listen.ensures.listened.links
           (λ clients knows. c.show_run.ensures.links clients known_stood.folded
           (subst (λ (k : Option KnownOutside). EndedOfOutside k (whole_book n known_stood.folded.entries) known_stood.folded.ended) (sym c.requires.named) known_stood.outside)
           knows stopped.down)
           (λ clients knows. c.show_run.ensures.receive clients known_stood.folded
           (subst (λ (k : Option KnownOutside). EndedOfOutside k (whole_book n known_stood.folded.entries) known_stood.folded.ended) (sym c.requires.named) known_stood.outside)
           knows)
-          c.listen.ensures.heeded known_stood.each;
-      time = c.listen.ensures.time (time-opened front.told calls idle);
+          c.listen.ensures.listened.heeded known_stood.each;
+      time = c.listen.ensures.listened.time (time-opened front.told calls idle);
       stopped = stopped.cause;
+      backed = c.show_run.ensures.backed;
+      counted =
+          c.listen.ensures.counts (g.F.Front.seen c.args.front.now).counts
+          (counts-alike (g.F.Front.seen c.args.front.now).counts (g.F.Front.seen c.bind.new.self).counts c.in-Ok-open_board.board.book
+          c.in-Ok-open_board.board.book
+          (same-words (g.F.Front.seen c.args.front.now).counts (g.F.Front.seen c.bind.new.self).counts binds.words binds.handed)
+          (alike-same c.in-Ok-open_board.board.book c.in-Ok-open_board.board.book refl) (g.F.Front.seen c.args.front.now).counts
+          (counts-opened n (g.F.Front.seen c.args.front.now).counts c.in-Ok-open_board.board.book c.in-Ok-open_board.ensures.book));
     } in
     has-run-by c.generations_keep_their_editions.ensures c.folds_join.ensures.outside c.folds_join.ensures.outside_stays o n last
     c.forget.result c.numbers_of-numbers.ensures.value c.forget.ensures.same leaves
@@ -104,4 +115,18 @@ returns-clause-run g c =
 pub returns-clause-follows : goal.returns-clause-follows
 returns-clause-follows g c =
     let binds = binds-true c.numbers_of-numbers.result (g.F.Front.seen c.args.front.now) (g.F.Front.seen c.bell.new.self) (g.F.Front.seen c.bind.new.self) c.bind.result c.bell.ensures.same c.if-not-bind.false c.bind.ensures.binds in
-    follows-trans (g.F.Front.seen c.args.front.now) (g.F.Front.seen c.bind.new.self) (g.F.Front.seen c.listen.new.front) (follows-bind _ _ _ _ _ binds) c.listen.ensures.follows
+    follows-trans (g.F.Front.seen c.args.front.now) (g.F.Front.seen c.bind.new.self) (g.F.Front.seen c.listen.new.front) (follows-bind _ _ _ _ _ binds) c.listen.ensures.listened.follows
+
+pub returns-clause-clocked : goal.returns-clause-clocked
+returns-clause-clocked g c =
+    let n = c.numbers_of-numbers.result in
+    let first = g.C.Clock.greatest c.args.clock.now in
+    subst (λ (x : SeenBoard). KeepsClock x.book.state first (g.C.Clock.greatest c.listen.new.clock)) (sym c.forget.ensures.same)
+    (c.listen.ensures.clock first (clock-opened n first c.in-Ok-open_board.board.book c.in-Ok-open_board.ensures.book))
+
+pub returns-clause-asked : goal.returns-clause-asked
+returns-clause-asked g c =
+    let binds = binds-true c.numbers_of-numbers.result (g.F.Front.seen c.args.front.now) (g.F.Front.seen c.bell.new.self) (g.F.Front.seen c.bind.new.self) c.bind.result c.bell.ensures.same c.if-not-bind.false c.bind.ensures.binds in
+    asks-since (g.F.Front.seen c.args.front.now).counts.wakes (g.F.Front.seen c.bind.new.self).counts.wakes
+    (g.F.Front.seen c.listen.new.front).counts.wakes (g.C.Clock.asked c.args.clock.now) (g.C.Clock.asked c.listen.new.clock) binds.wakes
+    c.listen.ensures.asked

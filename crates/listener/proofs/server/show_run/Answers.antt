@@ -1,5 +1,7 @@
-use Rattle.std.proofs.Common.{subst, sym}
+use Rattle.std.proofs.Common.{◌++◌, subst, sym, List}
+use Rattle.conn_machine.specs.declared.event.Entry.{Entry}
 use Rattle.conn_machine.specs.Made.{AreOfPasses}
+use Rattle.board.specs.Backed.{AllBacked}
 use Rattle.listener.specs.FirstNumbers.{folded_by, opened_by}
 use Rattle.listener.proofs.FoldedRunLemmas.{has-joined}
 use Rattle.listener.proofs.RunLemmas.{all-received, closed-all, ends-links, run-from}
@@ -44,3 +46,13 @@ returns-clause-receive g c clients before folded knows =
 
 pub returns-clause-outside : goal.returns-clause-outside
 returns-clause-outside g c = c.show.ensures.outside
+
+pub returns-clause-backed : goal.returns-clause-backed
+returns-clause-backed g c before =
+    let n = c.args.numbers in
+    let b = c.args.board.now in
+    let joined = has-joined c.folds_join.ensures g.N.Known.known n b c.show_for_folds.ensures before c.requires.passes c.requires.timely in
+    let is_run = c.made_histories_are_runs.ensures.run (opened_by n) (folded_by n) joined.whole.entries joined.whole.made in
+    subst (λ (entries : List Entry). AllBacked entries (before.ended ++ b.ended)) joined.entries_are
+    (subst (AllBacked joined.whole.entries) joined.ended_are
+    (c.ended_connections_are_backed.ensures n.slots n.children n.shape joined.whole.entries joined.whole.ended is_run joined.whole.closed))

@@ -26,3 +26,6 @@ returns-in-Ok-clause-known g c =
     opened-status c.in-Ok.served.board.book.state.going c.report_run-status.result
     (stopped-end (g.F.Front.seen c.args.front.now) (g.F.Front.seen c.run_server-answer.new.front) c.in-Ok.served.board.book.state c.in-Ok.ensures.run.outside.stopped)
     c.report_run-status.ensures.stopped
+
+pub returns-in-Ok-clause-clocked : goal.returns-in-Ok-clause-clocked
+returns-in-Ok-clause-clocked g c = c.in-Ok.ensures.clocked

@@ -4,12 +4,14 @@ use Rattle.mpm_base.specs.Front.{Commands, FrontSeen}
 use Rattle.mpm_base.specs.declared.script_line.CommandWord.{CommandWord}
 use Rattle.mpm_base.specs.declared.script_line.CommandWord.TheVariants as word
 use Rattle.conn_machine.specs.States.{is_halted}
+use Rattle.listener.specs.CountedInside.{CountsUntil}
 use Rattle.listener.specs.ListenInside.{HasNoneToHeed}
 use Rattle.listener.specs.OrdersInside.{ServesNewest}
 use Rattle.listener.specs.ShareInside.{DoesAllButOne, DoesAsked}
 use Rattle.listener.specs.StandingInside.{StandsBroken, standing}
 use Rattle.listener.specs.declared.edition.LoadedEdition.{LoadedEdition}
 use Rattle.listener.specs.declared.edition.NamedConfig.{NamedConfig}
+use Rattle.listener.proofs.CountedLemmas.{alike-same, counts-alike, counts-ended, counts-more, counts-restarted, counts-same, counts-stopped, counts-unbroken, counts-unrestarted, counts-until, may-wakes, same-dropped, same-may, same-none}
 use Rattle.listener.proofs.FrontLemmas.{step-kept}
 use Rattle.listener.proofs.HeedLemmas.{HasHeeded, changed, does-all, does-but, does-unended, ending-other, graceful-other, heeded-dropped, heeded-ended, heeded-may, heeded-more, heeded-restarted, heeded-start, heeded-stopped, hushes-all, hushes-but, knows-kept, none-stops, on-graceful, on-stop, serves-kept, stands-none, stands-read, step-line}
 use Rattle.listener.proofs.RestartLemmas.{knows-as}
@@ -21,6 +23,8 @@ loop-init g c =
     record {
       heeded = heeded-start c.passes_act_in_steps.ensures.acts g.N.Known.known c.args.self.now.config c.args.self.now.edition.stop_ms
           (g.D.Store.seen c.args.store.now) (g.F.Front.seen c.args.front.now) c.args.self.now.board.book c.requires.free c.requires.in_time;
+      counts = counts-same (g.F.Front.seen c.args.front.now).counts c.args.self.now.board.book;
+      wakes = refl;
       knows = c.requires.knows;
       serves = c.requires.serves;
       up = c.requires.up;
@@ -40,6 +44,13 @@ returns-in_default-clause-stands g c =
     (stands-none g.N.Known.known c.args.self.now.config c.loop.self.edition.stop_ms (g.D.Store.seen c.loop.store) (g.F.Front.seen c.loop.front)
     (g.F.Front.seen c.command.new.self) c.loop.self.board.book c.in_default.ensures.commands)
 
+pub returns-in_default-clause-counts : goal.returns-in_default-clause-counts
+returns-in_default-clause-counts g c =
+    counts-more 0 (g.F.Front.seen c.args.front.now).counts (g.F.Front.seen c.loop.front).counts (g.F.Front.seen c.command.new.self).counts c.args.self.now.board.book c.loop.self.board.book c.loop.self.board.book
+    c.loop.invariant.counts
+    (counts-alike (g.F.Front.seen c.loop.front).counts (g.F.Front.seen c.command.new.self).counts c.loop.self.board.book c.loop.self.board.book
+    (same-none (g.F.Front.seen c.loop.front) (g.F.Front.seen c.command.new.self) c.in_default.ensures.commands) (alike-same c.loop.self.board.book c.loop.self.board.book refl))
+
 pub returns-in-Ok-Stop-clause-stands : goal.returns-in-Ok-Stop-clause-stands
 returns-in-Ok-Stop-clause-stands g c =
     let before = c.loop.invariant.heeded in
@@ -50,6 +61,14 @@ returns-in-Ok-Stop-clause-stands g c =
     before.timely
     (stands-read g.N.Known.known c.args.self.now.config 1 c.loop.self.edition.stop_ms (g.D.Store.seen c.loop.store) (g.F.Front.seen c.loop.front)
     (g.F.Front.seen c.command.new.self) c.loop.self.board.book c.in-Some-command.line (omega arith) c.in-Some-command.ensures.commands)
+
+pub returns-in-Ok-Stop-clause-counts : goal.returns-in-Ok-Stop-clause-counts
+returns-in-Ok-Stop-clause-counts g c =
+    let is : c.in-Some-command.line ≡ command_word word.Stop = search rules in
+    counts-more 1 (g.F.Front.seen c.args.front.now).counts (g.F.Front.seen c.loop.front).counts (g.F.Front.seen c.command.new.self).counts c.args.self.now.board.book c.loop.self.board.book c.loop.self.board.book
+    c.loop.invariant.counts
+    (counts-stopped (g.F.Front.seen c.loop.front) (g.F.Front.seen c.command.new.self) c.loop.self.board.book c.loop.self.board.book c.in-Some-command.line
+    c.in-Some-command.ensures.commands is refl)
 
 pub returns-in-Ok-Stop-clause-asked : goal.returns-in-Ok-Stop-clause-asked
 returns-in-Ok-Stop-clause-asked g c asked =
@@ -78,6 +97,12 @@ loop-preserved-in-Continue-1 g c =
           (g.D.Store.seen c.loop.store) (g.D.Store.seen c.restart.new.store) (g.F.Front.seen c.loop.front) (g.F.Front.seen c.command.new.self)
           c.loop.self.board.book c.restart.new.self.board.book c.in-Some-command.line is c.in-Some-command.ensures.commands
           restarted.does restarted.makes c.restart.ensures.timely c.restart.ensures.in_time restarted.stands c.restart.ensures.moment c.restart.ensures.accepted));
+      counts =
+          counts-more 0 (g.F.Front.seen c.args.front.now).counts (g.F.Front.seen c.loop.front).counts (g.F.Front.seen c.command.new.self).counts c.args.self.now.board.book c.loop.self.board.book
+          c.restart.new.self.board.book before.counts
+          (counts-restarted (g.F.Front.seen c.loop.front) (g.F.Front.seen c.command.new.self) c.loop.self.board.book c.restart.new.self.board.book
+          c.in-Some-command.line c.in-Some-command.ensures.commands is restarted.orders c.restart.ensures.going c.restart.ensures.accepted);
+      wakes = c.in-Some-command.ensures.commands.wakes ∙ before.wakes;
       knows = restarted.knows;
       serves = c.restart.ensures.serves;
       up = ap is_halted c.restart.ensures.going ∙ before.up;
@@ -114,6 +139,16 @@ returns-in_err-restart-in-Ok-Graceful-clause-stands g c =
     c.in-Some-command.ensures.commands))) in
     search (rules, broken)
 
+pub returns-in_err-restart-in-Ok-Graceful-clause-counts : goal.returns-in_err-restart-in-Ok-Graceful-clause-counts
+returns-in_err-restart-in-Ok-Graceful-clause-counts g c =
+    let is : c.in-Some-command.line ≡ command_word word.Graceful = search rules in
+    let until : CountsUntil (g.F.Front.seen c.args.front.now).counts (g.F.Front.seen c.command.new.self).counts c.args.self.now.board.book c.restart.new.self.board.book =
+    counts-until (g.F.Front.seen c.args.front.now).counts (g.F.Front.seen c.loop.front).counts (g.F.Front.seen c.command.new.self).counts c.args.self.now.board.book c.loop.self.board.book
+    c.restart.new.self.board.book c.loop.invariant.counts
+    (counts-unrestarted (g.F.Front.seen c.loop.front) (g.F.Front.seen c.command.new.self) c.loop.self.board.book c.restart.new.self.board.book
+    c.in-Some-command.line c.in-Some-command.ensures.commands is (ap (λ (l : _). l.board.book) c.in_err-restart-in-Ok-Graceful.ensures.same)) in
+    search (rules, until)
+
 pub returns-in_err-restart-in-Ok-Graceful-clause-unheeded : goal.returns-in_err-restart-in-Ok-Graceful-clause-unheeded
 returns-in_err-restart-in-Ok-Graceful-clause-unheeded g c =
     let is : c.in-Some-command.line ≡ command_word word.Graceful = search rules in
@@ -148,6 +183,18 @@ loop-preserved-in-Continue-branch-2 g c =
           is c.in-Some-command.ensures.commands
           ended.does ended.makes c.end.ensures.timely c.end.ensures.in_time ended.stands ended.hushes before.step c.end.ensures.moment
           c.end.ensures.accepted)));
+      counts =
+          counts-more 0 (g.F.Front.seen c.args.front.now).counts (g.F.Front.seen c.loop.front).counts (g.F.Front.seen c.end.new.front).counts c.args.self.now.board.book c.loop.self.board.book
+          c.end.new.self.board.book before.counts
+          (counts-more 0 (g.F.Front.seen c.loop.front).counts (g.F.Front.seen c.command.new.self).counts (g.F.Front.seen c.end.new.front).counts c.loop.self.board.book c.end.new.self.board.book
+          c.end.new.self.board.book
+          (counts-ended (g.F.Front.seen c.loop.front) (g.F.Front.seen c.command.new.self) c.loop.self.board.book c.end.new.self.board.book
+          c.in-Some-command.line c.in-Some-command.ensures.commands is c.end.ensures.orders c.end.ensures.accepted)
+          (counts-alike (g.F.Front.seen c.command.new.self).counts (g.F.Front.seen c.end.new.front).counts c.end.new.self.board.book c.end.new.self.board.book
+          (same-may (g.F.Front.seen c.command.new.self) (g.F.Front.seen c.end.new.front) c.end.ensures.hushed)
+          (alike-same c.end.new.self.board.book c.end.new.self.board.book refl)));
+      wakes = may-wakes (g.F.Front.seen c.command.new.self) (g.F.Front.seen c.end.new.front) c.end.ensures.hushed
+          ∙ c.in-Some-command.ensures.commands.wakes ∙ before.wakes;
       knows =
           knows-as g.N.Known.known c.loop.self.config c.end.new.self.config (g.D.Store.seen c.loop.store).told c.end.new.self.board.book
           (ap (λ (l : _). l.config) c.end.ensures.others)
@@ -192,6 +239,22 @@ returns-in_err-end-in-Ok-GracefulStop-clause-stands g c =
     c.in-Some-command.ensures.commands)))) in
     search (rules, broken)
 
+pub returns-in_err-end-in-Ok-GracefulStop-clause-counts : goal.returns-in_err-end-in-Ok-GracefulStop-clause-counts
+returns-in_err-end-in-Ok-GracefulStop-clause-counts g c =
+    let is : c.in-Some-command.line ≡ command_word word.GracefulStop = search rules in
+    let until : CountsUntil (g.F.Front.seen c.args.front.now).counts (g.F.Front.seen c.end.new.front).counts c.args.self.now.board.book c.end.new.self.board.book =
+    counts-unbroken (g.F.Front.seen c.args.front.now).counts (g.F.Front.seen c.end.new.front).counts c.args.self.now.board.book c.end.new.self.board.book
+    (counts-more 0 (g.F.Front.seen c.args.front.now).counts (g.F.Front.seen c.loop.front).counts (g.F.Front.seen c.end.new.front).counts c.args.self.now.board.book c.loop.self.board.book
+    c.end.new.self.board.book c.loop.invariant.counts
+    (counts-more 0 (g.F.Front.seen c.loop.front).counts (g.F.Front.seen c.command.new.self).counts (g.F.Front.seen c.end.new.front).counts c.loop.self.board.book c.end.new.self.board.book
+    c.end.new.self.board.book
+    (counts-ended (g.F.Front.seen c.loop.front) (g.F.Front.seen c.command.new.self) c.loop.self.board.book c.end.new.self.board.book
+    c.in-Some-command.line c.in-Some-command.ensures.commands is c.end.ensures.orders c.end.ensures.accepted)
+    (counts-alike (g.F.Front.seen c.command.new.self).counts (g.F.Front.seen c.end.new.front).counts c.end.new.self.board.book c.end.new.self.board.book
+    (same-may (g.F.Front.seen c.command.new.self) (g.F.Front.seen c.end.new.front) c.end.ensures.hushed)
+    (alike-same c.end.new.self.board.book c.end.new.self.board.book refl)))) in
+    search (rules, until)
+
 pub returns-in_err-end-in-Ok-GracefulStop-clause-unheeded : goal.returns-in_err-end-in-Ok-GracefulStop-clause-unheeded
 returns-in_err-end-in-Ok-GracefulStop-clause-unheeded g c =
     let is : c.in-Some-command.line ≡ command_word word.GracefulStop = search rules in
@@ -214,6 +277,13 @@ loop-preserved g c =
           (heeded-dropped c.passes_act_in_steps.ensures.acts g.N.Known.known c.args.self.now.config c.loop.self.edition.stop_ms
           (g.D.Store.seen c.loop.store) (g.F.Front.seen c.loop.front) (g.F.Front.seen c.command.new.self) c.loop.self.board.book
           c.in-Some-command.line before.heeded.does.acts.row before.heeded.in_time unknown c.in-Some-command.ensures.commands);
+      counts =
+          counts-more 0 (g.F.Front.seen c.args.front.now).counts (g.F.Front.seen c.loop.front).counts (g.F.Front.seen c.command.new.self).counts c.args.self.now.board.book c.loop.self.board.book c.loop.self.board.book
+          before.counts
+          (counts-alike (g.F.Front.seen c.loop.front).counts (g.F.Front.seen c.command.new.self).counts c.loop.self.board.book c.loop.self.board.book
+          (same-dropped (g.F.Front.seen c.loop.front) (g.F.Front.seen c.command.new.self) c.in-Some-command.line unknown
+          c.in-Some-command.ensures.commands) (alike-same c.loop.self.board.book c.loop.self.board.book refl));
+      wakes = c.in-Some-command.ensures.commands.wakes ∙ before.wakes;
       knows = before.knows;
       serves = before.serves;
       up = before.up;
@@ -317,3 +387,17 @@ returns-in_err-end-in-Ok-GracefulStop-clause-timely g c before = c.end.ensures.t
 
 pub returns-in_err-end-in-Ok-GracefulStop-clause-in_time : goal.returns-in_err-end-in-Ok-GracefulStop-clause-in_time
 returns-in_err-end-in-Ok-GracefulStop-clause-in_time g c = c.end.ensures.in_time
+
+pub returns-in_default-clause-wakes : goal.returns-in_default-clause-wakes
+returns-in_default-clause-wakes g c = c.in_default.ensures.commands.wakes ∙ c.loop.invariant.wakes
+
+pub returns-in-Ok-Stop-clause-wakes : goal.returns-in-Ok-Stop-clause-wakes
+returns-in-Ok-Stop-clause-wakes g c = c.in-Some-command.ensures.commands.wakes ∙ c.loop.invariant.wakes
+
+pub returns-in_err-restart-in-Ok-Graceful-clause-wakes : goal.returns-in_err-restart-in-Ok-Graceful-clause-wakes
+returns-in_err-restart-in-Ok-Graceful-clause-wakes g c = c.in-Some-command.ensures.commands.wakes ∙ c.loop.invariant.wakes
+
+pub returns-in_err-end-in-Ok-GracefulStop-clause-wakes : goal.returns-in_err-end-in-Ok-GracefulStop-clause-wakes
+returns-in_err-end-in-Ok-GracefulStop-clause-wakes g c =
+    may-wakes (g.F.Front.seen c.command.new.self) (g.F.Front.seen c.end.new.front) c.end.ensures.hushed
+    ∙ c.in-Some-command.ensures.commands.wakes ∙ c.loop.invariant.wakes

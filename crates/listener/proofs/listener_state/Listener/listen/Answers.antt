@@ -1,7 +1,9 @@
-use Rattle.std.proofs.Common.{refl, ap, sym, subst, ◌∙◌}
-use Rattle.mpm_base.specs.Front.{FrontSeen}
+use Rattle.std.proofs.Common.{◌∙◌, refl, ap, sym, subst}
+use Rattle.mpm_base.specs.Front.{FrontCounts, FrontSeen}
 use Rattle.listener.specs.TurnsInside.{listener_of}
+use Rattle.listener.specs.CountedInside.{CountsToEnd}
 use Rattle.listener.proofs.CommandLemmas.{heeds-hushed}
+use Rattle.listener.proofs.CountedEndLemmas.{asks-as, clock-down, counts-end}
 use Rattle.listener.proofs.FrontLemmas.{follows-trans, time-kept}
 use Rattle.listener.proofs.FrontCallLemmas.{contacts-hushed, follows-hushed, is-hushed, waits-hushed}
 use Rattle.listener.proofs.LinkLemmas.{handed-out}
@@ -11,21 +13,21 @@ use Rattle.listener.proofs.listener_state.Listener.listen.Goals as goal
 
 pub close_down-requires-clause-must : goal.close_down-requires-clause-must
 close_down-requires-clause-must g c =
-    let ends = c.take_turns-turns.ensures.ends in
+    let ends = c.take_turns-turns.ensures.over.ends in
     must-halt c.take_turns-turns.result (g.F.Front.seen c.args.front.now) (g.F.Front.seen c.take_turns-turns.new.front) c.take_turns-turns.new.self.board.book ends
 
 pub close_down-requires-clause-end : goal.close_down-requires-clause-end
-close_down-requires-clause-end g c = c.take_turns-turns.ensures.end
+close_down-requires-clause-end g c = c.take_turns-turns.ensures.over.end
 
-pub returns : goal.returns
-returns g c =
+pub returns-clause-listened : goal.returns-clause-listened
+returns-clause-listened g c =
     let turns = c.take_turns-turns.result in
     let front = g.F.Front.seen c.args.front.now in
     let mid = g.F.Front.seen c.take_turns-turns.new.front in
     let hushed = g.F.Front.seen c.hush.new.front in
     let b = c.take_turns-turns.new.self.board.book in
     let d = c.close_down.new.board.book in
-    let over = c.take_turns-turns.ensures in
+    let over = c.take_turns-turns.ensures.over in
     let now =
     listener_of c.take_turns-turns.new.self.board mid (g.C.Clock.told c.take_turns-turns.new.clock) c.take_turns-turns.new.self.ready
     c.take_turns-turns.new.self.edition (g.D.Store.seen c.take_turns-turns.new.store) c.take_turns-turns.new.self.config in
@@ -52,3 +54,24 @@ returns g c =
       clock = over.clock;
       time = λ before. time-kept _ _ (g.C.Clock.told c.take_turns-turns.new.clock) (waits-hushed _ _ c.hush.ensures) (over.time before);
     }
+
+pub returns-clause-counts : goal.returns-clause-counts
+returns-clause-counts g c =
+    let old = g.F.Front.seen c.args.front.now in
+    let now = g.F.Front.seen c.take_turns-turns.new.front in
+    let ends = c.take_turns-turns.ensures.over.ends in
+    subst (λ (x : FrontCounts). CountsToEnd old.counts x c.args.self.now.board.book c.close_down.new.board.book)
+    (sym (ap (λ (f : FrontSeen). f.counts) c.hush.ensures))
+    (counts-end c.take_turns-turns.result old.counts now.counts old now c.args.self.now.board.book c.take_turns-turns.new.self.board.book
+    c.close_down.new.board.book c.take_turns-turns.ensures.counts ends c.close_down.ensures)
+
+pub returns-clause-clock : goal.returns-clause-clock
+returns-clause-clock g c =
+    clock-down c.take_turns-turns.result (g.C.Clock.greatest c.args.clock.now) (g.C.Clock.greatest c.take_turns-turns.new.clock)
+    c.args.self.now.board.book c.take_turns-turns.new.self.board.book c.close_down.new.board.book c.take_turns-turns.ensures.clock c.close_down.ensures
+
+pub returns-clause-asked : goal.returns-clause-asked
+returns-clause-asked g c =
+    asks-as (g.F.Front.seen c.args.front.now).counts.wakes (g.F.Front.seen c.take_turns-turns.new.front).counts.wakes
+    (g.F.Front.seen c.hush.new.front).counts.wakes (g.C.Clock.asked c.args.clock.now) (g.C.Clock.asked c.take_turns-turns.new.clock)
+    (ap (λ (f : FrontSeen). f.counts.wakes) c.hush.ensures) c.take_turns-turns.ensures.asked

@@ -2,7 +2,7 @@ use Rattle.std.proofs.Common.{sym, ap, ◌∙◌}
 use Rattle.std.proofs.lemmas.Result.{on_err_weaker, on_ok_weaker}
 use Rattle.conn_machine.specs.declared.event.Refusal.TheVariants as refusal
 use Rattle.listener.specs.StandingInside.{standing}
-use Rattle.listener.proofs.RestartLemmas.{behind-as, breaks-as, carried-stands, cause-as, does-carried, does-refused, in_time-carried, in_time-either, in_time-refused, knows-as, knows-carried, knows-refused, late-stands, makes-carried, makes-refused, serves-either}
+use Rattle.listener.proofs.RestartLemmas.{behind-as, breaks-as, carried-stands, cause-as, does-carried, does-refused, in_time-carried, in_time-either, in_time-refused, knows-as, knows-carried, knows-refused, late-stands, makes-carried, makes-refused, orders-carried, orders-refused, serves-either}
 use Rattle.listener.proofs.listener_state.Listener.restart.Goals as goal
 
 pub returns-then-not-may_begin-clause-does : goal.returns-then-not-may_begin-clause-does
@@ -184,3 +184,18 @@ returns-in-Err-clause-in_time g c =
     (λ refuses. in_time-refused c.reason_for.result c.args.self.now.board.book c.refuse-in-Err.new.self.board.book refuses c.show.ensures.after c.requires.in_time)
     (on_err_weaker c.refuse-in-Err.result (λ same. ap (λ (l : _). l.board.book) same) c.refuse-in-Err.ensures.same) c.requires.in_time in
     did.in_time
+
+pub returns-then-not-may_begin-clause-orders : goal.returns-then-not-may_begin-clause-orders
+returns-then-not-may_begin-clause-orders g c =
+    on_ok_weaker c.refuse.result (orders-refused refusal.Late c.args.self.now.board.book c.refuse.new.self.board.book) c.refuse.ensures.refuses
+
+pub returns-in-Ok-clause-orders : goal.returns-in-Ok-clause-orders
+returns-in-Ok-clause-orders g c =
+    on_ok_weaker c.begin.result
+    (orders-carried c.in-Ok.plan c.args.self.now.board.book c.begin.new.self.board.book c.args.self.now.edition c.begin.new.self.edition)
+    c.begin.ensures.carries
+
+pub returns-in-Err-clause-orders : goal.returns-in-Err-clause-orders
+returns-in-Err-clause-orders g c =
+    on_ok_weaker c.refuse-in-Err.result (orders-refused c.reason_for.result c.args.self.now.board.book c.refuse-in-Err.new.self.board.book)
+    c.refuse-in-Err.ensures.refuses

@@ -1,11 +1,16 @@
-use Rattle.std.proofs.Common.{Option, None, Some, inl, inr, ap, subst, sym, ◌∙◌}
+use Rattle.std.proofs.Common.{◌∙◌, [], ◌∷◌, ◌++◌, Option, None, Some, inl, inr, ap, subst, sym, List}
 use Rattle.std.proofs.lemmas.Result.{on_ok_weaker}
 use Rattle.mpm_base.specs.Front.{FrontSeen}
 use Rattle.mpm_base.specs.Link.{LinkTold}
 use Rattle.mpm_base.specs.declared.conn.ConnName.{ConnName}
+use Rattle.mpm_base.specs.declared.conn.Kind.{Kind}
+use Rattle.mpm_base.specs.declared.conn.Kind.TheVariants.{Reading}
+use Rattle.conn_machine.specs.Rows.{live_row}
 use Rattle.conn_state.specs.Known.{IsOfClient}
 use Rattle.board.specs.declared.faults.BoardFault.{BoardFault}
+use Rattle.board.specs.Backed.{AreBacked}
 use Rattle.board.specs.Board.{SeenBoard}
+use Rattle.board.specs.Editions.{orders_in}
 use Rattle.board.specs.Faults.{IsRefusedFor}
 use Rattle.worker_group.specs.Acts.{Acts}
 use Rattle.listener.specs.ListenInside.{StaysWatching}
@@ -18,6 +23,7 @@ use Rattle.rounds.proofs.SameEditionLemmas.{edition-same}
 use Rattle.listener.proofs.FrontLemmas.{takes-turned, takes-watch}
 use Rattle.listener.proofs.FrontCallLemmas.{follows-turned, follows-watch, step-watch}
 use Rattle.rounds.proofs.ActLemmas.{acts-spelled, if-err-both, on-err}
+use Rattle.listener.proofs.PartLemmas.{orders-taken}
 use Rattle.listener.proofs.RoundLemmas.{on-ok, takes-one}
 use Rattle.listener.proofs.HandedLemmas.{counts-turned, counts-watch}
 use Rattle.listener.proofs.IntakeLemmas.{before-taking, makes-none, makes-one, takes-in_place, timely-same}
@@ -39,6 +45,37 @@ new-conn-requires-clause-client g c =
 
 pub settle-left-requires-clause-row : goal.settle-left-requires-clause-row
 settle-left-requires-clause-row g c = c.in-Ok.ensures.acts.row ∙ ap (λ (n : ConnName). Some n) (sym c.new-conn.ensures.name)
+
+pub settle-left-requires-clause-backed : goal.settle-left-requires-clause-backed
+settle-left-requires-clause-backed g c watched =
+    let held = c.in-Ok.ensures.held in
+    record {
+      row = held.row;
+      found = ap (live_row c.accept.new.board.book.state.rows) c.new-conn.ensures.name ∙ held.found;
+      backed =
+          subst (λ (waits : List Kind). AreBacked (waits ++ Reading ∷ []) c.new-conn.result.counts) (sym held.waits)
+          (c.waits_are_backed_by_calls.ensures.first c.new-conn.result.counts);
+    }
+
+pub returns-in-Err-clause-counts : goal.returns-in-Err-clause-counts
+returns-in-Err-clause-counts g c = ap (λ (f : FrontSeen). f.counts) c.turn_away.ensures
+
+pub returns-in-Err-clause-orders : goal.returns-in-Err-clause-orders
+returns-in-Err-clause-orders g c = ap (λ (b : SeenBoard). orders_in b.book) c.in-Err.ensures.refused
+
+pub returns-in-Err-clause-lacks : goal.returns-in-Err-clause-lacks
+returns-in-Err-clause-lacks g c = inr (ap (λ (b : SeenBoard). b.book.state.accepted) c.in-Err.ensures.refused)
+
+pub returns-clause-counts : goal.returns-clause-counts
+returns-clause-counts g c = ap (λ (f : FrontSeen). f.counts) c.watch-watched.ensures.watches.front
+
+pub returns-clause-orders : goal.returns-clause-orders
+returns-clause-orders g c =
+    orders-taken c.settle-left.result c.in-Ok.taken.name c.new-conn.result.name (way_of c.watch-watched.result) c.args.self.now.board.book c.accept.new.board.book
+    c.settle-left.new.board.book c.in-Ok.ensures.acts c.settle-left.ensures.left c.settle-left.ensures.given_up
+
+pub returns-clause-lacks : goal.returns-clause-lacks
+returns-clause-lacks g c = on-err c.settle-left.result _ (inl (c.settle-left.ensures.rest.accepted ∙ c.in-Ok.ensures.taken))
 
 pub returns-in-Err-clause-until : goal.returns-in-Err-clause-until
 returns-in-Err-clause-until g c =

@@ -1,8 +1,11 @@
 use Rattle.std.proofs.Common.{ℕ, ◌<◌, refl, sym, ap, subst, ◌∙◌, rules}
+use Rattle.mpm_base.specs.Front.{FrontCounts}
 use Rattle.conn_machine.specs.States.{is_halted}
+use Rattle.listener.specs.CountedInside.{CountsUntil}
 use Rattle.listener.specs.OrdersInside.{ServesNewest}
 use Rattle.listener.specs.RoundInside.{TakesUntil}
 use Rattle.rounds.specs.PartsInside.{way_of}
+use Rattle.listener.proofs.CountedLemmas.{alike-same, counts-alike, counts-lacking, counts-more, counts-same, counts-taken, counts-unbroken, counts-until, same-unhanded}
 use Rattle.listener.proofs.EditionLemmas.{newest-acts}
 use Rattle.listener.proofs.FrontLemmas.{alike-mapped, arrives-next, follows-accept, follows-same, follows-trans, handed-known, handed-tells, named-follows, step-none, step-taken, takes-accept, takes-same, takes-trans}
 use Rattle.listener.proofs.LinkLemmas.{hands-ended}
@@ -22,6 +25,8 @@ loop-init g c =
       newest = refl;
       moment = refl;
       step = c.requires.step;
+      counts = counts-same (g.F.Front.seen c.args.front.now).counts c.args.self.now.board.book;
+      wakes = refl;
       follows = follows-same _;
       front = takes-same _;
       watched = λ past before. before;
@@ -89,6 +94,13 @@ loop-preserved g c =
           c.in_ok-take-in-Some-accept.ensures.step
           (step-taken c.in-Some-accept.link (g.F.Front.seen c.loop.front).told (g.F.Front.seen c.accept.new.self).told c.loop.self.board.book.state
           c.take.new.self.board.book.state c.in-Some-accept.ensures.accepts.told_is c.in_ok-take-in-Some-accept.ensures.taken c.take.ensures.going before.step);
+      counts =
+          counts-more 0 (g.F.Front.seen c.args.front.now).counts (g.F.Front.seen c.loop.front).counts (g.F.Front.seen c.take.new.front).counts c.args.self.now.board.book c.loop.self.board.book
+          c.take.new.self.board.book before.counts
+          (counts-taken g.L.Link.seen (g.F.Front.seen c.loop.front) (g.F.Front.seen c.accept.new.self) c.in-Some-accept.link
+          c.in-Some-accept.ensures.accepts c.loop.self.board.book c.take.new.self.board.book (g.F.Front.seen c.take.new.front).counts c.take.ensures.counts c.take.ensures.orders
+          c.take.ensures.going c.in_ok-take-in-Some-accept.ensures.taken);
+      wakes = ap (λ (x : FrontCounts). x.wakes) c.take.ensures.counts ∙ c.in-Some-accept.ensures.accepts.wakes ∙ before.wakes;
       follows =
           follows-trans _ _ _ before.follows
           (follows-trans _ _ _ (follows-accept g.L.Link.seen _ _ _ c.accept.ensures.accepts)
@@ -176,6 +188,13 @@ returns-in-None-accept g c =
       taken =
           took-none g.L.Link.seen (g.F.Front.seen c.loop.front) (g.F.Front.seen c.accept.new.self) c.accept.result
           c.loop.self.board.book.state c.in-None-accept.is c.accept.ensures.accepts;
+      counts =
+          counts-more 0 (g.F.Front.seen c.args.front.now).counts (g.F.Front.seen c.loop.front).counts (g.F.Front.seen c.accept.new.self).counts c.args.self.now.board.book c.loop.self.board.book c.loop.self.board.book
+          before.counts
+          (counts-alike (g.F.Front.seen c.loop.front).counts (g.F.Front.seen c.accept.new.self).counts c.loop.self.board.book c.loop.self.board.book
+          (same-unhanded g.L.Link.seen (g.F.Front.seen c.loop.front) (g.F.Front.seen c.accept.new.self) c.accept.result c.in-None-accept.is
+          c.accept.ensures.accepts) (alike-same c.loop.self.board.book c.loop.self.board.book refl));
+      wakes = c.accept.ensures.accepts.wakes ∙ before.wakes;
       follows =
           follows-trans _ _ _ before.follows
           (follows-accept g.L.Link.seen _ _ _ c.accept.ensures.accepts);
@@ -225,3 +244,21 @@ returns-in_err-take-in-Some-accept-clause-links g c =
     (hands-ended c.in-Some-accept.link (g.L.Link.seen c.in-Some-accept.link).told (g.F.Front.seen c.loop.front).told (g.F.Front.seen c.accept.new.self).told
     (g.F.Front.seen c.take.new.front).told c.loop.self.board.book.state c.loop.self.board.book.state c.take.new.self.board.book.state
     c.in-Some-accept.ensures.accepts.hands.1 step c.in-Some-accept.ensures.accepts.told_is refl c.take.ensures.going c.in_err-take-in-Some-accept.ensures.links)
+
+pub returns-in_err-take-in-Some-accept-clause-counts : goal.returns-in_err-take-in-Some-accept-clause-counts
+returns-in_err-take-in-Some-accept-clause-counts g c =
+    let until : CountsUntil (g.F.Front.seen c.args.front.now).counts (g.F.Front.seen c.take.new.front).counts c.args.self.now.board.book c.take.new.self.board.book =
+    counts-until (g.F.Front.seen c.args.front.now).counts (g.F.Front.seen c.loop.front).counts (g.F.Front.seen c.take.new.front).counts c.args.self.now.board.book c.loop.self.board.book
+    c.take.new.self.board.book c.loop.invariant.counts
+    (counts-lacking g.L.Link.seen (g.F.Front.seen c.loop.front) (g.F.Front.seen c.accept.new.self) c.in-Some-accept.link
+    c.in-Some-accept.ensures.accepts c.loop.self.board.book c.take.new.self.board.book (g.F.Front.seen c.take.new.front).counts c.take.ensures.counts c.take.ensures.orders
+    c.take.ensures.going c.in_err-take-in-Some-accept.ensures.lacks) in
+    search (rules, until)
+
+pub returns-in_default-clause-counts : goal.returns-in_default-clause-counts
+returns-in_default-clause-counts g c =
+    counts-unbroken (g.F.Front.seen c.args.front.now).counts (g.F.Front.seen c.loop.front).counts c.args.self.now.board.book c.loop.self.board.book c.loop.invariant.counts
+
+pub returns-in_err-take-in-Some-accept-clause-wakes : goal.returns-in_err-take-in-Some-accept-clause-wakes
+returns-in_err-take-in-Some-accept-clause-wakes g c =
+    ap (λ (x : FrontCounts). x.wakes) c.take.ensures.counts ∙ c.in-Some-accept.ensures.accepts.wakes ∙ c.loop.invariant.wakes

@@ -1,6 +1,7 @@
 use Rattle.std.proofs.Common.{◌≡◌}
 use Rattle.mpm_base.specs.Front.{TellsOn}
 use Rattle.listener.specs.ListenInside.{Follows, IsInStep, OnlyTakes, StaysWatching}
+use Rattle.listener.specs.CountedInside.{CountsOn}
 use Rattle.listener.specs.RoundInside.{TakesSome}
 use Rattle.listener.specs.ShareInside.{TakesHanded}
 use Rattle.rounds.specs.PartsInside.{StaysTimely}
@@ -17,6 +18,8 @@ invariant-loop g l =
       newest : l.self.board.book.state.newest ≡ l.fn.self.board.book.state.newest;
       moment : l.self.board.book.state.moment ≡ l.fn.self.board.book.state.moment;
       step : IsInStep (g.F.Front.seen l.front).told l.self.board.book.state;
+      counts : CountsOn 0 (g.F.Front.seen l.fn.front).counts (g.F.Front.seen l.front).counts l.fn.self.board.book l.self.board.book;
+      wakes : (g.F.Front.seen l.front).counts.wakes ≡ (g.F.Front.seen l.fn.front).counts.wakes;
       follows : Follows (g.F.Front.seen l.fn.front) (g.F.Front.seen l.front);
       front : TellsOn OnlyTakes (g.F.Front.seen l.fn.front).told (g.F.Front.seen l.front).told;
       watched : StaysWatching (g.F.Front.seen l.fn.front).told (g.F.Front.seen l.front).told l.fn.self.board.book l.self.board.book;

@@ -1,8 +1,9 @@
-use Rattle.std.proofs.Common.{◌≡◌, ℕ, ◌<◌, Bool, List, [], None, true, false, inl, inr, ap, refl, sym, subst, ◌∙◌, rules}
+use Rattle.std.proofs.Common.{◌≡◌, ℕ, ◌<◌, [], ◌∙◌, Bool, List, None, true, false, inl, inr, ap, refl, sym, subst, rules}
 use Rattle.conn_machine.specs.States.{is_halted}
 use Rattle.worker_group.specs.Acts.{Acts}
 use Rattle.rounds.specs.ClosingInside.{IsLateWay}
-use Rattle.listener.specs.OrdersInside.{KnowsComing, ServesNewest}
+use Rattle.listener.specs.CountedInside.{CountsOn, CountsUntil}
+use Rattle.listener.specs.OrdersInside.{KnowsComing, ServesNewest, owed_by}
 use Rattle.listener.specs.RoundInside.{BreaksOff}
 use Rattle.rounds.specs.PartsInside.{SignalsFirst, StaysTimely, signal_events}
 use Rattle.rounds.specs.Timely.{is_staffed}
@@ -12,6 +13,8 @@ use Rattle.rounds.specs.Moments.{moment_for}
 use Rattle.listener.specs.declared.edition.LoadedEdition.{LoadedEdition}
 use Rattle.listener.specs.declared.edition.NamedConfig.{NamedConfig}
 use Rattle.listener.proofs.CommandLemmas.{all-read, heeded-takes}
+use Rattle.listener.proofs.CountedEndLemmas.{counts-orderless, moment-passed, moment-stays}
+use Rattle.listener.proofs.CountedLemmas.{counts-more, counts-unbroken, counts-until}
 use Rattle.listener.proofs.FrontLemmas.{both-only, follows-same, follows-trans, listens-takes, named-follows, only-reads, only-takes, step-kept, step-listens, takes-same}
 use Rattle.listener.proofs.LinkLemmas.{hands-step}
 use Rattle.listener.proofs.PartLemmas.{coming-orderless, newest-orderless, orderless-before, orderless-children, orderless-first, orderless-gone, orderless-more, orderless-retires, orderless-signals, orderless-takes, orderless-takes_until, orderless-time, orderless-until}
@@ -179,6 +182,12 @@ returns-in_err-pass_time g c =
       serves = search rules;
       up = ap is_halted (c.pass_time.ensures.going) ∙ c.requires.up;
       moment = search rules;
+      stays = on-err c.from_residual.result _ (moment-stays c.args.self.now.board.book.state c.pass_time.new.board.book.state (moment_for c.args.moment) (c.in_err-pass_time.ensures.stays));
+      counts =
+          let until : CountsUntil now.counts now.counts a b =
+          counts-unbroken now.counts now.counts a b (counts-orderless now.counts now.counts a b refl (orderless-gone a b c.in_err-pass_time.ensures.refused) c.pass_time.ensures.going c.pass_time.ensures.taken) in
+          search (rules, until);
+      wakes = refl;
       step = search rules;
       ends = search rules;
       unheeded = on-err c.from_residual.result _ c.requires.heeded;
@@ -214,6 +223,9 @@ returns-then-is_overdue g c =
       serves = newest-orderless c.generations_keep_their_editions.ensures known a b c.args.self.now.edition (orderless-time (moment_for c.args.moment) a b c.in_ok-pass_time.ensures.passes) c.pass_time.ensures.newest c.requires.serves;
       up = ap is_halted (c.pass_time.ensures.going) ∙ c.requires.up;
       moment = search rules;
+      stays = search rules;
+      counts = (counts-orderless now.counts now.counts a b refl (orderless-time (moment_for c.args.moment) a b c.in_ok-pass_time.ensures.passes) c.pass_time.ensures.going c.pass_time.ensures.taken);
+      wakes = refl;
       step = (step-kept now.told a.state b.state (c.pass_time.ensures.taken) (c.pass_time.ensures.going) c.requires.step);
       ends = (sym c.is_overdue.ensures ∙ c.if-is_overdue.true, c.requires.heeded);
       unheeded = search rules;
@@ -264,6 +276,12 @@ returns-in_err-signal_all g c =
       serves = search rules;
       up = ap is_halted (c.signal_all.ensures.rest.going ∙ c.pass_time.ensures.going) ∙ c.requires.up;
       moment = search rules;
+      stays = on-err c.from_residual-in_err-signal_all.result _ (moment-passed c.args.self.now.board.book.state c.signal_all.new.board.book.state (moment_for c.args.moment) (c.signal_all.ensures.rest.moment ∙ c.in_ok-pass_time.ensures.moment));
+      counts =
+          let until : CountsUntil now.counts now.counts a s =
+          counts-unbroken now.counts now.counts a s (counts-orderless now.counts now.counts a s refl (orderless-more steps a b s (orderless-time (moment_for c.args.moment) a b c.in_ok-pass_time.ensures.passes) (orderless-first slots b s (subst (λ (xs : List ℕ). SignalsFirst xs b s) c.slots.ensures.is c.in_err-signal_all.ensures.first))) (c.signal_all.ensures.rest.going ∙ c.pass_time.ensures.going) (c.signal_all.ensures.rest.accepted ∙ c.pass_time.ensures.taken)) in
+          search (rules, until);
+      wakes = refl;
       step = search rules;
       ends = search rules;
       unheeded = on-err c.from_residual-in_err-signal_all.result _ c.requires.heeded;
@@ -319,6 +337,12 @@ returns-in_err-let_go_of_conns g c =
       serves = search rules;
       up = ap is_halted (c.let_go_of_conns.ensures.rest.going ∙ c.signal_all.ensures.rest.going ∙ c.pass_time.ensures.going) ∙ c.requires.up;
       moment = search rules;
+      stays = on-err c.from_residual-in_err-let_go_of_conns.result _ (moment-passed c.args.self.now.board.book.state c.let_go_of_conns.new.board.book.state (moment_for c.args.moment) (c.let_go_of_conns.ensures.rest.moment ∙ c.signal_all.ensures.rest.moment ∙ c.in_ok-pass_time.ensures.moment));
+      counts =
+          let until : CountsUntil now.counts now.counts a d =
+          counts-unbroken now.counts now.counts a d (counts-orderless now.counts now.counts a d refl (orderless-more steps a s d (orderless-more steps a b s (orderless-time (moment_for c.args.moment) a b c.in_ok-pass_time.ensures.passes) (orderless-signals slots b s signals)) (orderless-until steps c.in_err-let_go_of_conns.field-0.0 s d c.in_err-let_go_of_conns.ensures.until)) (c.let_go_of_conns.ensures.rest.going ∙ c.signal_all.ensures.rest.going ∙ c.pass_time.ensures.going) (c.let_go_of_conns.ensures.rest.accepted ∙ c.signal_all.ensures.rest.accepted ∙ c.pass_time.ensures.taken)) in
+          search (rules, until);
+      wakes = refl;
       step = search rules;
       ends = search rules;
       unheeded = on-err c.from_residual-in_err-let_go_of_conns.result _ c.requires.heeded;
@@ -382,6 +406,13 @@ returns-in_err-asked g c =
       serves = search rules;
       up = c.heed.ensures.up;
       moment = search rules;
+      stays = on-err c.from_residual-in_err-asked.result _ (moment-passed c.args.self.now.board.book.state c.heed.new.self.board.book.state (moment_for c.args.moment) (c.heed.ensures.moment ∙ c.let_go_of_conns.ensures.rest.moment ∙ c.signal_all.ensures.rest.moment ∙ c.in_ok-pass_time.ensures.moment));
+      counts =
+          let until : CountsUntil now.counts read.counts a e =
+          counts-until now.counts now.counts read.counts a d e (counts-orderless now.counts now.counts a d refl orders_off (c.let_go_of_conns.ensures.rest.going ∙ c.signal_all.ensures.rest.going ∙ c.pass_time.ensures.going) (c.let_go_of_conns.ensures.rest.accepted ∙ c.signal_all.ensures.rest.accepted ∙ c.pass_time.ensures.taken))
+          c.in_err-asked.ensures.counts in
+          search (rules, until);
+      wakes = c.heed.ensures.wakes;
       step = search rules;
       ends = search rules;
       unheeded = on-err c.from_residual-in_err-asked.result _ c.in_err-asked.ensures.unheeded;
@@ -436,6 +467,10 @@ returns-then-asked g c =
       serves = c.heed.ensures.serves;
       up = c.heed.ensures.up;
       moment = c.heed.ensures.moment ∙ c.let_go_of_conns.ensures.rest.moment ∙ c.signal_all.ensures.rest.moment ∙ c.in_ok-pass_time.ensures.moment;
+      stays = search rules;
+      counts = (counts-more 1 now.counts now.counts read.counts a d e (counts-orderless now.counts now.counts a d refl orders_off (c.let_go_of_conns.ensures.rest.going ∙ c.signal_all.ensures.rest.going ∙ c.pass_time.ensures.going) (c.let_go_of_conns.ensures.rest.accepted ∙ c.signal_all.ensures.rest.accepted ∙ c.pass_time.ensures.taken))
+          (subst (λ (b : Bool). CountsOn (owed_by b) now.counts read.counts d e) c.if-asked.true c.in_ok-asked.ensures.counts));
+      wakes = c.heed.ensures.wakes;
       step = c.heed.ensures.step;
       ends = (c.heed.ensures.up, (c.in_ok-asked.ensures.asked c.if-asked.true).0, (c.in_ok-asked.ensures.asked c.if-asked.true).1);
       unheeded = search rules;
@@ -494,6 +529,12 @@ returns-then-is_gone g c =
       serves = newest-orderless c.generations_keep_their_editions.ensures known e f c.heed.new.self.edition (orderless-retires e f c.retire_all.ensures.retires) c.retire_all.ensures.rest.newest c.heed.ensures.serves;
       up = ap is_halted c.retire_all.ensures.going ∙ c.heed.ensures.up;
       moment = c.retire_all.ensures.rest.moment ∙ c.heed.ensures.moment ∙ c.let_go_of_conns.ensures.rest.moment ∙ c.signal_all.ensures.rest.moment ∙ c.in_ok-pass_time.ensures.moment;
+      stays = search rules;
+      counts = (counts-more 0 now.counts read.counts read.counts a e f (counts-more 0 now.counts now.counts read.counts a d e
+          (counts-orderless now.counts now.counts a d refl orders_off (c.let_go_of_conns.ensures.rest.going ∙ c.signal_all.ensures.rest.going ∙ c.pass_time.ensures.going) (c.let_go_of_conns.ensures.rest.accepted ∙ c.signal_all.ensures.rest.accepted ∙ c.pass_time.ensures.taken))
+          (subst (λ (b : Bool). CountsOn (owed_by b) now.counts read.counts d e) c.if-asked.false c.in_ok-asked.ensures.counts))
+          (counts-orderless read.counts read.counts e f refl (orderless-retires e f c.retire_all.ensures.retires) c.retire_all.ensures.going c.retire_all.ensures.rest.accepted));
+      wakes = c.heed.ensures.wakes;
       step = (step-kept read.told e.state f.state c.retire_all.ensures.rest.accepted c.retire_all.ensures.going c.heed.ensures.step);
       ends = (c.is_gone.ensures.gone.0 c.if-is_gone.true, (c.in_ok-asked.ensures.none c.if-asked.false).0);
       unheeded = search rules;
@@ -559,6 +600,15 @@ returns-in_err-start_children g c =
       serves = search rules;
       up = ap is_halted (c.start_children.ensures.going ∙ c.retire_all.ensures.going) ∙ c.heed.ensures.up;
       moment = search rules;
+      stays = on-err c.from_residual-in_err-start_children.result _ (moment-passed c.args.self.now.board.book.state c.start_children.new.board.book.state (moment_for c.args.moment) (c.start_children.ensures.rest.moment ∙ c.retire_all.ensures.rest.moment ∙ c.heed.ensures.moment ∙ c.let_go_of_conns.ensures.rest.moment ∙ c.signal_all.ensures.rest.moment ∙ c.in_ok-pass_time.ensures.moment));
+      counts =
+          let until : CountsUntil now.counts read.counts a h =
+          counts-unbroken now.counts read.counts a h (counts-more 0 now.counts read.counts read.counts a e h
+          (counts-more 0 now.counts now.counts read.counts a d e (counts-orderless now.counts now.counts a d refl orders_off (c.let_go_of_conns.ensures.rest.going ∙ c.signal_all.ensures.rest.going ∙ c.pass_time.ensures.going) (c.let_go_of_conns.ensures.rest.accepted ∙ c.signal_all.ensures.rest.accepted ∙ c.pass_time.ensures.taken))
+          (subst (λ (b : Bool). CountsOn (owed_by b) now.counts read.counts d e) c.if-asked.false c.in_ok-asked.ensures.counts))
+          (counts-orderless read.counts read.counts e h refl (orderless-children steps e f h c.retire_all.ensures.retires c.start_children.ensures.starts) (c.start_children.ensures.going ∙ c.retire_all.ensures.going) (c.start_children.ensures.rest.accepted ∙ c.retire_all.ensures.rest.accepted))) in
+          search (rules, until);
+      wakes = c.heed.ensures.wakes;
       step = search rules;
       ends = search rules;
       unheeded = on-err c.from_residual-in_err-start_children.result _ (c.in_ok-asked.ensures.none c.if-asked.false).0;
@@ -630,6 +680,16 @@ returns-in_err-take_all g c =
       serves = search rules;
       up = ap is_halted c.take_all.ensures.going ∙ ap is_halted (c.start_children.ensures.going ∙ c.retire_all.ensures.going) ∙ c.heed.ensures.up;
       moment = search rules;
+      stays = on-err c.from_residual-in_err-take_all.result _ (moment-passed c.args.self.now.board.book.state c.take_all.new.self.board.book.state (moment_for c.args.moment) (c.take_all.ensures.moment ∙ c.start_children.ensures.rest.moment ∙ c.retire_all.ensures.rest.moment ∙ c.heed.ensures.moment ∙ c.let_go_of_conns.ensures.rest.moment ∙ c.signal_all.ensures.rest.moment ∙ c.in_ok-pass_time.ensures.moment));
+      counts =
+          let until : CountsUntil now.counts new.counts a i =
+          counts-until now.counts read.counts new.counts a h i (counts-more 0 now.counts read.counts read.counts a e h
+          (counts-more 0 now.counts now.counts read.counts a d e (counts-orderless now.counts now.counts a d refl orders_off (c.let_go_of_conns.ensures.rest.going ∙ c.signal_all.ensures.rest.going ∙ c.pass_time.ensures.going) (c.let_go_of_conns.ensures.rest.accepted ∙ c.signal_all.ensures.rest.accepted ∙ c.pass_time.ensures.taken))
+          (subst (λ (b : Bool). CountsOn (owed_by b) now.counts read.counts d e) c.if-asked.false c.in_ok-asked.ensures.counts))
+          (counts-orderless read.counts read.counts e h refl (orderless-children steps e f h c.retire_all.ensures.retires c.start_children.ensures.starts) (c.start_children.ensures.going ∙ c.retire_all.ensures.going) (c.start_children.ensures.rest.accepted ∙ c.retire_all.ensures.rest.accepted)))
+          c.in_err-take_all.ensures.counts in
+          search (rules, until);
+      wakes = c.take_all.ensures.wakes ∙ c.heed.ensures.wakes;
       step = search rules;
       ends = search rules;
       unheeded = on-err c.from_residual-in_err-take_all.result _ (heeded-takes read.told new.told c.take_all.ensures.front (c.in_ok-asked.ensures.none c.if-asked.false).0);
@@ -708,6 +768,13 @@ returns g c =
       moment =
           c.take_all.ensures.moment ∙ c.start_children.ensures.rest.moment ∙ c.retire_all.ensures.rest.moment ∙ c.heed.ensures.moment
           ∙ c.let_go_of_conns.ensures.rest.moment ∙ c.signal_all.ensures.rest.moment ∙ c.in_ok-pass_time.ensures.moment;
+      stays = search rules;
+      counts = (counts-more 0 now.counts read.counts new.counts a h i (counts-more 0 now.counts read.counts read.counts a e h
+          (counts-more 0 now.counts now.counts read.counts a d e (counts-orderless now.counts now.counts a d refl orders_off (c.let_go_of_conns.ensures.rest.going ∙ c.signal_all.ensures.rest.going ∙ c.pass_time.ensures.going) (c.let_go_of_conns.ensures.rest.accepted ∙ c.signal_all.ensures.rest.accepted ∙ c.pass_time.ensures.taken))
+          (subst (λ (b : Bool). CountsOn (owed_by b) now.counts read.counts d e) c.if-asked.false c.in_ok-asked.ensures.counts))
+          (counts-orderless read.counts read.counts e h refl (orderless-children steps e f h c.retire_all.ensures.retires c.start_children.ensures.starts) (c.start_children.ensures.going ∙ c.retire_all.ensures.going) (c.start_children.ensures.rest.accepted ∙ c.retire_all.ensures.rest.accepted)))
+          c.in_ok-take_all.ensures.counts);
+      wakes = c.take_all.ensures.wakes ∙ c.heed.ensures.wakes;
       step = search rules;
       ends = (
         c.in_ok-take_all.ensures.taken,

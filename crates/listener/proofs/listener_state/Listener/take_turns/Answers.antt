@@ -1,12 +1,18 @@
-use Rattle.std.proofs.Common.{◌≡◌, Option, None, refl, sym, ap, subst, ◌∙◌}
+use Rattle.std.proofs.Common.{◌≡◌, inl, inr, Option, None, refl, sym, ap, subst, ◌∙◌}
+use Rattle.mpm_base.specs.Front.{is_woken}
+use Rattle.conn_machine.specs.declared.state.State.{State}
 use Rattle.rounds.specs.declared.ends.End.{End}
+use Rattle.listener.specs.CountedInside.{CountsOn}
 use Rattle.listener.specs.ListenInside.{TakesInTo}
 use Rattle.listener.specs.RoundInside.{GoesRound, RoundEnds}
 use Rattle.listener.specs.ShareInside.{GoesOnInTime}
 use Rattle.conn_machine.specs.States.{is_halted, is_serving}
+use Rattle.listener.specs.StandingInside.{owed_at}
 use Rattle.listener.specs.TurnsInside.{listener_of}
 use Rattle.rounds.specs.Moments.{moment_for}
 use Rattle.listener.proofs.CommandLemmas.{heeded-wait}
+use Rattle.listener.proofs.CountedEndLemmas.{alike-folded, alike-served, alike-started, asks-as, asks-more, asks-none, asks-wait, clock-behind, clock-broken, clock-idle, clock-on, clock-stays, clocks-broken, counts-ending, turns-broken}
+use Rattle.listener.proofs.CountedLemmas.{alike-same, counts-alike, counts-more, counts-unbroken, counts-until, same-counts, same-wait}
 use Rattle.listener.proofs.FoldedTurnLemmas.{turn-folded}
 use Rattle.listener.proofs.FrontLemmas.{follows-trans, follows-wait, named-follows, step-kept, step-wait}
 use Rattle.listener.proofs.OverLemmas.{over-broken, over-ended, over-ended_for, over-failed, over-served, over-started, turn-served, turn-started}
@@ -38,15 +44,21 @@ loop-init g c =
     let between =
     between-started c.generations_keep_their_editions.ensures c.passes_act_in_steps.ensures.acts g.N.Known.known first m c.requires.may.free
     (ap is_halted c.requires.may.going) c.requires.may.step in_time c.requires.may.knows c.requires.may.serves same c.start.ensures.starts c.start.ensures.rest in
-    turn-started g.N.Known.known c.in_ok-first.first first m between
-    (λ o n opened begun. whole-begun g.N.Known.known o n first m opened begun same c.start.ensures.starts (c.in_ok-first.ensures.first begun.opening)
-    c.start.ensures.rest.moment
-    (stands-acted g.N.Known.known 0 _ None first m.board c.start.ensures.starts.acts (commandless-starts c.start.ensures.starts.children) c.start.ensures.rest.going)
-    (watched-as first.front.told first.board.book m.board.book (nobody-started first.board.book m.board.book c.start.ensures.starts) c.start.ensures.rest.accepted))
-    c.requires.may.heeded same c.start.ensures.starts c.start.ensures.rest.moment c.in_ok-first.ensures.until c.in_ok-first.ensures.quiet
+    record {
+      turn =
+          turn-started g.N.Known.known c.in_ok-first.first first m between
+          (λ o n opened begun. whole-begun g.N.Known.known o n first m opened begun same c.start.ensures.starts (c.in_ok-first.ensures.first begun.opening)
+          c.start.ensures.rest.moment
+          (stands-acted g.N.Known.known 0 _ None first m.board c.start.ensures.starts.acts (commandless-starts c.start.ensures.starts.children) c.start.ensures.rest.going)
+          (watched-as first.front.told first.board.book m.board.book (nobody-started first.board.book m.board.book c.start.ensures.starts) c.start.ensures.rest.accepted))
+          c.requires.may.heeded same c.start.ensures.starts c.start.ensures.rest.moment c.in_ok-first.ensures.until c.in_ok-first.ensures.quiet;
+      counts = counts-alike (g.F.Front.seen c.args.front.now).counts (g.F.Front.seen c.args.front.now).counts c.args.self.now.board.book c.start.new.self.board.book (same-counts (g.F.Front.seen c.args.front.now).counts (g.F.Front.seen c.args.front.now).counts refl) (alike-started c.args.self.now.board.book c.start.new.self.board.book c.start.ensures.starts c.start.ensures.rest);
+      asked = asks-none (g.F.Front.seen c.args.front.now).counts.wakes (g.C.Clock.asked c.args.clock.now);
+      clock = λ first at. clock-stays first (g.C.Clock.greatest c.args.clock.now) c.args.self.now.board.book.state c.start.new.self.board.book.state c.start.ensures.rest.moment at;
+    }
 
-pub returns-in_err-first : goal.returns-in_err-first
-returns-in_err-first g c =
+pub returns-in_err-first-clause-over : goal.returns-in_err-first-clause-over
+returns-in_err-first-clause-over g c =
     let first =
     listener_of c.args.self.now.board (g.F.Front.seen c.args.front.now) (g.C.Clock.told c.args.clock.now) c.args.self.now.ready c.args.self.now.edition
     (g.D.Store.seen c.args.store.now) c.args.self.now.config in
@@ -70,20 +82,20 @@ returns-in_err-first g c =
 pub take_in-requires-clause-named : goal.take_in-requires-clause-named
 take_in-requires-clause-named g c κs within =
     named-follows g.N.Known.known (g.F.Front.seen c.args.front.now) (g.F.Front.seen c.take_pause-pause.new.front)
-    (follows-trans _ _ _ c.loop.invariant.between.kept.follows (follows-wait _ _ _ _ _ _ c.take_pause-pause.ensures.waits)) c.requires.named
+    (follows-trans _ _ _ c.loop.invariant.turn.between.kept.follows (follows-wait _ _ _ _ _ _ c.take_pause-pause.ensures.waits)) c.requires.named
 
 pub take_in-requires-clause-heeded : goal.take_in-requires-clause-heeded
 take_in-requires-clause-heeded g c κs within =
     heeded-wait _ _ _ _ (g.F.Front.seen c.loop.front).told (g.F.Front.seen c.take_pause-pause.new.front).told c.take_pause-pause.ensures.waits.tells
-    c.loop.invariant.heeded
+    c.loop.invariant.turn.heeded
 
 pub take_in-requires-clause-step : goal.take_in-requires-clause-step
 take_in-requires-clause-step g c κs within =
     step-wait _ _ _ _ (g.F.Front.seen c.loop.front).told (g.F.Front.seen c.take_pause-pause.new.front).told c.loop.self.board.book.state
-    c.take_pause-pause.ensures.waits.tells c.loop.invariant.between.step
+    c.take_pause-pause.ensures.waits.tells c.loop.invariant.turn.between.step
 
-pub returns-in-Ended : goal.returns-in-Ended
-returns-in-Ended g c =
+pub returns-in-Ended-clause-over : goal.returns-in-Ended-clause-over
+returns-in-Ended-clause-over g c =
     let first =
     listener_of c.args.self.now.board (g.F.Front.seen c.args.front.now) (g.C.Clock.told c.args.clock.now) c.args.self.now.ready c.args.self.now.edition
     (g.D.Store.seen c.args.store.now) c.args.self.now.config in
@@ -96,11 +108,11 @@ returns-in-Ended g c =
     let waited =
     has-waited c.loop.rest c.take_pause-pause.result a w c.moment-present.result refl refl refl refl c.show.ensures.after c.show.ensures.sound
     c.moment-present.ensures c.take_pause-pause.ensures.waits c.take_pause-pause.ensures.asks c.take_pause-pause.ensures.clock in
-    over-ended c.passes_act_in_steps.ensures.acts g.N.Known.known c.loop.rest c.take_pause-pause.result first a w c.loop.invariant waited c.in-Ended.is
+    over-ended c.passes_act_in_steps.ensures.acts g.N.Known.known c.loop.rest c.take_pause-pause.result first a w c.loop.invariant.turn waited c.in-Ended.is
     (sym c.has_live.ensures ∙ c.if-not-has_live.true)
 
-pub returns-in-Failed : goal.returns-in-Failed
-returns-in-Failed g c =
+pub returns-in-Failed-clause-over : goal.returns-in-Failed-clause-over
+returns-in-Failed-clause-over g c =
     let first =
     listener_of c.args.self.now.board (g.F.Front.seen c.args.front.now) (g.C.Clock.told c.args.clock.now) c.args.self.now.ready c.args.self.now.edition
     (g.D.Store.seen c.args.store.now) c.args.self.now.config in
@@ -113,10 +125,10 @@ returns-in-Failed g c =
     let waited =
     has-waited c.loop.rest c.take_pause-pause.result a w c.moment-present.result refl refl refl refl c.show.ensures.after c.show.ensures.sound
     c.moment-present.ensures c.take_pause-pause.ensures.waits c.take_pause-pause.ensures.asks c.take_pause-pause.ensures.clock in
-    over-failed c.passes_act_in_steps.ensures.acts g.N.Known.known c.loop.rest c.take_pause-pause.result first a w c.loop.invariant waited c.in-Failed.is
+    over-failed c.passes_act_in_steps.ensures.acts g.N.Known.known c.loop.rest c.take_pause-pause.result first a w c.loop.invariant.turn waited c.in-Failed.is
 
-pub returns-in_err-ended : goal.returns-in_err-ended
-returns-in_err-ended g c =
+pub returns-in_err-ended-clause-over : goal.returns-in_err-ended-clause-over
+returns-in_err-ended-clause-over g c =
     let first =
     listener_of c.args.self.now.board (g.F.Front.seen c.args.front.now) (g.C.Clock.told c.args.clock.now) c.args.self.now.ready c.args.self.now.edition
     (g.D.Store.seen c.args.store.now) c.args.self.now.config in
@@ -142,7 +154,7 @@ returns-in_err-ended g c =
       calls = refl;
       config = c.take_in.ensures.config;
     } in
-    over-broken c.passes_act_in_steps.ensures.acts g.N.Known.known c.loop.rest c.take_pause-pause.result first a w c.loop.invariant waited
+    over-broken c.passes_act_in_steps.ensures.acts g.N.Known.known c.loop.rest c.take_pause-pause.result first a w c.loop.invariant.turn waited
     c.from_residual-in_err-ended.result c.in_err-ended.field-0.0 b c.from_residual-in_err-ended.ensures.1
     (record {
       took = took;
@@ -154,8 +166,8 @@ returns-in_err-ended g c =
     })
     c.in_err-ended.ensures.unheeded c.in_err-ended.ensures.links c.in_err-ended.ensures.err
 
-pub returns-in-Some-ended : goal.returns-in-Some-ended
-returns-in-Some-ended g c =
+pub returns-in-Some-ended-clause-over : goal.returns-in-Some-ended-clause-over
+returns-in-Some-ended-clause-over g c =
     let first =
     listener_of c.args.self.now.board (g.F.Front.seen c.args.front.now) (g.C.Clock.told c.args.clock.now) c.args.self.now.ready c.args.self.now.edition
     (g.D.Store.seen c.args.store.now) c.args.self.now.config in
@@ -194,10 +206,10 @@ returns-in-Some-ended g c =
       knows = c.in_ok-ended.ensures.knows;
       serves = c.in_ok-ended.ensures.serves;
     } in
-    over-ended_for c.passes_act_in_steps.ensures.acts g.N.Known.known c.loop.rest c.take_pause-pause.result first a w c.loop.invariant waited c.in_ok-ended.ended _ b c.in-Some-ended.is gone c.in_ok-ended.ensures.ends
+    over-ended_for c.passes_act_in_steps.ensures.acts g.N.Known.known c.loop.rest c.take_pause-pause.result first a w c.loop.invariant.turn waited c.in_ok-ended.ended _ b c.in-Some-ended.is gone c.in_ok-ended.ensures.ends
 
 pub take_in-requires-clause-in_time : goal.take_in-requires-clause-in_time
-take_in-requires-clause-in_time g c κs within = c.loop.invariant.between.in_time
+take_in-requires-clause-in_time g c κs within = c.loop.invariant.turn.between.in_time
 
 pub serve-requires-clause-in_time : goal.serve-requires-clause-in_time
 serve-requires-clause-in_time g c κs within =
@@ -216,10 +228,10 @@ serve-requires-clause-free g c κs within =
     let on : GoesRound (moment_for c.take_pause-pause.result.moment) c.take_pause-pause.new.ready c.loop.self.board.book c.take_in.new.self.board.book =
     subst (λ (o : Option End). RoundEnds o (moment_for c.take_pause-pause.result.moment) c.take_pause-pause.new.ready c.loop.self.board.book c.take_in.new.self.board.book)
     c.in-None-ended.is c.in_ok-ended.ensures.round in
-    none-has c.passes_act_in_steps.ensures.acts 0 _ c.loop.self.board.book c.take_in.new.self.board.book c.loop.invariant.between.kept.free on.acts 1
+    none-has c.passes_act_in_steps.ensures.acts 0 _ c.loop.self.board.book c.take_in.new.self.board.book c.loop.invariant.turn.between.kept.free on.acts 1
 
-pub returns-in_err-rest : goal.returns-in_err-rest
-returns-in_err-rest g c =
+pub returns-in_err-rest-clause-over : goal.returns-in_err-rest-clause-over
+returns-in_err-rest-clause-over g c =
     let first =
     listener_of c.args.self.now.board (g.F.Front.seen c.args.front.now) (g.C.Clock.told c.args.clock.now) c.args.self.now.ready c.args.self.now.edition
     (g.D.Store.seen c.args.store.now) c.args.self.now.config in
@@ -275,7 +287,7 @@ returns-in_err-rest g c =
           ap (λ (l : _). listener_of c.serve.new.self.board (g.F.Front.seen c.take_in.new.front) (g.C.Clock.told c.take_pause-pause.new.clock) l.ready l.edition
           (g.D.Store.seen c.take_in.new.store) l.config) c.serve.ensures.others;
     } in
-    over-served c.passes_act_in_steps.ensures.acts g.N.Known.known c.loop.rest c.take_pause-pause.result first a w c.loop.invariant waited b on c.generations_keep_their_editions.ensures
+    over-served c.passes_act_in_steps.ensures.acts g.N.Known.known c.loop.rest c.take_pause-pause.result first a w c.loop.invariant.turn waited b on c.generations_keep_their_editions.ensures
     c.from_residual-in_err-rest.result c.in_err-rest.field-0.0 d c.from_residual-in_err-rest.ensures.1 served ends.2 c.in_err-rest.ensures.err
 
 pub loop-preserved : goal.loop-preserved
@@ -336,7 +348,150 @@ loop-preserved g c =
           (g.D.Store.seen c.take_in.new.store) l.config) c.serve.ensures.others;
     } in
     let before =
-    turn-served c.passes_act_in_steps.ensures.acts g.N.Known.known c.loop.rest c.take_pause-pause.result first a w c.loop.invariant waited b on c.generations_keep_their_editions.ensures c.histories_join.ensures.state
+    turn-served c.passes_act_in_steps.ensures.acts g.N.Known.known c.loop.rest c.take_pause-pause.result first a w c.loop.invariant.turn waited b on c.generations_keep_their_editions.ensures c.histories_join.ensures.state
     c.in_ok-rest.rest d c.show-in-loop.ensures.after c.show-in-loop-2.ensures.after served ends.2 ends.0 ends.1
     c.in_ok-rest.ensures.until c.in_ok-rest.ensures.quiet in
-    turn-folded g.N.Known.known d c.fold_history.new.board c.fold_history.ensures first c.in_ok-rest.rest before
+    record {
+      turn = turn-folded g.N.Known.known d c.fold_history.new.board c.fold_history.ensures first c.in_ok-rest.rest before;
+      counts =
+          counts-more 0 (g.F.Front.seen c.args.front.now).counts (g.F.Front.seen c.take_in.new.front).counts (g.F.Front.seen c.take_in.new.front).counts c.args.self.now.board.book c.serve.new.self.board.book c.fold_history.new.board.book
+          (counts-more 0 (g.F.Front.seen c.args.front.now).counts (g.F.Front.seen c.take_in.new.front).counts (g.F.Front.seen c.take_in.new.front).counts c.args.self.now.board.book c.take_in.new.self.board.book c.serve.new.self.board.book
+          (counts-more 0 (g.F.Front.seen c.args.front.now).counts (g.F.Front.seen c.take_pause-pause.new.front).counts (g.F.Front.seen c.take_in.new.front).counts c.args.self.now.board.book c.loop.self.board.book c.take_in.new.self.board.book
+          (counts-more 0 (g.F.Front.seen c.args.front.now).counts (g.F.Front.seen c.loop.front).counts (g.F.Front.seen c.take_pause-pause.new.front).counts c.args.self.now.board.book c.loop.self.board.book c.loop.self.board.book c.loop.invariant.counts
+          (counts-alike (g.F.Front.seen c.loop.front).counts (g.F.Front.seen c.take_pause-pause.new.front).counts c.loop.self.board.book c.loop.self.board.book
+          (same-wait (g.F.Front.seen c.loop.front) (g.F.Front.seen c.take_pause-pause.new.front) c.loop.rest.until c.loop.rest.quiet c.take_pause-pause.result.woke
+          c.take_pause-pause.new.ready c.take_pause-pause.ensures.waits) (alike-same c.loop.self.board.book c.loop.self.board.book refl)))
+          (subst (λ (o : Option End). CountsOn (owed_at o) (g.F.Front.seen c.take_pause-pause.new.front).counts (g.F.Front.seen c.take_in.new.front).counts c.loop.self.board.book c.take_in.new.self.board.book) c.in-None-ended.is c.in_ok-ended.ensures.counts))
+          (counts-alike (g.F.Front.seen c.take_in.new.front).counts (g.F.Front.seen c.take_in.new.front).counts c.take_in.new.self.board.book c.serve.new.self.board.book (same-counts (g.F.Front.seen c.take_in.new.front).counts (g.F.Front.seen c.take_in.new.front).counts refl)
+          (alike-served c.passes_act_in_steps.ensures.acts c.take_in.new.self.board c.serve.new.self.board c.serve.ensures.serves c.serve.ensures.rest)))
+          (counts-alike (g.F.Front.seen c.take_in.new.front).counts (g.F.Front.seen c.take_in.new.front).counts c.serve.new.self.board.book c.fold_history.new.board.book (same-counts (g.F.Front.seen c.take_in.new.front).counts (g.F.Front.seen c.take_in.new.front).counts refl)
+          (alike-folded g.N.Known.known c.serve.new.self.board c.fold_history.new.board c.fold_history.ensures));
+      asked =
+          asks-as (g.F.Front.seen c.args.front.now).counts.wakes (g.F.Front.seen c.take_pause-pause.new.front).counts.wakes (g.F.Front.seen c.take_in.new.front).counts.wakes (g.C.Clock.asked c.args.clock.now) (g.C.Clock.asked c.take_pause-pause.new.clock) c.take_in.ensures.wakes
+          (asks-more (g.F.Front.seen c.args.front.now).counts.wakes (g.F.Front.seen c.loop.front).counts.wakes (g.F.Front.seen c.take_pause-pause.new.front).counts.wakes (g.C.Clock.asked c.args.clock.now) (g.C.Clock.asked c.loop.clock) (g.C.Clock.asked c.take_pause-pause.new.clock) c.loop.invariant.asked
+          (asks-wait (is_woken c.take_pause-pause.result.woke) (g.F.Front.seen c.loop.front).counts.wakes (g.F.Front.seen c.take_pause-pause.new.front).counts.wakes (g.C.Clock.asked c.loop.clock) (g.C.Clock.asked c.take_pause-pause.new.clock) c.take_pause-pause.ensures.waits.wakes c.take_pause-pause.ensures.asked));
+      clock =
+          λ first at. clock-stays first (g.C.Clock.greatest c.take_pause-pause.new.clock) c.serve.new.self.board.book.state c.fold_history.new.board.book.state (ap (λ (s : State). s.moment) c.fold_history.ensures.state)
+          (clock-stays first (g.C.Clock.greatest c.take_pause-pause.new.clock) c.take_in.new.self.board.book.state c.serve.new.self.board.book.state c.serve.ensures.rest.moment
+          (clock-on c.take_pause-pause.result.woke c.moment-present.result (g.C.Clock.greatest c.loop.clock) (g.C.Clock.greatest c.take_pause-pause.new.clock) c.take_pause-pause.result.moment c.loop.self.board.book.state c.take_in.new.self.board.book.state c.take_pause-pause.ensures.moves
+          c.moment-present.ensures c.in_ok-ended.ensures.moment first (c.loop.invariant.clock first at)));
+    }
+
+pub returns-in_err-first-clause-counts : goal.returns-in_err-first-clause-counts
+returns-in_err-first-clause-counts g c =
+    turns-broken c.from_residual.result c.in_err-first.field-0.0 (g.F.Front.seen c.args.front.now).counts (g.F.Front.seen c.args.front.now).counts c.args.self.now.board.book c.start.new.self.board.book
+    c.from_residual.ensures.1
+    (counts-unbroken (g.F.Front.seen c.args.front.now).counts (g.F.Front.seen c.args.front.now).counts c.args.self.now.board.book c.start.new.self.board.book
+    (counts-alike (g.F.Front.seen c.args.front.now).counts (g.F.Front.seen c.args.front.now).counts c.args.self.now.board.book c.start.new.self.board.book (same-counts (g.F.Front.seen c.args.front.now).counts (g.F.Front.seen c.args.front.now).counts refl) (alike-started c.args.self.now.board.book c.start.new.self.board.book c.start.ensures.starts c.start.ensures.rest)))
+
+pub returns-in_err-first-clause-clock : goal.returns-in_err-first-clause-clock
+returns-in_err-first-clause-clock g c =
+    clocks-broken c.from_residual.result c.in_err-first.field-0.0 (g.C.Clock.greatest c.args.clock.now) (g.C.Clock.greatest c.args.clock.now) c.args.self.now.board.book.state c.start.new.self.board.book.state c.from_residual.ensures.1
+    (λ first at. clock-behind first (g.C.Clock.greatest c.args.clock.now) c.args.self.now.board.book.state c.start.new.self.board.book.state c.start.ensures.rest.moment at)
+
+pub returns-in-Ended-clause-counts : goal.returns-in-Ended-clause-counts
+returns-in-Ended-clause-counts g c =
+    counts-more 0 (g.F.Front.seen c.args.front.now).counts (g.F.Front.seen c.loop.front).counts (g.F.Front.seen c.take_pause-pause.new.front).counts c.args.self.now.board.book c.loop.self.board.book c.loop.self.board.book c.loop.invariant.counts
+    (counts-alike (g.F.Front.seen c.loop.front).counts (g.F.Front.seen c.take_pause-pause.new.front).counts c.loop.self.board.book c.loop.self.board.book
+    (same-wait (g.F.Front.seen c.loop.front) (g.F.Front.seen c.take_pause-pause.new.front) c.loop.rest.until c.loop.rest.quiet c.take_pause-pause.result.woke
+    c.take_pause-pause.new.ready c.take_pause-pause.ensures.waits) (alike-same c.loop.self.board.book c.loop.self.board.book refl))
+
+pub returns-in-Ended-clause-clock : goal.returns-in-Ended-clause-clock
+returns-in-Ended-clause-clock g c first at =
+    clock-idle c.take_pause-pause.result.woke c.moment-present.result (g.C.Clock.greatest c.loop.clock) (g.C.Clock.greatest c.take_pause-pause.new.clock) c.take_pause-pause.result.moment c.loop.self.board.book.state c.take_pause-pause.ensures.moves (inl c.in-Ended.is) first
+    (c.loop.invariant.clock first at)
+
+pub returns-in-Failed-clause-counts : goal.returns-in-Failed-clause-counts
+returns-in-Failed-clause-counts g c =
+    counts-more 0 (g.F.Front.seen c.args.front.now).counts (g.F.Front.seen c.loop.front).counts (g.F.Front.seen c.take_pause-pause.new.front).counts c.args.self.now.board.book c.loop.self.board.book c.loop.self.board.book c.loop.invariant.counts
+    (counts-alike (g.F.Front.seen c.loop.front).counts (g.F.Front.seen c.take_pause-pause.new.front).counts c.loop.self.board.book c.loop.self.board.book
+    (same-wait (g.F.Front.seen c.loop.front) (g.F.Front.seen c.take_pause-pause.new.front) c.loop.rest.until c.loop.rest.quiet c.take_pause-pause.result.woke
+    c.take_pause-pause.new.ready c.take_pause-pause.ensures.waits) (alike-same c.loop.self.board.book c.loop.self.board.book refl))
+
+pub returns-in-Failed-clause-clock : goal.returns-in-Failed-clause-clock
+returns-in-Failed-clause-clock g c first at =
+    clock-idle c.take_pause-pause.result.woke c.moment-present.result (g.C.Clock.greatest c.loop.clock) (g.C.Clock.greatest c.take_pause-pause.new.clock) c.take_pause-pause.result.moment c.loop.self.board.book.state c.take_pause-pause.ensures.moves (inr c.in-Failed.is) first
+    (c.loop.invariant.clock first at)
+
+pub returns-in_err-ended-clause-counts : goal.returns-in_err-ended-clause-counts
+returns-in_err-ended-clause-counts g c =
+    turns-broken c.from_residual-in_err-ended.result c.in_err-ended.field-0.0 (g.F.Front.seen c.args.front.now).counts (g.F.Front.seen c.take_in.new.front).counts c.args.self.now.board.book c.take_in.new.self.board.book c.from_residual-in_err-ended.ensures.1
+    (counts-until (g.F.Front.seen c.args.front.now).counts (g.F.Front.seen c.take_pause-pause.new.front).counts (g.F.Front.seen c.take_in.new.front).counts c.args.self.now.board.book c.loop.self.board.book c.take_in.new.self.board.book
+    (counts-more 0 (g.F.Front.seen c.args.front.now).counts (g.F.Front.seen c.loop.front).counts (g.F.Front.seen c.take_pause-pause.new.front).counts c.args.self.now.board.book c.loop.self.board.book c.loop.self.board.book c.loop.invariant.counts
+    (counts-alike (g.F.Front.seen c.loop.front).counts (g.F.Front.seen c.take_pause-pause.new.front).counts c.loop.self.board.book c.loop.self.board.book
+    (same-wait (g.F.Front.seen c.loop.front) (g.F.Front.seen c.take_pause-pause.new.front) c.loop.rest.until c.loop.rest.quiet c.take_pause-pause.result.woke
+    c.take_pause-pause.new.ready c.take_pause-pause.ensures.waits) (alike-same c.loop.self.board.book c.loop.self.board.book refl)))
+    c.in_err-ended.ensures.counts)
+
+pub returns-in_err-ended-clause-clock : goal.returns-in_err-ended-clause-clock
+returns-in_err-ended-clause-clock g c =
+    clocks-broken c.from_residual-in_err-ended.result c.in_err-ended.field-0.0 (g.C.Clock.greatest c.args.clock.now) (g.C.Clock.greatest c.take_pause-pause.new.clock) c.args.self.now.board.book.state c.take_in.new.self.board.book.state c.from_residual-in_err-ended.ensures.1
+    (λ first at. clock-broken c.take_pause-pause.result.woke c.moment-present.result (g.C.Clock.greatest c.loop.clock) (g.C.Clock.greatest c.take_pause-pause.new.clock) c.take_pause-pause.result.moment c.loop.self.board.book.state c.take_in.new.self.board.book.state first c.take_pause-pause.ensures.moves
+    c.moment-present.ensures c.in_err-ended.ensures.stays (c.loop.invariant.clock first at))
+
+pub returns-in-Some-ended-clause-counts : goal.returns-in-Some-ended-clause-counts
+returns-in-Some-ended-clause-counts g c =
+    counts-ending c.in_ok-ended.ended _ (g.F.Front.seen c.args.front.now).counts (g.F.Front.seen c.take_pause-pause.new.front).counts (g.F.Front.seen c.take_in.new.front).counts c.args.self.now.board.book c.loop.self.board.book c.take_in.new.self.board.book c.in-Some-ended.is
+    (counts-more 0 (g.F.Front.seen c.args.front.now).counts (g.F.Front.seen c.loop.front).counts (g.F.Front.seen c.take_pause-pause.new.front).counts c.args.self.now.board.book c.loop.self.board.book c.loop.self.board.book c.loop.invariant.counts
+    (counts-alike (g.F.Front.seen c.loop.front).counts (g.F.Front.seen c.take_pause-pause.new.front).counts c.loop.self.board.book c.loop.self.board.book
+    (same-wait (g.F.Front.seen c.loop.front) (g.F.Front.seen c.take_pause-pause.new.front) c.loop.rest.until c.loop.rest.quiet c.take_pause-pause.result.woke
+    c.take_pause-pause.new.ready c.take_pause-pause.ensures.waits) (alike-same c.loop.self.board.book c.loop.self.board.book refl)))
+    c.in_ok-ended.ensures.counts
+
+pub returns-in-Some-ended-clause-clock : goal.returns-in-Some-ended-clause-clock
+returns-in-Some-ended-clause-clock g c first at =
+    clock-on c.take_pause-pause.result.woke c.moment-present.result (g.C.Clock.greatest c.loop.clock) (g.C.Clock.greatest c.take_pause-pause.new.clock) c.take_pause-pause.result.moment c.loop.self.board.book.state c.take_in.new.self.board.book.state c.take_pause-pause.ensures.moves
+    c.moment-present.ensures c.in_ok-ended.ensures.moment first (c.loop.invariant.clock first at)
+
+pub returns-in_err-rest-clause-counts : goal.returns-in_err-rest-clause-counts
+returns-in_err-rest-clause-counts g c =
+    turns-broken c.from_residual-in_err-rest.result c.in_err-rest.field-0.0 (g.F.Front.seen c.args.front.now).counts (g.F.Front.seen c.take_in.new.front).counts c.args.self.now.board.book c.serve.new.self.board.book c.from_residual-in_err-rest.ensures.1
+    (counts-unbroken (g.F.Front.seen c.args.front.now).counts (g.F.Front.seen c.take_in.new.front).counts c.args.self.now.board.book c.serve.new.self.board.book
+    (counts-more 0 (g.F.Front.seen c.args.front.now).counts (g.F.Front.seen c.take_in.new.front).counts (g.F.Front.seen c.take_in.new.front).counts c.args.self.now.board.book c.take_in.new.self.board.book c.serve.new.self.board.book
+    (counts-more 0 (g.F.Front.seen c.args.front.now).counts (g.F.Front.seen c.take_pause-pause.new.front).counts (g.F.Front.seen c.take_in.new.front).counts c.args.self.now.board.book c.loop.self.board.book c.take_in.new.self.board.book
+    (counts-more 0 (g.F.Front.seen c.args.front.now).counts (g.F.Front.seen c.loop.front).counts (g.F.Front.seen c.take_pause-pause.new.front).counts c.args.self.now.board.book c.loop.self.board.book c.loop.self.board.book c.loop.invariant.counts
+    (counts-alike (g.F.Front.seen c.loop.front).counts (g.F.Front.seen c.take_pause-pause.new.front).counts c.loop.self.board.book c.loop.self.board.book
+    (same-wait (g.F.Front.seen c.loop.front) (g.F.Front.seen c.take_pause-pause.new.front) c.loop.rest.until c.loop.rest.quiet c.take_pause-pause.result.woke
+    c.take_pause-pause.new.ready c.take_pause-pause.ensures.waits) (alike-same c.loop.self.board.book c.loop.self.board.book refl)))
+    (subst (λ (o : Option End). CountsOn (owed_at o) (g.F.Front.seen c.take_pause-pause.new.front).counts (g.F.Front.seen c.take_in.new.front).counts c.loop.self.board.book c.take_in.new.self.board.book) c.in-None-ended.is c.in_ok-ended.ensures.counts))
+    (counts-alike (g.F.Front.seen c.take_in.new.front).counts (g.F.Front.seen c.take_in.new.front).counts c.take_in.new.self.board.book c.serve.new.self.board.book (same-counts (g.F.Front.seen c.take_in.new.front).counts (g.F.Front.seen c.take_in.new.front).counts refl)
+    (alike-served c.passes_act_in_steps.ensures.acts c.take_in.new.self.board c.serve.new.self.board c.serve.ensures.serves c.serve.ensures.rest))))
+
+pub returns-in_err-rest-clause-clock : goal.returns-in_err-rest-clause-clock
+returns-in_err-rest-clause-clock g c =
+    clocks-broken c.from_residual-in_err-rest.result c.in_err-rest.field-0.0 (g.C.Clock.greatest c.args.clock.now) (g.C.Clock.greatest c.take_pause-pause.new.clock) c.args.self.now.board.book.state c.serve.new.self.board.book.state c.from_residual-in_err-rest.ensures.1
+    (λ first at. clock-behind first (g.C.Clock.greatest c.take_pause-pause.new.clock) c.take_in.new.self.board.book.state c.serve.new.self.board.book.state c.serve.ensures.rest.moment
+    (clock-on c.take_pause-pause.result.woke c.moment-present.result (g.C.Clock.greatest c.loop.clock) (g.C.Clock.greatest c.take_pause-pause.new.clock) c.take_pause-pause.result.moment c.loop.self.board.book.state c.take_in.new.self.board.book.state c.take_pause-pause.ensures.moves
+    c.moment-present.ensures c.in_ok-ended.ensures.moment first (c.loop.invariant.clock first at)))
+
+pub returns-in_err-first-clause-asked : goal.returns-in_err-first-clause-asked
+returns-in_err-first-clause-asked g c =
+    asks-none (g.F.Front.seen c.args.front.now).counts.wakes (g.C.Clock.asked c.args.clock.now)
+
+pub returns-in-Ended-clause-asked : goal.returns-in-Ended-clause-asked
+returns-in-Ended-clause-asked g c =
+    asks-more (g.F.Front.seen c.args.front.now).counts.wakes (g.F.Front.seen c.loop.front).counts.wakes (g.F.Front.seen c.take_pause-pause.new.front).counts.wakes (g.C.Clock.asked c.args.clock.now) (g.C.Clock.asked c.loop.clock) (g.C.Clock.asked c.take_pause-pause.new.clock) c.loop.invariant.asked
+    (asks-wait (is_woken c.take_pause-pause.result.woke) (g.F.Front.seen c.loop.front).counts.wakes (g.F.Front.seen c.take_pause-pause.new.front).counts.wakes (g.C.Clock.asked c.loop.clock) (g.C.Clock.asked c.take_pause-pause.new.clock) c.take_pause-pause.ensures.waits.wakes c.take_pause-pause.ensures.asked)
+
+pub returns-in-Failed-clause-asked : goal.returns-in-Failed-clause-asked
+returns-in-Failed-clause-asked g c =
+    asks-more (g.F.Front.seen c.args.front.now).counts.wakes (g.F.Front.seen c.loop.front).counts.wakes (g.F.Front.seen c.take_pause-pause.new.front).counts.wakes (g.C.Clock.asked c.args.clock.now) (g.C.Clock.asked c.loop.clock) (g.C.Clock.asked c.take_pause-pause.new.clock) c.loop.invariant.asked
+    (asks-wait (is_woken c.take_pause-pause.result.woke) (g.F.Front.seen c.loop.front).counts.wakes (g.F.Front.seen c.take_pause-pause.new.front).counts.wakes (g.C.Clock.asked c.loop.clock) (g.C.Clock.asked c.take_pause-pause.new.clock) c.take_pause-pause.ensures.waits.wakes c.take_pause-pause.ensures.asked)
+
+pub returns-in_err-ended-clause-asked : goal.returns-in_err-ended-clause-asked
+returns-in_err-ended-clause-asked g c =
+    asks-as (g.F.Front.seen c.args.front.now).counts.wakes (g.F.Front.seen c.take_pause-pause.new.front).counts.wakes (g.F.Front.seen c.take_in.new.front).counts.wakes (g.C.Clock.asked c.args.clock.now) (g.C.Clock.asked c.take_pause-pause.new.clock) c.take_in.ensures.wakes
+    (asks-more (g.F.Front.seen c.args.front.now).counts.wakes (g.F.Front.seen c.loop.front).counts.wakes (g.F.Front.seen c.take_pause-pause.new.front).counts.wakes (g.C.Clock.asked c.args.clock.now) (g.C.Clock.asked c.loop.clock) (g.C.Clock.asked c.take_pause-pause.new.clock) c.loop.invariant.asked
+    (asks-wait (is_woken c.take_pause-pause.result.woke) (g.F.Front.seen c.loop.front).counts.wakes (g.F.Front.seen c.take_pause-pause.new.front).counts.wakes (g.C.Clock.asked c.loop.clock) (g.C.Clock.asked c.take_pause-pause.new.clock) c.take_pause-pause.ensures.waits.wakes c.take_pause-pause.ensures.asked))
+
+pub returns-in-Some-ended-clause-asked : goal.returns-in-Some-ended-clause-asked
+returns-in-Some-ended-clause-asked g c =
+    asks-as (g.F.Front.seen c.args.front.now).counts.wakes (g.F.Front.seen c.take_pause-pause.new.front).counts.wakes (g.F.Front.seen c.take_in.new.front).counts.wakes (g.C.Clock.asked c.args.clock.now) (g.C.Clock.asked c.take_pause-pause.new.clock) c.take_in.ensures.wakes
+    (asks-more (g.F.Front.seen c.args.front.now).counts.wakes (g.F.Front.seen c.loop.front).counts.wakes (g.F.Front.seen c.take_pause-pause.new.front).counts.wakes (g.C.Clock.asked c.args.clock.now) (g.C.Clock.asked c.loop.clock) (g.C.Clock.asked c.take_pause-pause.new.clock) c.loop.invariant.asked
+    (asks-wait (is_woken c.take_pause-pause.result.woke) (g.F.Front.seen c.loop.front).counts.wakes (g.F.Front.seen c.take_pause-pause.new.front).counts.wakes (g.C.Clock.asked c.loop.clock) (g.C.Clock.asked c.take_pause-pause.new.clock) c.take_pause-pause.ensures.waits.wakes c.take_pause-pause.ensures.asked))
+
+pub returns-in_err-rest-clause-asked : goal.returns-in_err-rest-clause-asked
+returns-in_err-rest-clause-asked g c =
+    asks-as (g.F.Front.seen c.args.front.now).counts.wakes (g.F.Front.seen c.take_pause-pause.new.front).counts.wakes (g.F.Front.seen c.take_in.new.front).counts.wakes (g.C.Clock.asked c.args.clock.now) (g.C.Clock.asked c.take_pause-pause.new.clock) c.take_in.ensures.wakes
+    (asks-more (g.F.Front.seen c.args.front.now).counts.wakes (g.F.Front.seen c.loop.front).counts.wakes (g.F.Front.seen c.take_pause-pause.new.front).counts.wakes (g.C.Clock.asked c.args.clock.now) (g.C.Clock.asked c.loop.clock) (g.C.Clock.asked c.take_pause-pause.new.clock) c.loop.invariant.asked
+    (asks-wait (is_woken c.take_pause-pause.result.woke) (g.F.Front.seen c.loop.front).counts.wakes (g.F.Front.seen c.take_pause-pause.new.front).counts.wakes (g.C.Clock.asked c.loop.clock) (g.C.Clock.asked c.take_pause-pause.new.clock) c.take_pause-pause.ensures.waits.wakes c.take_pause-pause.ensures.asked))
