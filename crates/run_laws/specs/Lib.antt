@@ -1,0 +1,4 @@
+pub mod Exact
+pub mod Grounds
+pub mod Outcomes
+pub mod Undisturbed
