@@ -9,7 +9,7 @@ use Rattle.mpm_base.specs.Front.{FrontTold}
 use Rattle.mpm_base.specs.Sink.{SinkSeen}
 use Rattle.mpm_base.specs.declared.script_line.CommandWord.{CommandWord}
 use Rattle.mpm_config.specs.Config.{Configuration}
-use Rattle.mpm_run.specs.ExitStatuses.{HasDialled, IsUnbound}
+use Rattle.mpm_run.specs.ExitStatuses.{HasDialled, HasRunServer, IsUnbound}
 use Rattle.run_laws.specs.Grounds.{HasLargeScript, HasNoConfig, HasNoSite, HasUnfitScript, LacksNamed, SendsBy, ServesSite, TestsFit, WritesSite}
 use Rattle.run_laws.specs.Outcomes.{IsOutcome, SeenOutcome}
 use Rattle.run_opening.specs.Calls.{Call, StoreFailed}
@@ -43,7 +43,7 @@ abbrev pub HasWritten : SinkSeen → SinkSeen → List ℕ → Type 0
 HasWritten sink sink' text =
     ¬ (Rises sink.faults sink'.faults) ⊎ IsSomeAnd sink.told (λ written. sink'.told ≡ Some (written ++ text))
 
--- the output tells its bytes, and hasn't got the text
+-- the output doesn't have the text, as one that tells its bytes may show
 abbrev pub LacksIt : SinkSeen → SinkSeen → List ℕ → Type 0
 LacksIt sink sink' text = ¬ (sink'.told ≡ option_map (λ written. written ++ text) sink.told)
 
@@ -95,7 +95,8 @@ pub record IsExact (o : SeenOutcome) : Type 0 where
   pub serves : ServesSite o.call → UnlessFailing o (IsSome o.board ⊎ ((o.status ≡ 4) × IsUnbound o.call o.front o.front'))
   -- 0, 4, 5 and 6 of one that opened
   pub played : IfSome o.scripted (λ s. EndsExactly o (warnings_of s.config) s.board)
-  pub served : IfSome o.board (λ b. (c : Configuration) × EndsExactly o (warnings_of c) b)
+  pub served : IfSome o.board
+      (λ b. (run : HasRunServer o.call o.front o.front' o.clock' o.status b) × EndsExactly o (warnings_of run.config) b)
   -- 4, where none opened: a bind or a dial failed, and the front's count of failed calls rose
   pub unopened : IsNone o.board → o.status ≡ 4 → Rises o.front.counts.faults o.front'.counts.faults
 
