@@ -1,2 +1,7 @@
+pub mod AnsweredLemmas
 pub mod CauseLemmas
+pub mod ExactLemmas
+pub mod LineLemmas
 pub mod MachineLemmas
+pub mod UndisturbedLemmas
+pub mod WayLemmas

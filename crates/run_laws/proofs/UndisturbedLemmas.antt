@@ -1,0 +1,192 @@
+-- What a run answers that nothing disturbs.
+use Rattle.std.proofs.Common.{◌≡◌, ◌≢◌, ◌⊎◌, inl, inr, ℕ, Bool, true, false, List, [], ◌∷◌, ◌++◌, length, map, Option, None, Some, IfSome, IsSome, refl, sym, ap, subst, ◌∙◌}
+use Rattle.std.specs.List.{list_any}
+use Rattle.mpm_base.specs.Count.{Rises}
+use Rattle.mpm_base.specs.Front.{FrontSeen, FrontTold}
+use Rattle.mpm_base.specs.declared.conn.Cause.TheVariants as cause
+use Rattle.mpm_base.specs.declared.script_line.CommandWord.{CommandWord}
+use Rattle.mpm_config.specs.Config.{Configuration}
+use Rattle.mpm_script.specs.Clients.{clients_of, names_of}
+use Rattle.conn_machine.specs.declared.event.Entry.{Entry}
+use Rattle.conn_machine.specs.declared.event.Why.TheVariants as why
+use Rattle.conn_machine.specs.declared.folded.Folded.{Folded}
+use Rattle.conn_machine.specs.declared.state.Going.{Going}
+use Rattle.conn_machine.specs.declared.state.Going.TheVariants.{Halted}
+use Rattle.conn_machine.specs.declared.state.State.{State}
+use Rattle.conn_machine.specs.Folds.{fold_of}
+use Rattle.conn_machine.specs.HistoryLaws.{FoldsAreOneFold, HistoriesJoin, MadeHistoriesAreRuns, RecordsOpenWithNothing}
+use Rattle.conn_machine.specs.Made.{AreMade}
+use Rattle.conn_machine.specs.Runs.{Run, after}
+use Rattle.conn_machine.specs.States.{unused_row}
+use Rattle.conn_state.specs.Answered.{SeenEnded}
+use Rattle.board.specs.Board.{AreClosed, AreEnded, SeenBoard}
+use Rattle.board.specs.BoardLaws.{EndedConnectionsJoin}
+use Rattle.board.specs.ReportLine.{line_of}
+use Rattle.listener.specs.Commands.{DoesLines, HeedsLines, is_graceful_stop}
+use Rattle.listener.specs.FirstNumbers.{folded_by, numbers_of, opened_by}
+use Rattle.listener.specs.Listen.{HasFolded, IsRunFrom}
+use Rattle.listener.specs.Stops.{StoppedFor}
+use Rattle.listener.specs.Tells.{AllReceive}
+use Rattle.listener.specs.declared.run_numbers.RunNumbers.{RunNumbers}
+use Rattle.run_opening.specs.Calls.{StoreFailed}
+use Rattle.run_report.specs.Endings.{EndsAs}
+use Rattle.run_report.proofs.EndingLemmas.{may-end}
+use Rattle.script_run.specs.Played.{HasPlayed, IsLeftOfRun}
+use Rattle.script_run.specs.declared.scripted.Scripted.{Scripted}
+use Rattle.mpm_run.specs.ExitStatuses.{HasRunServer}
+use Rattle.run_laws.specs.Grounds.{SendsBy, TestsFit, WritesSite}
+use Rattle.run_laws.specs.Outcomes.{IsOutcome, SeenOutcome}
+use Rattle.run_laws.specs.Undisturbed.{AreServedWhole, EndsPlayed, EndsServed, IsUndisturbed, IsUndisturbedScript, IsUndisturbedServer}
+use Rattle.run_laws.proofs.AnsweredLemmas.{ItemsWait, all-served}
+use Rattle.run_laws.proofs.CauseLemmas.{none-ended, none-for}
+use Rattle.run_laws.proofs.ExactLemmas.{OneAnswer, plays-opens, sends-well, tests-well}
+use Rattle.run_laws.proofs.LineLemmas.{ended-going, none-begun, not-asked, uncounted}
+use Rattle.run_laws.proofs.MachineLemmas.{NeverEnds, never-ends, stopped-none, unused-linger}
+use Rattle.run_laws.proofs.WayLemmas.{OneForm, holds-of}
+
+-- the laws of histories and of connections that ended
+pub record RunLaws : Type 0 where
+  pub folds : FoldsAreOneFold
+  pub joins : HistoriesJoin
+  pub runs : MadeHistoriesAreRuns
+  pub opens : RecordsOpenWithNothing
+  pub ended : EndedConnectionsJoin
+  pub items : ItemsWait
+
+-- ## All entries of a run
+
+module _ (laws : RunLaws) (n : RunNumbers) (b : SeenBoard) (run : IsRunFrom n b) (f : HasFolded n b.book) where
+  -- passes made them
+  made-all : AreMade (opened_by n) (folded_by n) (f.entries ++ b.book.history)
+  made-all =
+      laws.folds.made n.passes (opened_by n) (folded_by n) f.entries b.book.history (map line_of f.ended) (laws.opens.places n.passes) f.few f.made
+      (subst (λ (s : State). AreMade s (fold_of (opened_by n) f.entries (map line_of f.ended) (folded_by n)) b.book.history) f.base_is
+      (subst (λ (r : Folded). AreMade b.book.base r b.book.history) f.record_is run.made))
+
+  -- they are a run of the table
+  run-all : Run (opened_by n) (f.entries ++ b.book.history)
+  run-all = laws.runs.run (opened_by n) (folded_by n) (f.entries ++ b.book.history) made-all
+
+  -- to its state
+  state-all : after (opened_by n) (f.entries ++ b.book.history) ≡ b.book.state
+  state-all =
+      laws.joins.state (opened_by n) f.entries b.book.history ∙ ap (λ (s : State). after s b.book.history) (sym f.base_is) ∙ run.state
+
+  -- which closes just the connections that ended
+  closed-all : AreClosed (opened_by n) (f.entries ++ b.book.history) (f.ended ++ b.ended)
+  closed-all =
+      laws.ended.closed (opened_by n) f.entries b.book.history f.ended b.ended f.closed
+      (subst (λ (s : State). AreClosed s b.book.history b.ended) f.base_is run.agrees.closed)
+
+  -- where no line asked for a stop it isn't to end
+  never-to-end : list_any (λ (e : Entry). is_graceful_stop e.event) (f.entries ++ b.book.history) ≡ false → NeverEnds b.book.state.going
+  never-to-end none =
+      subst (λ (s : State). NeverEnds s.going) state-all (never-ends (opened_by n) (f.entries ++ b.book.history) run-all none tt)
+
+  -- where nothing disturbed it, and it ended as nothing more could come, each connection was served
+  serves-all : (t : FrontTold) → IsUndisturbed t b (f.ended ++ b.ended) → b.book.state.going ≡ Halted why.FrontEnded
+      → AreServedWhole (f.ended ++ b.ended)
+  serves-all t calm going =
+      let entries = f.entries ++ b.book.history in
+      let ended = f.ended ++ b.ended in
+      let late = calm.none_late in
+      all-served laws.items ended (laws.ended.answered f.ended b.ended f.answered run.agrees.answered)
+      (none-for cause.KeepAliveLate (opened_by n) entries ended (none-ended n b.book f cause.KeepAliveLate late.keep_alive) closed-all)
+      (none-for cause.ReadLate (opened_by n) entries ended (none-ended n b.book f cause.ReadLate late.read) closed-all)
+      (none-for cause.WriteLate (opened_by n) entries ended (none-ended n b.book f cause.WriteLate late.write) closed-all)
+      (none-for cause.Stopped (opened_by n) entries ended
+      (stopped-none (opened_by n) entries run-all (unused-linger n.slots unused_row refl) (ap (λ (s : State). s.going) state-all ∙ going)
+      (λ halted. absurd (cc halted)))
+      closed-all)
+      (none-for cause.NoMemory (opened_by n) entries ended (none-ended n b.book f cause.NoMemory late.memory) closed-all)
+      calm.links
+
+  -- so it ended
+  pub ends-served : (o : SeenOutcome) (t : FrontTold) (warnings : List ℕ) → EndsAs o.call.sink o.call.sink' warnings b o.status
+      → IsUndisturbed t b (f.ended ++ b.ended) → DoesLines b.book.state.going (f.entries ++ b.book.history) t → HeedsLines b.book.state.going t
+      → (b.book.state.going ≡ Halted why.FrontFailed → ⊥) → (Rises o.call.sink.faults o.call.sink'.faults → ⊥) → o.status ≢ 6
+      → EndsServed o b (f.ended ++ b.ended)
+  ends-served o t warnings ends calm does heeds unfailed output memory =
+      let going = b.book.state.going in
+      let none = none-begun going (f.entries ++ b.book.history) t does calm.few calm.lines in
+      let ended = ended-going going o.status ends.may (never-to-end none) (not-asked going t heeds calm.few calm.lines) unfailed memory in
+      record {
+        well =
+            elim (may-end going (Halted why.FrontEnded) o.status ended ends.may) [
+              | inl zero ↦ zero
+              | inr other ↦ elim other [
+                  | inl five ↦ absurd (output (ends.unwritten five).unwritten.failed)
+                  | inr six ↦ absurd (memory six)
+                ]
+            ];
+        going = ended;
+        served = serves-all t calm ended;
+      }
+
+-- ## A script
+
+-- what connections received, those that were folded first
+receive-both : (clients : List (List ℕ)) (a b : List SeenEnded) → AllReceive clients a → AllReceive clients b → AllReceive clients (a ++ b)
+receive-both clients [] b first second = second
+receive-both clients (e ∷ a) b first second = (first.0, receive-both clients a b first.1 second)
+
+pub script-served : RunLaws → (o : SeenOutcome) (s : Scripted) (played : HasPlayed o.call s.config s.board s.front s.store) → IsOutcome o
+    → o.scripted ≡ Some s → IsUndisturbedScript o s played → EndsPlayed o s (played.has_run.folded.ended ++ s.board.ended)
+script-served laws o s played is some calm =
+    let left = holds-of o.scripted s some is.left in
+    let ends = holds-of o.scripted s some is.leaves.ends in
+    let n = numbers_of s.config in
+    let run = ends-served laws n s.board played.has_run.run played.has_run.folded o s.front.told _ ends calm.run played.lines.done left.heeded left.unfailed
+    calm.output calm.memory in
+    record {
+      run = run;
+      taken =
+          played.taken run.going
+          (uncounted is_graceful_stop (played.has_run.folded.entries ++ s.board.book.history)
+          (none-begun s.board.book.state.going (played.has_run.folded.entries ++ s.board.book.history) s.front.told played.lines.done calm.run.few calm.run.lines));
+      receive = receive-both (clients_of s.front.script) played.has_run.folded.ended s.board.ended played.receive_before played.receive;
+    }
+
+-- ## A server
+
+-- one whose front didn't fail didn't stop for that
+failed-rises : (old new : FrontSeen) (s : State) → StoppedFor old new s → s.going ≡ Halted why.FrontFailed → Rises old.counts.faults new.counts.faults
+failed-rises old new s (inl ended) going = absurd (cc (ended.going, going))
+failed-rises old new s (inr (inl asked)) going = absurd (cc (asked.going, going))
+failed-rises old new s (inr (inr (inl failed))) going = failed.failed
+failed-rises old new s (inr (inr (inr (inl no_memory)))) going = absurd (cc (no_memory, going))
+failed-rises old new s (inr (inr (inr (inr (inl ending))))) going = absurd (cc (ending.1, going))
+failed-rises old new s (inr (inr (inr (inr (inr overdue))))) going = absurd (cc (overdue, going))
+
+pub server-served : RunLaws → (o : SeenOutcome) (t : FrontTold) (b : SeenBoard) (run : HasRunServer o.call o.front o.front' o.clock' o.status b)
+    → o.front'.told ≡ Some t → IsUndisturbedServer o t b run → EndsServed o b (run.has_run.folded.ended ++ b.ended)
+server-served laws o t b run tells calm =
+    let front = holds-of o.front'.told t tells run.outside.front in
+    let lines = holds-of o.front'.told t tells run.lines in
+    ends-served laws (numbers_of run.config) b run.has_run.run run.has_run.folded o t _ run.ends calm.run lines.done front.heeded
+    (λ going. calm.front (failed-rises o.front o.front' b.book.state run.outside.stopped going)) calm.output calm.memory
+
+-- ## The other forms
+
+pub opens-played : OneForm → OneAnswer → (o : SeenOutcome) → IsOutcome o → WritesSite o.call → (StoreFailed o.call → ⊥) → o.status ≢ 6 → IsSome o.scripted
+opens-played one answer o is writes stays memory =
+    elim (plays-opens one answer o is writes) [
+      | inl some ↦ some
+      | inr other ↦ elim other [ inl six ↦ absurd (memory six) | inr failed ↦ absurd (stays failed.1) ]
+    ]
+
+pub tests-served : OneForm → OneAnswer → (o : SeenOutcome) (c : Configuration) → IsOutcome o → TestsFit o.call c → (StoreFailed o.call → ⊥)
+    → (Rises o.call.sink.faults o.call.sink'.faults → ⊥) → o.status ≢ 6 → o.status ≡ 0
+tests-served one answer o c is fit stays output memory =
+    elim (tests-well one answer o is c fit (inl output)) [
+      | inl zero ↦ zero.0
+      | inr other ↦ elim other [ inl six ↦ absurd (memory six) | inr failed ↦ absurd (stays failed.1) ]
+    ]
+
+pub sends-served : OneForm → OneAnswer → (o : SeenOutcome) (word : CommandWord) (c : Configuration) (port : ℕ) → IsOutcome o → SendsBy o.call word c
+    → c.control ≡ Some port → (StoreFailed o.call → ⊥) → (Rises o.front.counts.faults o.front'.counts.faults → ⊥) → o.status ≢ 6 → o.status ≡ 0
+sends-served one answer o word c port is by control stays front memory =
+    elim (sends-well one answer o is word c port by control front) [
+      | inl zero ↦ zero.0
+      | inr other ↦ elim other [ inl six ↦ absurd (memory six) | inr failed ↦ absurd (stays failed.1) ]
+    ]
