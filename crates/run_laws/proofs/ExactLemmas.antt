@@ -1,166 +1,32 @@
--- That each exit status comes where its cause is.
-use Rattle.std.proofs.Common.{◌≡◌, ◌⊎◌, inl, inr, ℕ, ◌+◌, ◌<◌, ◌≤◌, ◌++◌, Bool, true, false, List, [], ◌∷◌, length, length-append, Option, None, Some, IfSome, IsNone, IsSome, IsSomeAnd, Result, Ok, Err, option_map, is_some, refl, sym, ap, subst, ◌∙◌, arith}
-use Rattle.std.proofs.lemmas.Bool.{both_ways, cases_Bool}
+-- That each exit status comes where its cause is, by what the words ask for.
+use Rattle.std.proofs.Common.{◌≡◌, ◌⊎◌, inl, inr, ℕ, ◌<◌, ◌≤◌, ◌++◌, List, length, None, Some, IsSome, Ok, Err, option_map, is_some, sym, ap, subst, ◌∙◌, arith}
 use Rattle.mpm_base.specs.Count.{Rises}
-use Rattle.mpm_base.specs.Front.{Binds, Dials, DialTold, FrontSeen, FrontTold, after_bind, after_dial}
-use Rattle.mpm_base.specs.declared.addr.Addr.{Addr}
-use Rattle.mpm_base.specs.Sink.{SinkSeen}
 use Rattle.mpm_base.specs.Store.{StoreTold, bytes_of}
 use Rattle.mpm_base.specs.declared.script_line.CommandWord.{CommandWord}
 use Rattle.mpm_base.specs.declared.script_line.ScriptLine.{ScriptLine}
 use Rattle.mpm_config.specs.Config.{Configuration}
-use Rattle.mpm_config.specs.Reading.{ConfigAndWarnings, config_of}
-use Rattle.mpm_config.specs.declared.fault.ConfFault.{ConfFault}
-use Rattle.mpm_config.specs.declared.fault.ConfFault.TheVariants as conf
-use Rattle.mpm_script.specs.Script.{IsSureAnswer, ScriptIs}
-use Rattle.mpm_script.specs.declared.script.ScriptFault.{ScriptFault}
+use Rattle.mpm_script.specs.Script.{ScriptIs}
 use Rattle.restart_control.specs.Reload.{most_config, order_of}
 use Rattle.file_table.specs.Load.{IsWithinLimits}
 use Rattle.file_table.specs.Site.{IsSiteOf, SeenSite}
-use Rattle.command_words.specs.Invocations.{AreOfForm, Form, NamesConfig, loads, plays, sends, serves, tests}
-use Rattle.conn_machine.specs.declared.event.Why.TheVariants as why
-use Rattle.conn_machine.specs.declared.state.Going.{Going}
-use Rattle.conn_machine.specs.declared.state.Going.TheVariants.{Ending, Halted, Serving}
-use Rattle.board.specs.Board.{SeenBoard}
-use Rattle.run_opening.specs.Calls.{Call, HadConfigAccepted, HasConfigAccepted, HasFile, IsFileUnread, IsRefusedAsLarge, LoadsSite, StoreFailed}
-use Rattle.run_opening.specs.Configured.{Configures, IsNoConfig, IsRefused, IsTooLong, config_fault, warnings_of, with_notices}
+use Rattle.command_words.specs.Invocations.{NamesConfig, loads, plays, sends, serves, tests}
+use Rattle.run_opening.specs.Calls.{HadConfigAccepted, LoadsSite, StoreFailed}
+use Rattle.run_opening.specs.Configured.{Configures, IsNoConfig, IsRefused, warnings_of}
 use Rattle.run_opening.specs.Sites.{IsSiteRefusedOf}
-use Rattle.run_report.specs.Endings.{EndsAs, IsGoodEnd, MayEndWith, run_text}
 use Rattle.run_report.specs.Texts.{syntax_ok}
 use Rattle.run_report.specs.Written.{LeavesUnwritten}
 use Rattle.run_report.specs.declared.texts.ConfigRefusal.{ConfigRefusal}
-use Rattle.run_report.specs.declared.texts.ConfigRefusal.TheVariants.{BadSection, BadValue, NotText, TooDeep, Unclosed, UnknownDirective}
 use Rattle.run_report.specs.declared.texts.ScriptRefusal.{ScriptRefusal}
-use Rattle.run_report.specs.declared.texts.ScriptRefusal.TheVariants.{BadLine, MomentBackwards, UnknownName}
-use Rattle.run_report.proofs.EndingLemmas.{may-end}
 use Rattle.script_run.specs.Played.{HasPlayed}
 use Rattle.script_run.specs.ScriptRefusals.{fault_at}
 use Rattle.script_run.specs.Scripts.{HasConfig, HasScriptSite, IsSiteRefused, most_script}
 use Rattle.script_run.specs.declared.scripted.Scripted.{Scripted}
-use Rattle.mpm_run.specs.ExitStatuses.{EndsFrontFault, FailsFront, HasDialled, HasRunServer, IsUnbound, LeavesFront}
-use Rattle.run_laws.specs.Exact.{EndsExactly, EndsShowing, EndsWith, HasWritten, LacksIt, UnlessFailing}
-use Rattle.run_laws.specs.Grounds.{AsksLines, HasFitScript, HasLargeScript, HasNoConfig, HasNoSite, HasUnfitConfig, HasUnfitScript, LacksNamed, SendsBy, ServesBy, ServesSite, TellsFile, TestsFit, WritesConfig, WritesSite}
+use Rattle.mpm_run.specs.ExitStatuses.{IsUnbound}
+use Rattle.run_laws.specs.Exact.{EndsShowing, HasWritten, LacksIt, UnlessFailing}
+use Rattle.run_laws.specs.Grounds.{AsksLines, HasFitScript, HasLargeScript, HasNoConfig, HasNoSite, HasUnfitScript, LacksNamed, SendsBy, ServesBy, ServesSite, TellsFile, TestsFit, WritesConfig, WritesSite}
 use Rattle.run_laws.specs.Outcomes.{IsOutcome, SeenOutcome}
-use Rattle.run_laws.proofs.WayLemmas.{ConfigWays, LoadWays, OneForm, PlayWays, ScriptWays, SendWays, ServeWays, TestWays, config_large, config_unfit, config_unread, ended-as, holds-of, loads_on, misconfigured, play_unsited, played, plays_on, script_large, script_unfit, script_unread, send_unconfigured, sent, serve_unconfigured, serve_unsited, served, some-of, test_unconfigured, test_unwritten, tested, unbound, uncontrolled, undialled, unloaded}
-
--- ## Files
-
--- a file of a store that tells its files has the bytes that it was read with
-pub same-bytes : (call : Call) (name bytes other : List ℕ) (t : StoreTold) → call.store.told ≡ Some t → bytes_of name t.files ≡ Some bytes
-    → IfSome call.store.told (λ t. bytes_of name t.files ≡ Some other) → other ≡ bytes
-same-bytes call name bytes other t told found file = let there = holds-of call.store.told t told file in cc (there, found)
-
--- one that is missing has none
-missing-file : (call : Call) (name other : List ℕ) (t : StoreTold) → call.store.told ≡ Some t → bytes_of name t.files ≡ None
-    → IfSome call.store.told (λ t. bytes_of name t.files ≡ Some other) → ⊥
-missing-file call name other t told none file = let there = holds-of call.store.told t told file in cc (there, none)
-
--- one that is there couldn't be read as a call of the store failed
-unread-fails : (call : Call) (name bytes : List ℕ) → TellsFile call name bytes → IsFileUnread call name → StoreFailed call
-unread-fails call name bytes file unread =
-    elim unread.cause [
-      | inl missing ↦ let none = holds-of call.store.told file.t file.told missing.1.none in absurd (cc (none, file.found))
-      | inr failed ↦ failed.1
-    ]
-
--- one that is refused for its size is too large
-large-file : (most : ℕ) (call : Call) (name bytes : List ℕ) → TellsFile call name bytes → IsRefusedAsLarge most call name → most < length bytes
-large-file most call name bytes file refused =
-    let large = holds-of call.store.told file.t file.told refused.large in
-    let same : large.0 ≡ bytes = cc (large.1, file.found) in
-    subst (λ (bs : List ℕ). most < length bs) same large.2
-
--- ## Configurations
-
--- the line or the place of a fault
-abbrev number_in : ConfFault → ℕ
-number_in (conf.NotText n) = n
-number_in (conf.UnknownDirective n) = n
-number_in (conf.BadValue n) = n
-number_in (conf.BadSection n) = n
-number_in (conf.Unclosed n) = n
-number_in (conf.TooDeep n) = n
-number_in conf.NoMemory = 0
-
-number-of : (why : ConfigRefusal) (n : ℕ) → number_in (config_fault why n) ≡ n
-number-of NotText n = refl
-number-of UnknownDirective n = refl
-number-of BadValue n = refl
-number-of BadSection n = refl
-number-of Unclosed n = refl
-number-of TooDeep n = refl
-
--- a text is refused at one number
-one-number : (text : List ℕ) (why why' : ConfigRefusal) (n n' : ℕ) → IsNoConfig text why n → IsNoConfig text why' n' → n' ≡ n
-one-number text why why' n n' (inl long) (inl long') = long'.number_is ∙ sym long.number_is
-one-number text why why' n n' (inl long) (inr refused) = absurd (omega (arith, long.many, refused.few))
-one-number text why why' n n' (inr refused) (inl long) = absurd (omega (arith, long.many, refused.few))
-one-number text why why' n n' (inr refused) (inr refused') =
-    let same : config_fault why' n' ≡ config_fault why n = cc (refused.refused, refused'.refused) in
-    sym (number-of why' n') ∙ ap number_in same ∙ number-of why n
-
--- and not where it is accepted
-refused-accepted : (text : List ℕ) (why : ConfigRefusal) (n : ℕ) (c : Configuration) → IsNoConfig text why n → Configures text c → ⊥
-refused-accepted text why n c (inl long) accepted = absurd (omega (arith, long.many, accepted.few))
-refused-accepted text why n c (inr refused) accepted = cc (refused.refused, accepted.accepted)
-
--- it is accepted as one configuration
-pub one-config : (text : List ℕ) (c c' : Configuration) → Configures text c → Configures text c' → c' ≡ c
-one-config text c c' accepted accepted' =
-    let same : with_notices c' ≡ with_notices c = cc (accepted.accepted, accepted'.accepted) in
-    ap (λ (read : ConfigAndWarnings). read.config) same
-
--- a configuration that was accepted before the call was accepted
-pub had-accepted : (call : Call) (name : List ℕ) (c : Configuration) → HasConfigAccepted call name c → HadConfigAccepted call name c
-had-accepted call name c accepted = record { bytes = accepted.bytes; file = accepted.has.file; accepted = accepted.accepted }
-
--- it is that of the file
-pub had-config : (call : Call) (name bytes : List ℕ) (c c' : Configuration) → TellsFile call name bytes → Configures bytes c
-    → HadConfigAccepted call name c' → c' ≡ c
-had-config call name bytes c c' file accepted had =
-    let same = same-bytes call name bytes had.bytes file.t file.told file.found had.file in
-    one-config bytes c c' accepted (subst (λ (bs : List ℕ). Configures bs c') same had.accepted)
-
--- ## Scripts
-
--- the law: bytes have one answer
-abbrev pub OneAnswer : Type 0
-OneAnswer =
-    (bytes : List ℕ) (answer other : Result (List ScriptLine) ScriptFault) → ScriptIs bytes answer → ScriptIs bytes other → IsSureAnswer answer
-    → IsSureAnswer other → answer ≡ other
-
-sure-fault : (why : ScriptRefusal) (line : ℕ) → IsSureAnswer (Err (fault_at why line))
-sure-fault BadLine line = tt
-sure-fault MomentBackwards line = tt
-sure-fault UnknownName line = tt
-
--- the line of a refusal
-same-line : (why why' : ScriptRefusal) (line line' : ℕ) → fault_at why line ≡ fault_at why' line' → line ≡ line'
-same-line BadLine BadLine line line' same = cc same
-same-line BadLine MomentBackwards line line' same = absurd (cc same)
-same-line BadLine UnknownName line line' same = absurd (cc same)
-same-line MomentBackwards BadLine line line' same = absurd (cc same)
-same-line MomentBackwards MomentBackwards line line' same = cc same
-same-line MomentBackwards UnknownName line line' same = absurd (cc same)
-same-line UnknownName BadLine line line' same = absurd (cc same)
-same-line UnknownName MomentBackwards line line' same = absurd (cc same)
-same-line UnknownName UnknownName line line' same = cc same
-
--- ## Texts
-
--- the output that tells the text lacks nothing of it
-whole-lacks : (o q : Option (List ℕ)) (text : List ℕ) → IsSomeAnd o (λ written. q ≡ Some (written ++ text))
-    → IfSome o (λ written. IsSomeAnd q (λ written'. length written' < length written + length text)) → ⊥
-whole-lacks None q text tells lacks = tells
-whole-lacks (Some w) q text tells lacks =
-    let short : length (w ++ text) < length w + length text =
-    subst (λ (x : Option (List ℕ)). IsSomeAnd x (λ written'. length written' < length w + length text)) tells lacks in
-    absurd (omega (arith, short, length-append w text))
-
--- what was written was not left unwritten
-pub written-whole : (sink sink' : SinkSeen) (text : List ℕ) → HasWritten sink sink' text → LeavesUnwritten sink sink' text → ⊥
-written-whole sink sink' text (inl never) unwritten = never unwritten.failed
-written-whole sink sink' text (inr tells) unwritten = whole-lacks sink.told sink'.told text tells unwritten.lacks
+use Rattle.run_laws.proofs.WayLemmas.{ConfigWays, LoadWays, OneForm, PlayWays, ScriptWays, SendWays, ServeWays, TestWays, config_large, config_unfit, config_unread, ended-as, holds-of, loads_on, misconfigured, play_unsited, played, plays_on, script_large, script_unfit, script_unread, send_unconfigured, sent, serve_unconfigured, serve_unsited, served, test_unconfigured, test_unwritten, tested, unbound, uncontrolled, undialled, unloaded}
+use Rattle.run_laws.proofs.FileLemmas.{OneAnswer, had-accepted, had-config, large-file, missing-file, one-config, one-number, refused-accepted, same-bytes, same-line, sure-fault, unread-fails, written-whole}
 
 -- ## A configuration that the words name
 
@@ -521,143 +387,3 @@ module _ (one : OneForm) (answer : OneAnswer) (o : SeenOutcome) (is : IsOutcome 
       → (Rises o.front.counts.faults o.front'.counts.faults → ⊥) → EndsShowing o 0 None
   sends-well word c port by control still =
       elim (ended-as one o is (sends word by.name) by.command) [ inl way ↦ sent-by word c port by control still way | inr six ↦ inr (inl six) ]
-
--- ## Dials that a front tells
-
--- the last one of two lists that are one
-last-same : {X : Type 0} (xs : List X) (x y : X) → xs ++ x ∷ [] ≡ xs ++ y ∷ [] → x ≡ y
-last-same [] x y same = cc same
-last-same (z ∷ xs) x y same = let rest : xs ++ x ∷ [] ≡ xs ++ y ∷ [] = cc same in last-same xs x y rest
-
--- a list isn't longer than it is
-never-more : {X : Type 0} (xs : List X) (x : X) → xs ≡ xs ++ x ∷ [] → ⊥
-never-more xs x same = let lengths = ap length same in omega (arith, lengths, length-append xs (x ∷ []))
-
--- a front that tells is another one behind a dial
-dialled-on : (f f' : FrontSeen) (t : FrontTold) (port : ℕ) (word : List ℕ) (answer : Bool) → f.told ≡ Some t → Dials f f' port word answer
-    → f'.told ≡ f.told → ⊥
-dialled-on f f' t port word answer tells dials same =
-    let is : Some t ≡ Some (after_dial port word answer t) =
-    sym tells ∙ sym same ∙ dials.told_is ∙ ap (option_map (after_dial port word answer)) tells in
-    let grown : t ≡ after_dial port word answer t = cc is in
-    never-more t.dialled (record { port = port; word = word; answer = answer }) (ap (λ (x : FrontTold). x.dialled) grown)
-
--- it tells one answer of the dial
-dialled-once : (f f' : FrontSeen) (t : FrontTold) (port port' : ℕ) (word word' : List ℕ) (answer answer' : Bool) → f.told ≡ Some t
-    → Dials f f' port word answer → Dials f f' port' word' answer' → answer ≡ answer'
-dialled-once f f' t port port' word word' answer answer' tells dials dials' =
-    let is : Some (after_dial port word answer t) ≡ Some (after_dial port' word' answer' t) =
-    ap (option_map (after_dial port word answer)) (sym tells) ∙ sym dials.told_is ∙ dials'.told_is ∙ ap (option_map (after_dial port' word' answer')) tells in
-    let grown : after_dial port word answer t ≡ after_dial port' word' answer' t = cc is in
-    let last = last-same t.dialled (record { port = port; word = word; answer = answer }) (record { port = port'; word = word'; answer = answer' })
-    (ap (λ (x : FrontTold). x.dialled) grown) in
-    ap (λ (d : DialTold). d.answer) last
-
-unbound-same : (told : Option FrontTold) (listen : Addr) (control : Option ℕ) → option_map (after_bind false listen control) told ≡ told
-unbound-same None listen control = refl
-unbound-same (Some t) listen control = refl
-
--- a bind that failed leaves what a front tells
-still-told : (f f' : FrontSeen) (c : Configuration) → Binds f f' c.listen c.control false → f'.told ≡ f.told
-still-told f f' c binds = binds.told_is ∙ unbound-same f.told c.listen c.control
-
--- what became of a front that tells, where it dialled
-module _ (one : OneForm) (o : SeenOutcome) (is : IsOutcome o) (answer : Bool) (d : HasDialled o.call o.front o.front' answer) (tells : IsSome o.front.told) where
-  -- no server ran
-  no-server : is_some o.board ≡ true → ⊥
-  no-server some =
-      let b = some-of o.board some in
-      let run = holds-of o.board b.0 b.1 is.leaves.server in
-      let same = one o.call.words (sends d.word d.sends.name) (serves run.name) d.sends.command run.command in cc same
-
-  left-front : LeavesFront o.call o.front o.front' o.status
-  left-front = elim (cases_Bool (is_some o.board)) [ inl some ↦ absurd (no-server some) | inr none ↦ (is.leaves.unopened none).front ]
-
-  -- so it was dialled as its exit status says
-  dialled-ends : LeavesFront o.call o.front o.front' o.status
-      → ((o.status ≡ 0) × (answer ≡ true)) ⊎ (((o.status ≡ 4) ⊎ (o.status ≡ 6)) × (answer ≡ false))
-  dialled-ends (inl same) =
-      let t = some-of o.front.told tells in
-      absurd (dialled-on o.front o.front' t.0 d.port _ answer t.1 d.dials (ap (λ (f : FrontSeen). f.told) same))
-  dialled-ends (inr (inl well)) =
-      let t = some-of o.front.told tells in
-      inl (well.0, dialled-once o.front o.front' t.0 d.port well.1.port _ _ answer true t.1 d.dials well.1.dials)
-  dialled-ends (inr (inr fails)) =
-      let t = some-of o.front.told tells in
-      elim fails.failed [
-        | inl unbound ↦ absurd (dialled-on o.front o.front' t.0 d.port _ answer t.1 d.dials (still-told o.front o.front' unbound.config unbound.binds))
-        | inr dialled ↦ inr (fails.status_is, dialled-once o.front o.front' t.0 d.port dialled.port _ _ answer false t.1 d.dials dialled.dials)
-      ]
-
-pub sent-well : OneForm → (o : SeenOutcome) → IsOutcome o → HasDialled o.call o.front o.front' true → IsSome o.front.told → EndsWith o 0
-sent-well one o is d tells =
-    elim (dialled-ends one o is true d tells (left-front one o is true d tells)) [ inl well ↦ inl well.0 | inr failed ↦ absurd (cc failed.1) ]
-
-pub undialled-fails : OneForm → (o : SeenOutcome) → IsOutcome o → HasDialled o.call o.front o.front' false → IsSome o.front.told → EndsWith o 4
-undialled-fails one o is d tells =
-    elim (dialled-ends one o is false d tells (left-front one o is false d tells)) [ inl well ↦ absurd (cc well.1) | inr failed ↦ failed.0 ]
-
--- where none opened a bind or a dial failed
-pub unopened-fails : (o : SeenOutcome) → IsOutcome o → IsNone o.board → o.status ≡ 4 → Rises o.front.counts.faults o.front'.counts.faults
-unopened-fails o is none four =
-    elim (is.causes.front_failed four) [
-      | inl some ↦ absurd (both_ways (is_some o.board) none some)
-      | inr other ↦ elim other [ inl unbound ↦ unbound.unbound.binds.faults | inr undialled ↦ undialled.dialled.dials.faults ]
-    ]
-
--- ## A run that opened
-
--- the exit statuses of a good end
-good-status : (going : Going) (status : ℕ) → IsGoodEnd going → MayEndWith going status → (status ≡ 0) ⊎ (status ≡ 5) ⊎ (status ≡ 6)
-good-status going status (inl ended) may = may-end going _ status ended may
-good-status going status (inr (inl asked)) may = may-end going _ status asked may
-good-status going status (inr (inr (inl ending))) may = may-end going _ status ending.1 may
-good-status going status (inr (inr (inr overdue))) may = may-end going _ status overdue may
-
--- those of each end
-any-status : (going : Going) (status : ℕ) → MayEndWith going status → (status ≡ 0) ⊎ (status ≡ 4) ⊎ (status ≡ 5) ⊎ (status ≡ 6)
-any-status Serving status may = absurd may
-any-status (Ending until) status may = elim may [ inl zero ↦ inl zero | inr other ↦ inr (inr other) ]
-any-status (Halted why.Asked) status may = elim may [ inl zero ↦ inl zero | inr other ↦ inr (inr other) ]
-any-status (Halted why.Overdue) status may = elim may [ inl zero ↦ inl zero | inr other ↦ inr (inr other) ]
-any-status (Halted why.FrontEnded) status may = elim may [ inl zero ↦ inl zero | inr other ↦ inr (inr other) ]
-any-status (Halted why.FrontFailed) status may = elim may [ inl four ↦ inr (inl four) | inr six ↦ inr (inr (inr six)) ]
-any-status (Halted why.NoMemory) status may = inr (inr (inr may))
-
-pub ends-exactly : (o : SeenOutcome) (warnings : List ℕ) (b : SeenBoard) → EndsAs o.call.sink o.call.sink' warnings b o.status → EndsExactly o warnings b
-ends-exactly o warnings b ends = record {
-  well = λ zero. ((ends.well zero).going, (ends.well zero).report);
-  unwritten = λ five. ((ends.unwritten five).going, (ends.unwritten five).unwritten);
-  failed = λ four. (ends.failed four).going;
-  comes_well =
-      λ good written. elim (good-status b.book.state.going o.status good ends.may) [
-        | inl zero ↦ inl zero
-        | inr other ↦ elim other [
-            | inl five ↦ absurd (written-whole o.call.sink o.call.sink' (run_text warnings b) written (ends.unwritten five).unwritten)
-            | inr six ↦ inr six
-          ]
-      ];
-  comes_unwritten =
-      λ good lacks. elim (good-status b.book.state.going o.status good ends.may) [
-        | inl zero ↦ absurd (lacks (ends.well zero).report)
-        | inr other ↦ other
-      ];
-  comes_failed = λ failed. may-end b.book.state.going _ o.status failed ends.may;
-  comes_lacking = λ lacks. may-end b.book.state.going _ o.status lacks ends.may;
-  no_other = any-status b.book.state.going o.status ends.may;
-}
-
--- what holds of the value of an option that may have one
-from-some : {X : Type 0} {P : X → Type 0} (o : Option X) → ((x : X) → o ≡ Some x → P x) → IfSome o P
-from-some None holds = tt
-from-some (Some x) holds = holds x refl
-
-pub played-exactly : (o : SeenOutcome) → IsOutcome o → IfSome o.scripted (λ s. EndsExactly o (warnings_of s.config) s.board)
-played-exactly o is =
-    from-some o.scripted (λ s some. ends-exactly o (warnings_of s.config) s.board (holds-of o.scripted s some is.leaves.ends))
-
-pub served-exactly : (o : SeenOutcome) → IsOutcome o
-    → IfSome o.board (λ b. (run : HasRunServer o.call o.front o.front' o.clock' o.status b) × EndsExactly o (warnings_of run.config) b)
-served-exactly o is =
-    from-some o.board
-    (λ b some. let run = holds-of o.board b some is.leaves.server in (run, ends-exactly o (warnings_of run.config) b run.ends))

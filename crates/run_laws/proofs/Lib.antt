@@ -1,7 +1,10 @@
 pub mod AnsweredLemmas
 pub mod CauseLemmas
+pub mod DialLemmas
 pub mod ExactLemmas
+pub mod FileLemmas
 pub mod LineLemmas
 pub mod MachineLemmas
+pub mod OpenedLemmas
 pub mod UndisturbedLemmas
 pub mod WayLemmas

@@ -39,7 +39,8 @@ use Rattle.run_laws.specs.Outcomes.{IsOutcome, SeenOutcome}
 use Rattle.run_laws.specs.Undisturbed.{AreServedWhole, EndsPlayed, EndsServed, IsUndisturbed, IsUndisturbedScript, IsUndisturbedServer}
 use Rattle.run_laws.proofs.AnsweredLemmas.{ItemsWait, all-served}
 use Rattle.run_laws.proofs.CauseLemmas.{none-ended, none-for}
-use Rattle.run_laws.proofs.ExactLemmas.{OneAnswer, plays-opens, sends-well, tests-well}
+use Rattle.run_laws.proofs.ExactLemmas.{plays-opens, sends-well, tests-well}
+use Rattle.run_laws.proofs.FileLemmas.{OneAnswer}
 use Rattle.run_laws.proofs.LineLemmas.{ended-going, none-begun, not-asked, uncounted}
 use Rattle.run_laws.proofs.MachineLemmas.{NeverEnds, never-ends, stopped-none, unused-linger}
 use Rattle.run_laws.proofs.WayLemmas.{OneForm, holds-of}

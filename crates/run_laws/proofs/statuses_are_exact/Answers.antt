@@ -1,4 +1,6 @@
-use Rattle.run_laws.proofs.ExactLemmas.{config-ends, large-script-ends, missing-ends, played-exactly, plays-opens, sent-well, served-exactly, serves-opens, site-ends, tests-unwritten, tests-well, uncontrolled-ends, undialled-fails, unfit-script-ends, unopened-fails}
+use Rattle.run_laws.proofs.DialLemmas.{sent-well, undialled-fails, unopened-fails}
+use Rattle.run_laws.proofs.ExactLemmas.{config-ends, large-script-ends, missing-ends, plays-opens, serves-opens, site-ends, tests-unwritten, tests-well, uncontrolled-ends, unfit-script-ends}
+use Rattle.run_laws.proofs.OpenedLemmas.{played-exactly, served-exactly}
 use Rattle.run_laws.proofs.WayLemmas.{ended-unknown}
 use Rattle.run_laws.proofs.statuses_are_exact.Goals as goal
 
