@@ -159,6 +159,7 @@ pub all-served : ItemsWait → (ended : List SeenEnded) → AreEnded ended → E
     → Each (λ e. e.cause ≡ cause.ReadLate → ⊥) ended → Each (λ e. e.cause ≡ cause.WriteLate → ⊥) ended
     → Each (λ e. e.cause ≡ cause.Stopped → ⊥) ended → Each (λ e. e.cause ≡ cause.NoMemory → ⊥) ended → NoneFailed ended → AreServedWhole ended
 all-served law [] are keep read write stopped memory none = tt
-all-served law (e ∷ ended) are keep read write stopped memory none =
-    (served-whole law e are.0 (served-cause e.cause keep.0 read.0 write.0 (unfailed e are.0 none.0) stopped.0 memory.0),
-      all-served law ended are.1 keep.1 read.1 write.1 stopped.1 memory.1 none.1)
+all-served law (e ∷ ended) are keep read write stopped memory none = (
+  served-whole law e are.0 (served-cause e.cause keep.0 read.0 write.0 (unfailed e are.0 none.0) stopped.0 memory.0),
+  all-served law ended are.1 keep.1 read.1 write.1 stopped.1 memory.1 none.1,
+)

@@ -101,13 +101,13 @@ module _ (one : OneForm) (answer : OneAnswer) (o : SeenOutcome) (is : IsOutcome 
   missing-ends lacks =
       elim lacks.command [
         | inl script ↦ elim (ended-as one o is (plays lacks.name) script) [
-            | inl way ↦ missing-script lacks.name lacks.t lacks.told lacks.none way
-            | inr six ↦ inr (inl six)
-          ]
+          | inl way ↦ missing-script lacks.name lacks.t lacks.told lacks.none way
+          | inr six ↦ inr (inl six)
+        ]
         | inr config ↦ elim (named-ways lacks.name config) [
-            | inl way ↦ missing-config lacks.name lacks.t lacks.told lacks.none way
-            | inr six ↦ inr (inl six)
-          ]
+          | inl way ↦ missing-config lacks.name lacks.t lacks.told lacks.none way
+          | inr six ↦ inr (inl six)
+        ]
       ]
 
   -- ## 8
@@ -251,9 +251,15 @@ module _ (one : OneForm) (answer : OneAnswer) (o : SeenOutcome) (is : IsOutcome 
       inl (nine, shows, (name, subst (λ (x : Configuration). IsSiteRefused lines x name) config unsited))
   written-config lines c writes (played s some kept script) =
       let config = one-config writes.text c s.config writes.accepted (played-config lines writes.text s writes.text_is kept script) in
-      inr (s, some, (kept.site,
-        subst (λ (x : Configuration). HasScriptSite lines x kept.site) config
-        (subst (λ (ls : List ScriptLine). HasScriptSite ls s.config kept.site) script kept.site_is)))
+      inr (
+        s,
+        some,
+        (
+          kept.site,
+          subst (λ (x : Configuration). HasScriptSite lines x kept.site) config
+              (subst (λ (ls : List ScriptLine). HasScriptSite ls s.config kept.site) script kept.site_is),
+        ),
+      )
 
   -- what a server came to whose configuration is accepted
   by-file : (c : Configuration) (t : StoreTold) (by : ServesBy o.call c t) → TellsFile o.call by.name by.bytes
@@ -264,11 +270,12 @@ module _ (one : OneForm) (answer : OneAnswer) (o : SeenOutcome) (is : IsOutcome 
 
   by-site : (c : Configuration) (t : StoreTold) (by : ServesBy o.call c t) (c' : Configuration) (site : SeenSite) → HadConfigAccepted o.call by.name c'
       → LoadsSite o.call c' site → (site : SeenSite) × IsSiteOf (order_of c) t.files site × IsWithinLimits site
-  by-site c t by c' site had loads =
-      (site,
-        subst (λ (x : Configuration). IsSiteOf (order_of x) t.files site) (by-config c t by c' had)
+  by-site c t by c' site had loads = (
+    site,
+    subst (λ (x : Configuration). IsSiteOf (order_of x) t.files site) (by-config c t by c' had)
         (holds-of o.call.store.told t by.told loads.is_site),
-        loads.within)
+    loads.within,
+  )
 
   served-config : (c : Configuration) (t : StoreTold) (by : ServesBy o.call c t) → ServeWays o by.name
       → ((o.status ≡ 3) × StoreFailed o.call)
@@ -278,9 +285,15 @@ module _ (one : OneForm) (answer : OneAnswer) (o : SeenOutcome) (is : IsOutcome 
   served-config c t by (serve_unconfigured way) = inl (config-fails o by.name by.bytes c (by-file c t by) by.accepted way)
   served-config c t by (unloaded three c' accepted failed) = inl (three, failed)
   served-config c t by (serve_unsited nine c' name accepted refused shows) =
-      inr (inl (nine, shows, (name,
-        subst (λ (x : Configuration). IsSiteRefusedOf t.files x name) (by-config c t by c' (had-accepted o.call by.name c' accepted))
-        (holds-of o.call.store.told t by.told refused.lacks))))
+      inr (inl (
+        nine,
+        shows,
+        (
+          name,
+          subst (λ (x : Configuration). IsSiteRefusedOf t.files x name) (by-config c t by c' (had-accepted o.call by.name c' accepted))
+              (holds-of o.call.store.told t by.told refused.lacks),
+        ),
+      ))
   served-config c t by (unbound four c' site accepted loads front) =
       inr (inr (inr (four, front), by-site c t by c' site (had-accepted o.call by.name c' accepted) loads))
   served-config c t by (served b c' site some had loads) =
@@ -290,20 +303,20 @@ module _ (one : OneForm) (answer : OneAnswer) (o : SeenOutcome) (is : IsOutcome 
   site-ends (inl writes) =
       elim (asked-ways writes.lines writes.writes.asks) [
         | inl play ↦ elim (written-config writes.lines writes.config writes.writes play) [
-            | inl unsited ↦ inl (unsited.0, unsited.1)
-            | inr opened ↦ absurd (writes.none opened.2.0 opened.2.1)
-          ]
+          | inl unsited ↦ inl (unsited.0, unsited.1)
+          | inr opened ↦ absurd (writes.none opened.2.0 opened.2.1)
+        ]
         | inr other ↦ inr other
       ]
   site-ends (inr by) =
       elim (ended-as one o is (serves by.serves.name) by.serves.command) [
         | inl way ↦ elim (served-config by.config by.t by.serves way) [
-            | inl failed ↦ inr (inr failed)
-            | inr other ↦ elim other [
-                | inl unsited ↦ inl (unsited.0, unsited.1)
-                | inr opened ↦ absurd (by.none opened.1.0 opened.1.1 opened.1.2)
-              ]
+          | inl failed ↦ inr (inr failed)
+          | inr other ↦ elim other [
+            | inl unsited ↦ inl (unsited.0, unsited.1)
+            | inr opened ↦ absurd (by.none opened.1.0 opened.1.1 opened.1.2)
           ]
+        ]
         | inr six ↦ inr (inl six)
       ]
 
@@ -313,9 +326,9 @@ module _ (one : OneForm) (answer : OneAnswer) (o : SeenOutcome) (is : IsOutcome 
   plays-opens writes =
       elim (asked-ways writes.lines writes.writes.asks) [
         | inl play ↦ elim (written-config writes.lines writes.config writes.writes play) [
-            | inl unsited ↦ absurd (writes.fits unsited.2.0 unsited.2.1)
-            | inr opened ↦ inl (ap is_some opened.1)
-          ]
+          | inl unsited ↦ absurd (writes.fits unsited.2.0 unsited.2.1)
+          | inr opened ↦ inl (ap is_some opened.1)
+        ]
         | inr other ↦ inr other
       ]
 
@@ -323,12 +336,12 @@ module _ (one : OneForm) (answer : OneAnswer) (o : SeenOutcome) (is : IsOutcome 
   serves-opens by =
       elim (ended-as one o is (serves by.serves.name) by.serves.command) [
         | inl way ↦ elim (served-config by.config by.t by.serves way) [
-            | inl failed ↦ inr (inr failed)
-            | inr other ↦ elim other [
-                | inl unsited ↦ absurd (by.fits unsited.2.0 unsited.2.1)
-                | inr opened ↦ inl opened.0
-              ]
+          | inl failed ↦ inr (inr failed)
+          | inr other ↦ elim other [
+            | inl unsited ↦ absurd (by.fits unsited.2.0 unsited.2.1)
+            | inr opened ↦ inl opened.0
           ]
+        ]
         | inr six ↦ inr (inl six)
       ]
 

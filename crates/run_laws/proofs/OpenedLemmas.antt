@@ -41,9 +41,9 @@ ends-exactly o warnings b ends = record {
       λ good written. elim (good-status b.book.state.going o.status good ends.may) [
         | inl zero ↦ inl zero
         | inr other ↦ elim other [
-            | inl five ↦ absurd (written-whole o.call.sink o.call.sink' (run_text warnings b) written (ends.unwritten five).unwritten)
-            | inr six ↦ inr six
-          ]
+          | inl five ↦ absurd (written-whole o.call.sink o.call.sink' (run_text warnings b) written (ends.unwritten five).unwritten)
+          | inr six ↦ inr six
+        ]
       ];
   comes_unwritten =
       λ good lacks. elim (good-status b.book.state.going o.status good ends.may) [

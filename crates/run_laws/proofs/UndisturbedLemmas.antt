@@ -116,9 +116,9 @@ module _ (laws : RunLaws) (n : RunNumbers) (b : SeenBoard) (run : IsRunFrom n b)
             elim (may-end going (Halted why.FrontEnded) o.status ended ends.may) [
               | inl zero ↦ zero
               | inr other ↦ elim other [
-                  | inl five ↦ absurd (output (ends.unwritten five).unwritten.failed)
-                  | inr six ↦ absurd (memory six)
-                ]
+                | inl five ↦ absurd (output (ends.unwritten five).unwritten.failed)
+                | inr six ↦ absurd (memory six)
+              ]
             ];
         going = ended;
         served = serves-all t calm ended;

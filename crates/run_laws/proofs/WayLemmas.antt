@@ -213,16 +213,43 @@ module _ (o : SeenOutcome) (is : IsOutcome o) where
 by-status : {X : Type 0} (s : ℕ) → IsExitStatus s → (s ≡ 0 → X) → (s ≡ 1 → X) → (s ≡ 2 → X) → (s ≡ 3 → X) → (s ≡ 4 → X) → (s ≡ 5 → X) → (s ≡ 6 → X)
     → (s ≡ 8 → X) → (s ≡ 9 → X) → (s ≡ 10 → X) → X
 by-status s known a b c d e f g h i j =
-    elim (cases_eq s 0) [ inl is ↦ a is | inr no0 ↦
-    elim (cases_eq s 1) [ inl is ↦ b is | inr no1 ↦
-    elim (cases_eq s 2) [ inl is ↦ c is | inr no2 ↦
-    elim (cases_eq s 3) [ inl is ↦ d is | inr no3 ↦
-    elim (cases_eq s 4) [ inl is ↦ e is | inr no4 ↦
-    elim (cases_eq s 5) [ inl is ↦ f is | inr no5 ↦
-    elim (cases_eq s 6) [ inl is ↦ g is | inr no6 ↦
-    elim (cases_eq s 8) [ inl is ↦ h is | inr no8 ↦
-    elim (cases_eq s 9) [ inl is ↦ i is | inr no9 ↦
-    elim (cases_eq s 10) [ inl is ↦ j is | inr no10 ↦ absurd (omega arith) ] ] ] ] ] ] ] ] ] ]
+    elim (cases_eq s 0) [
+      | inl is ↦ a is
+      | inr no0 ↦
+          elim (cases_eq s 1) [
+            | inl is ↦ b is
+            | inr no1 ↦
+                elim (cases_eq s 2) [
+                  | inl is ↦ c is
+                  | inr no2 ↦
+                      elim (cases_eq s 3) [
+                        | inl is ↦ d is
+                        | inr no3 ↦
+                            elim (cases_eq s 4) [
+                              | inl is ↦ e is
+                              | inr no4 ↦
+                                  elim (cases_eq s 5) [
+                                    | inl is ↦ f is
+                                    | inr no5 ↦
+                                        elim (cases_eq s 6) [
+                                          | inl is ↦ g is
+                                          | inr no6 ↦
+                                              elim (cases_eq s 8) [
+                                                | inl is ↦ h is
+                                                | inr no8 ↦
+                                                    elim (cases_eq s 9) [
+                                                      | inl is ↦ i is
+                                                      | inr no9 ↦
+                                                          elim (cases_eq s 10) [ inl is ↦ j is | inr no10 ↦ absurd (omega arith) ]
+                                                    ]
+                                              ]
+                                        ]
+                                  ]
+                            ]
+                      ]
+                ]
+          ]
+    ]
 
 pub ends-somehow : (o : SeenOutcome) → IsOutcome o → EndsSomehow o
 ends-somehow o is =

@@ -112,9 +112,9 @@ pub report-unwritten : (old mid new : SinkSeen) (first second : List ℕ) (writt
 report-unwritten old mid new first second true status warned faults report five =
     elim (report.failed five) [
       | inl unwritten ↦ record {
-          failed = rises-behind old.faults mid.faults new.faults faults unwritten.failed;
-          lacks = lacks-behind old.told mid.told new.told first second warned unwritten.lacks;
-        }
+        failed = rises-behind old.faults mid.faults new.faults faults unwritten.failed;
+        lacks = lacks-behind old.told mid.told new.told first second warned unwritten.lacks;
+      }
       | inr unwarned ↦ absurd (cc unwarned.0)
     ]
 report-unwritten old mid new first second false status warned faults report five = record {
