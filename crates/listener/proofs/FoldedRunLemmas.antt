@@ -17,7 +17,7 @@ use Rattle.listener.specs.FirstNumbersInside.{IsFoldedOf}
 use Rattle.listener.specs.FoldsInside.{FoldsJoin, ShowsForFolds}
 use Rattle.listener.specs.Listen.{HasFolded}
 use Rattle.listener.specs.Served.{whole_book}
-use Rattle.rounds.specs.Started.{AreAskedFor, IsAskedFor}
+use Rattle.rounds.specs.Timely.{AreTimely, IsAskedFor}
 use Rattle.listener.specs.declared.run_numbers.RunNumbers.{RunNumbers}
 use Rattle.rounds.proofs.AskedLemmas.{all-both}
 
@@ -41,7 +41,7 @@ module _ (joins : FoldsJoin) (known : Option KnownOutside) (n : RunNumbers) (b :
       ∙ ap (λ (lines : List (List ℕ)). fold_of (opened_by n) (f.entries ++ b.book.history) lines (folded_by n)) (sym (map-append line_of f.ended b.ended))
 
   -- so both are what a fold leaves folded
-  joined : b.book.passes ≡ n.passes → AreAskedFor b.book.base b.book.history → HasFolded n (folded_book (map line_of b.ended) b.book)
+  joined : b.book.passes ≡ n.passes → AreTimely b.book.base b.book.history → HasFolded n (folded_book (map line_of b.ended) b.book)
   joined passes asked = record {
     entries = f.entries ++ b.book.history;
     ended = f.ended ++ b.ended;
@@ -51,7 +51,7 @@ module _ (joins : FoldsJoin) (known : Option KnownOutside) (n : RunNumbers) (b :
         ∙ ap (λ (es : List Entry). es ++ entries_of p b.book.history) (f.few p past) ∙ shows.few p (omega (arith, passes, past));
     asked =
         all-both IsAskedFor (opened_by n) f.entries b.book.history f.asked
-        (subst (λ (s : State). AreAskedFor s b.book.history) f.base_is asked);
+        (subst (λ (s : State). AreTimely s b.book.history) f.base_is asked);
     base_is =
         ap (λ (s : State). after s b.book.history) f.base_is ∙ sym (joins.state (opened_by n) f.entries b.book.history);
     record_is = fold-joined;
@@ -68,7 +68,7 @@ pub record HasJoined (n : RunNumbers) (b : SeenBoard) (f : HasFolded n b.book) :
   pub ended_are : whole.ended ≡ f.ended ++ b.ended
 
 pub has-joined : FoldsJoin → (known : Option KnownOutside) (n : RunNumbers) (b : SeenBoard) → ShowsForFolds known b → (f : HasFolded n b.book)
-    → b.book.passes ≡ n.passes → AreAskedFor b.book.base b.book.history → HasJoined n b f
+    → b.book.passes ≡ n.passes → AreTimely b.book.base b.book.history → HasJoined n b f
 unfolding joined
 has-joined joins known n b shows f passes asked =
     record { whole = joined joins known n b shows f passes asked; entries_are = refl; ended_are = refl }
@@ -83,7 +83,7 @@ pub record WholeRun (known : Option KnownOutside) (n : RunNumbers) (b : SeenBoar
   pub ended_is : whole.ended ≡ before ++ b.ended
 
 pub whole-run : FoldsJoin → (known : Option KnownOutside) (n : RunNumbers) (b : SeenBoard) → ShowsForFolds known b → IsFoldedOf known n b.book
-    → AreAskedFor b.book.base b.book.history → WholeRun known n b
+    → AreTimely b.book.base b.book.history → WholeRun known n b
 unfolding joined
 whole-run joins known n b shows before asked = record {
   whole = joined joins known n b shows before.folded before.passes asked;

@@ -21,7 +21,7 @@ use Rattle.listener.specs.Commands.{stop_line}
 use Rattle.listener.specs.ListenInside.{Follows, HasNoneToHeed, HasOneToHeed, IsInStep, IsWatching, OnlyReads}
 use Rattle.listener.specs.OrdersInside.{KnowsComing, MayHush, ServesNewest, StandsBehind}
 use Rattle.listener.specs.RoundInside.{DoesOrders, NoneHalts}
-use Rattle.rounds.specs.PartsInside.{StartsAsAsked}
+use Rattle.rounds.specs.PartsInside.{StaysTimely}
 use Rattle.listener.specs.Served.{all_entries}
 use Rattle.listener.specs.StandingInside.{KnowsLater, StandsOn, standing}
 use Rattle.listener.specs.declared.edition.LoadedEdition.{LoadedEdition}
@@ -64,7 +64,7 @@ does-more steps a b c first second = record {
       (steps.more 0 (map event.Command first.orders) (map event.Command second.orders) None None a b c first.acts second.acts);
 }
 
-pub does-asked : (a b : SeenBook) → DoesOrders a b → StartsAsAsked a b
+pub does-asked : (a b : SeenBook) → DoesOrders a b → StaysTimely a b
 does-asked a b does = asked-silent 0 (map event.Command does.orders) None a b does.acts (startless-orders does.orders)
 
 -- ## A front that gave a line, or none

@@ -20,7 +20,7 @@ use Rattle.rounds.specs.ClosedDown.{HasNoLive}
 use Rattle.listener.specs.ListenInside.{Follows, HandsOut, HandsOutEach, HasNoneToHeed, HasReadAll, HasStarted, HeedsUntil, IsAtStart, IsInStep, ListensAsServed, TakesInTo, TookAll, TurnsEnd, TurnsInform, contacts_of}
 use Rattle.rounds.specs.TableInside.{IsOpening, IsRestful, asked_children}
 use Rattle.listener.specs.RoundInside.{GoesRound}
-use Rattle.rounds.specs.PartsInside.{NoneHas, StartsAsAsked, StartsSome}
+use Rattle.rounds.specs.PartsInside.{NoneHas, StaysTimely, StartsSome}
 use Rattle.listener.specs.StandingInside.{TurnsStand, owed_at}
 use Rattle.rounds.specs.Started.{BeginsWithStarts}
 use Rattle.listener.specs.Stops.{HasGivenAll}

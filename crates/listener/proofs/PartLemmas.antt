@@ -13,7 +13,7 @@ use Rattle.worker_group.specs.Service.{give_up_events}
 use Rattle.rounds.specs.ClosingInside.{GivesUpDrained, LetsGo, lingering_give_up_events}
 use Rattle.listener.specs.OrdersInside.{KnowsComing, ServesNewest}
 use Rattle.listener.specs.RoundInside.{FailsTaking, TakesSome, TakesUntil}
-use Rattle.rounds.specs.PartsInside.{LetsGoOfConns, LetsGoUntil, PassesTime, RetiresSome, SignalsFirst, StartsAsAsked, StartsSome, signal_events}
+use Rattle.rounds.specs.PartsInside.{LetsGoOfConns, LetsGoUntil, PassesTime, RetiresSome, SignalsFirst, StaysTimely, StartsSome, signal_events}
 use Rattle.rounds.specs.Moments.{known_slots, ticks_to}
 use Rattle.listener.specs.declared.edition.LoadedEdition.{LoadedEdition}
 use Rattle.listener.specs.declared.edition.NamedConfig.{NamedConfig}
@@ -26,7 +26,7 @@ pub record ActsOrderless (a b : SeenBook) : Type 0 where
   pub events : List Event
   pub acts : Acts 0 events None a b
   pub none : AreCommandless events
-  pub asked : StartsAsAsked a b
+  pub asked : StaysTimely a b
 
 -- it did nothing
 pub orderless-none : ActsInSteps → (b : SeenBook) → row_in 0 b ≡ None → ActsOrderless b b

@@ -21,7 +21,7 @@ use Rattle.board.specs.Finds.{ending_moments, next_deadline_of}
 use Rattle.worker_group.specs.Acts.{Acts}
 use Rattle.listener.specs.ListenInside.{AsksFor}
 use Rattle.rounds.specs.TableInside.{NoneOverdue}
-use Rattle.rounds.specs.Started.{AllAt}
+use Rattle.rounds.specs.Timely.{AllAt}
 use Rattle.listener.specs.Patient.{ArePatient, IsPatientEvent, PassesPatiently}
 use Rattle.listener.specs.RoundInside.{Round, round_events, intake_events}
 use Rattle.rounds.specs.PartsInside.{gone_events, departures_events}

@@ -12,7 +12,7 @@ use Rattle.worker_group.specs.Acts.{Acts, ActsInSteps}
 use Rattle.worker_group.specs.Service.{left_events}
 use Rattle.rounds.specs.ClosingInside.{IsLateWay, LetsGo}
 use Rattle.listener.specs.RoundInside.{AllLeft, BreaksOff, DoesOrders, EndsRound, GoesRound, IsLeftAsWatched, Round, Intake, TakesSome, round_events, intake_events}
-use Rattle.rounds.specs.PartsInside.{LetsGoOfConns, PassesTime, RetiresSome, SignalsFirst, StartsAsAsked, StartsSome, gone_events, signal_events}
+use Rattle.rounds.specs.PartsInside.{LetsGoOfConns, PassesTime, RetiresSome, SignalsFirst, StaysTimely, StartsSome, gone_events, signal_events}
 use Rattle.rounds.specs.Moments.{known_slots, ticks_to}
 use Rattle.rounds.proofs.AskedLemmas.{AreStartless}
 use Rattle.listener.proofs.StartlessLemmas.{asked-silent, startless-departures, startless-gone, startless-orders, startless-readies, startless-retires, startless-takes, startless-time}
@@ -67,8 +67,8 @@ lets-go-none steps b row = record {
 
 -- where each child was asked for that a part of them started
 asked-along : {es fs gs os hs ks : List Event} (a b c d e f h i : SeenBook) → Acts 0 es None a b → Acts 0 fs None b c → Acts 0 gs None c d → Acts 0 os None d e
-    → Acts 0 hs None e f → Acts 0 ks None h i → AreStartless es → AreStartless fs → AreStartless gs → AreStartless os → AreStartless hs → StartsAsAsked f h
-    → AreStartless ks → StartsAsAsked a i
+    → Acts 0 hs None e f → Acts 0 ks None h i → AreStartless es → AreStartless fs → AreStartless gs → AreStartless os → AreStartless hs → StaysTimely f h
+    → AreStartless ks → StaysTimely a i
 asked-along {es} {fs} {gs} {os} {hs} {ks} a b c d e f h i time signals lets does retires takes no_time no_signals no_lets no_orders no_retires started no_takes before =
     asked-silent 0 ks None h i takes no_takes
     (started

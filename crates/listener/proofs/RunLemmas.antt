@@ -32,13 +32,13 @@ use Rattle.listener.specs.declared.run_numbers.RunNumbers.{RunNumbers}
 use Rattle.listener.specs.Listen.{HasClosedAll, HasFolded, IsRunFrom}
 use Rattle.rounds.specs.ClosedDown.{HasNoLive, IsClosedDown}
 use Rattle.listener.specs.ListenInside.{clients_known}
-use Rattle.rounds.specs.Started.{AreAskedFor}
+use Rattle.rounds.specs.Timely.{AreTimely}
 use Rattle.listener.proofs.FoldedRunLemmas.{WholeRun}
 
 -- ## The history
 
 -- the history of a board is a run from the state before it, each state of which is sound
-pub run-from : (n : RunNumbers) (b : SeenBoard) → AreOfPasses n.passes b.book.history → AreAskedFor b.book.base b.book.history
+pub run-from : (n : RunNumbers) (b : SeenBoard) → AreOfPasses n.passes b.book.history → AreTimely b.book.base b.book.history
     → ((s : State) (history : List Entry) → IsSound s → Run s history → StaysSound s history)
     → Run b.book.base b.book.history → IsInPassOrderFrom b.book.folded b.book.history → AreMade b.book.base b.book.folded b.book.history
     → EachHasItsOwn b.book.base (first_row b.book.folded) → after b.book.base b.book.history ≡ b.book.state → IsSound b.book.base

@@ -30,7 +30,7 @@ use Rattle.listener.specs.Generations.{Opening}
 use Rattle.listener.specs.Listen.{HasFolded}
 use Rattle.listener.specs.ListenInside.{Follows, HasNoneToHeed, OnlyTakes}
 use Rattle.listener.specs.Orders.{AreOrdered, IsOrdered, edition_with, orders_with}
-use Rattle.rounds.specs.PartsInside.{StartsAsAsked}
+use Rattle.rounds.specs.PartsInside.{StaysTimely}
 use Rattle.listener.specs.Served.{all_entries, whole_book}
 use Rattle.listener.specs.StandingInside.{DoesAllBut, HasDone, HasTimeout, LeavesLast, Standing, StandsBroken, StandsOn, StandsSo, newest_edition}
 use Rattle.listener.specs.Stores.{IsRenewed, RisesBy, is_store_refusal}
@@ -290,7 +290,7 @@ stands-acts known o n left owed who es has old new acts none same stood =
 
 -- what goes on behind what went on goes on
 pub stands-more : (known : Option KnownOutside) (cfg : NamedConfig) (left : List CommandWord) (owed : ℕ) (a b c : Standing) → StandsOn known cfg [] 0 a b
-    → StartsAsAsked a.book b.book → StandsOn known cfg left owed b c → StandsOn known cfg left owed a c
+    → StaysTimely a.book b.book → StandsOn known cfg left owed b c → StandsOn known cfg left owed a c
 stands-more known cfg left owed a b c first asks second o n opened asked stood = second o n opened (asks asked) (first o n opened asked stood)
 
 -- and stays so behind what changes nothing
@@ -298,7 +298,7 @@ pub stands-before : (known : Option KnownOutside) (cfg : NamedConfig) (left : Li
     → ((o : Opening) (n : RunNumbers) → StandsSo known o n left owed b → StandsSo known o n left owed c) → StandsOn known cfg left owed a c
 stands-before known cfg left owed a b c first second o n opened asked stood = second o n (first o n opened asked stood)
 
-pub broken-behind : (known : Option KnownOutside) (cfg : NamedConfig) (a b c : Standing) → StandsOn known cfg [] 0 a b → StartsAsAsked a.book b.book
+pub broken-behind : (known : Option KnownOutside) (cfg : NamedConfig) (a b c : Standing) → StandsOn known cfg [] 0 a b → StaysTimely a.book b.book
     → StandsBroken known cfg b c → StandsBroken known cfg a c
 broken-behind known cfg a b c first asks broken =
     record { left = broken.left; one = broken.one; stands = stands-more known cfg broken.left 0 a b c first asks broken.stands }

@@ -13,7 +13,7 @@ use Rattle.listener.specs.declared.edition.NamedConfig.{NamedConfig}
 use Rattle.listener.specs.declared.listen.Pause.{Pause}
 use Rattle.rounds.specs.declared.ends.Rest.{Rest}
 use Rattle.listener.specs.ListenInside.{HasNoneToHeed}
-use Rattle.rounds.specs.PartsInside.{StartsAsAsked}
+use Rattle.rounds.specs.PartsInside.{StaysTimely}
 use Rattle.listener.specs.StandingInside.{StandsBroken, StandsOn, StandsSo, standing}
 use Rattle.listener.specs.TurnsInside.{SeenListener, stands_at}
 use Rattle.listener.proofs.CommandlessLemmas.{AreCommandless, commandless-added}
@@ -26,13 +26,13 @@ StandsFrom known left owed first now = StandsOn known first.config left owed (st
 
 -- one step behind others
 pub stands-on : (known : Option KnownOutside) (left : List CommandWord) (owed : ℕ) (first a b : SeenListener) → a.config ≡ first.config
-    → StartsAsAsked first.board.book a.board.book → StandsFrom known [] 0 first a → StandsFrom known left owed a b → StandsFrom known left owed first b
+    → StaysTimely first.board.book a.board.book → StandsFrom known [] 0 first a → StandsFrom known left owed a b → StandsFrom known left owed first b
 stands-on known left owed first a b config asks before step =
     stands-more known first.config left owed (stands_at first) (stands_at a) (stands_at b) before asks
     (subst (λ (c : NamedConfig). StandsOn known c left owed (stands_at a) (stands_at b)) config step)
 
 -- and one that was broken off
-pub breaks-on : (known : Option KnownOutside) (first a b : SeenListener) → a.config ≡ first.config → StartsAsAsked first.board.book a.board.book
+pub breaks-on : (known : Option KnownOutside) (first a b : SeenListener) → a.config ≡ first.config → StaysTimely first.board.book a.board.book
     → StandsFrom known [] 0 first a → StandsBroken known a.config (stands_at a) (stands_at b)
     → StandsBroken known first.config (stands_at first) (stands_at b)
 breaks-on known first a b config asks before broken =

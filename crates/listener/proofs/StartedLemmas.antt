@@ -15,7 +15,7 @@ use Rattle.listener.specs.Links.{EndsLinks, TakesLinks}
 use Rattle.listener.specs.ListenInside.{Follows, HasNoneToHeed, HasStopped, IsAtStart, IsInStep, WatchesAll, contacts, contacts_of}
 use Rattle.listener.specs.Outside.{clients_told, KeepsFront}
 use Rattle.listener.specs.Patient.{HasNothingCome}
-use Rattle.rounds.specs.Started.{AreAskedFor}
+use Rattle.rounds.specs.Timely.{AreTimely}
 use Rattle.listener.specs.StartedFirst.{IsStartedFirst}
 use Rattle.listener.specs.Tells.{AllReceive}
 use Rattle.listener.specs.Times.{AreBehind, IsInTime, IsInformed, SignalsAre, TicksAre, waits_of}
@@ -230,8 +230,8 @@ heeded-opened (Some t) calls idle =
     }
 
 -- no child was started
-pub asked-opened : (n : RunNumbers) (b : SeenBook) → b ≡ opened_book n → AreAskedFor b.base b.history
-asked-opened n b opened = subst (λ (x : SeenBook). AreAskedFor x.base x.history) (sym opened) tt
+pub asked-opened : (n : RunNumbers) (b : SeenBook) → b ≡ opened_book n → AreTimely b.base b.history
+asked-opened n b opened = subst (λ (x : SeenBook). AreTimely x.base x.history) (sym opened) tt
 
 -- a front that wasn't asked didn't wait
 pub unwaited : (told : Option FrontTold) (calls : Option (List (ℕ × ℕ))) → IsIdle told calls → IfSome told (λ t. t.waits ≡ [])

@@ -20,7 +20,7 @@ use Rattle.worker_group.specs.Service.{left_events}
 use Rattle.rounds.specs.declared.ends.End.{End}
 use Rattle.rounds.specs.EndsInside.{why_of}
 use Rattle.rounds.specs.ClosingInside.{Departure, departure_events, lingering_give_up_events}
-use Rattle.rounds.specs.PartsInside.{Departures, StartsAsAsked, departures_events, gone_events, halt_events, halts_for, time_events}
+use Rattle.rounds.specs.PartsInside.{Departures, StaysTimely, departures_events, gone_events, halt_events, halts_for, time_events}
 use Rattle.listener.specs.RoundInside.{Intake, intake_events}
 use Rattle.rounds.proofs.AddedLemmas.{added-events, events_in}
 use Rattle.listener.proofs.EventLemmas.{in-both}
@@ -87,7 +87,7 @@ startless-halts (Err fault) = refl
 -- ## Histories that go on
 
 -- events that start no child
-pub asked-silent : (who : ℕ) (es : List Event) (has : _) (a b : SeenBook) → Acts who es has a b → AreStartless es → StartsAsAsked a b
+pub asked-silent : (who : ℕ) (es : List Event) (has : _) (a b : SeenBook) → Acts who es has a b → AreStartless es → StaysTimely a b
 asked-silent who es has a b acts none =
     asked-behind who es has a b acts
     (asked-startless (after a.base a.history) acts.entries.0 (ap (flat_map starts_in) (added-events who es has a b acts) ∙ none))
@@ -114,7 +114,7 @@ served-startless p base f before (e ∷ added) other are =
     ∙ served-startless p base f (before ++ e ∷ []) added other are.1
 
 -- another pass than the listener starts none
-pub asked-served : (who : ℕ) (es : List Event) (has : _) (a b : SeenBook) → who ≢ 0 → Acts who es has a b → StartsAsAsked a b
+pub asked-served : (who : ℕ) (es : List Event) (has : _) (a b : SeenBook) → who ≢ 0 → Acts who es has a b → StaysTimely a b
 asked-served who es has a b other acts =
     asked-behind who es has a b acts
     (asked-startless (after a.base a.history) acts.entries.0 (served-startless who a.base a.folded a.history acts.entries.0 other acts.entries.2))

@@ -33,7 +33,7 @@ use Rattle.rounds.specs.EndsInside.{why_of}
 use Rattle.listener.specs.Orders.{AreOrdered, IsOrdered}
 use Rattle.rounds.specs.PartsInside.{GoesDown, halt_events, halts_for}
 use Rattle.listener.specs.StandingInside.{DoesAllBut, EndsAsBegun, IsOpenedBy, StandsSo, StandsToEnd, Standing, TurnsStand, standing, newest_edition}
-use Rattle.rounds.specs.Started.{AreAskedFor}
+use Rattle.rounds.specs.Timely.{AreTimely}
 use Rattle.listener.specs.Stops.{TakesEach}
 use Rattle.listener.specs.Stores.{IsRenewed, KeepsStore, RisesBy, is_store_refusal}
 use Rattle.rounds.specs.ClosedDown.{IsBrokenOff}
@@ -258,7 +258,7 @@ record EndsSo (known : Option KnownOutside) (o : Opening) (n : RunNumbers) (turn
   lines : lines_for (stopped_for turns) ≡ owed
 
 ends-so : (known : Option KnownOutside) (c : NamedConfig) (turns : Result End BoardFault) (first now : Standing) (d : SeenBook) → TurnsStand known c turns first now
-    → GoesDown turns now.book d → (o : Opening) (n : RunNumbers) → IsOpenedBy c o → AreAskedFor first.book.base first.book.history → StandsSo known o n [] 0 first → EndsSo known o n turns d.state.going now
+    → GoesDown turns now.book d → (o : Opening) (n : RunNumbers) → IsOpenedBy c o → AreTimely first.book.base first.book.history → StandsSo known o n [] 0 first → EndsSo known o n turns d.state.going now
 ends-so known c (Ok end.Ended) first now d stands down o n opened asked stood =
     record { left = []; owed = 0; stands = stands o n opened asked stood; is_left = inl refl; lines = refl }
 ends-so known c (Ok end.Asked) first now d stands down o n opened asked stood =

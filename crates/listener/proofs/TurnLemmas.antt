@@ -17,9 +17,9 @@ use Rattle.rounds.specs.declared.ends.Rest.{Rest}
 use Rattle.listener.specs.ListenInside.{Follows, HasNoneToHeed, IsInStep, ListensAsServed, OnlyReadsAndTakes, WatchesAll, contacts_of}
 use Rattle.listener.specs.OrdersInside.{KnowsComing, ServesNewest}
 use Rattle.listener.specs.RoundInside.{BreaksOff, GoesRound, RoundEnds}
-use Rattle.rounds.specs.PartsInside.{NoneHas, PassesTime, ServesSome, StartsAsAsked, StartsSome}
+use Rattle.rounds.specs.PartsInside.{NoneHas, PassesTime, ServesSome, StaysTimely, StartsSome}
 use Rattle.listener.specs.StandingInside.{StandsBroken, owed_at}
-use Rattle.rounds.specs.Started.{AreAskedFor}
+use Rattle.rounds.specs.Timely.{AreTimely}
 use Rattle.listener.specs.Times.{IsInTime, IsInformed, IsInformedOfTime, IsInformedSoFar, waits_of}
 use Rattle.listener.specs.TurnsInside.{InTime, SeenListener, Watching, stands_at}
 use Rattle.rounds.specs.Moments.{moment_for}
@@ -41,7 +41,7 @@ use Rattle.listener.proofs.WaitLemmas.{HasWaited, idle-wait}
 
 -- what holds of a listener that began as the first, also where its turns were broken off
 pub record HasKept (first now : SeenListener) : Type 0 where
-  pub asked : StartsAsAsked first.board.book now.board.book
+  pub asked : StaysTimely first.board.book now.board.book
   pub passes : now.board.book.passes ≡ first.board.book.passes
   pub free : NoneHas now.board.book
   pub up : IsUp now.board.book.state.going
@@ -70,7 +70,7 @@ pub record TakesStep (a b : SeenListener) : Type 0 where
   pub who : ℕ
   pub events : List Event
   pub acts : Acts who events None a.board.book b.board.book
-  pub asked : StartsAsAsked a.board.book b.board.book
+  pub asked : StaysTimely a.board.book b.board.book
   pub up : IsUp a.board.book.state.going → IsUp b.board.book.state.going
   pub follows : Follows a.front b.front
   pub contacts : contacts_of b.front.told ≡ contacts_of a.front.told
@@ -172,7 +172,7 @@ module _ (rest : Rest) (pause : Pause) (a w : SeenListener) where
         who = 0;
         events = [];
         acts = subst (Acts 0 [] None a.board.book) (sym book) (steps.none 0 None a.board.book (free 0));
-        asked = λ asked. subst (λ (b : SeenBook). AreAskedFor b.base b.history) (sym book) asked;
+        asked = λ asked. subst (λ (b : SeenBook). AreTimely b.base b.history) (sym book) asked;
         up = λ up. subst (λ (b : SeenBook). IsUp b.state.going) (sym book) up;
         follows = follows-wait a.front w.front rest.until rest.quiet pause.woke w.ready waited.waits;
         contacts = contacts-wait _ _ _ _ a.front.told w.front.told waited.waits.tells;
@@ -251,7 +251,7 @@ pub record HasBrokenOff (known : Option KnownOutside) (fault : BoardFault) (paus
 pub record DidSome (a b : SeenBook) : Type 0 where
   pub events : List Event
   pub acts : Acts 0 events None a b
-  pub asked : StartsAsAsked a b
+  pub asked : StaysTimely a b
 
 did-round : (to : ℕ) (slots : List ℕ) (a b : SeenBook) → GoesRound to slots a b → DidSome a b
 did-round to slots a b round = record { events = _; acts = round.acts; asked = round.asked }
@@ -271,7 +271,7 @@ did-some (Some end.Failed) to slots a b round = did-round to slots a b round
 did-some (Some end.Overdue) to slots a b passes = did-time to a b passes
 did-some (Some end.Gone) to slots a b round = did-round to slots a b round
 
-taken-step : (es : List Event) (w b : SeenListener) → Acts 0 es None w.board.book b.board.book → StartsAsAsked w.board.book b.board.book → HasTakenIn w b
+taken-step : (es : List Event) (w b : SeenListener) → Acts 0 es None w.board.book b.board.book → StaysTimely w.board.book b.board.book → HasTakenIn w b
     → TakesStep w b
 taken-step es w b acts asked took = record {
   who = 0;

@@ -9,11 +9,13 @@ pub mod ListenInside
 pub mod Orders
 pub mod OrdersInside
 pub mod Outside
+pub mod Pace
 pub mod Patient
 pub mod RoundInside
 pub mod Runs
 pub mod RunsInside
 pub mod Served
+pub mod ShareInside
 pub mod StandingInside
 pub mod StartedFirst
 pub mod Stops

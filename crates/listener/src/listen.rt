@@ -5,18 +5,22 @@
 //! state it says no more than where it stands in the end, and what the listener alone changes: the moment, how many connections
 //! were taken, which generation is the newest, and how the server goes on. What all orders did since the run opened goes on from
 //! where it stood (`specs/StandingInside.antt`).
-ghost use Rattle.std.specs.Prelude.{◌≡◌, ◌<◌, [], None, true, is_some, max, IfOk, IfErr, IfSome, MatchResult, OnErr, OnOk};
+ghost use Rattle.std.specs.Prelude.{◌≡◌, ◌<◌, [], ◌∷◌, ◌++◌, None, true, false, length, is_some, max, IfOk, IfErr, IfSome, MatchResult, OnErr, OnOk};
 ghost use Rattle.mpm_base.specs.Count.{next_count};
 ghost use Rattle.mpm_base.specs.Front.{TellsOn, Waits, after_hush};
 ghost use Rattle.conn_state.specs.Known.{IsOfClient};
 ghost use Rattle.board.specs.Finds.{acceptable, next_deadline_of};
 ghost use Rattle.board.specs.Book.{row_in};
 ghost use Rattle.worker_group.specs.Service.{IsUp, LeavesRest, RefusalLasts};
-ghost use Rattle.listener.specs.ListenInside.{AsksFor, Follows, HandsOut, HasNoneToHeed, IsArrival, IsInStep, IsKnownOfFront, IsWatching, ListensAsServed, OnlyReadsAndTakes, OnlyTakes, TakesInTo, TellsAlike, TookAll};
-ghost use Rattle.rounds.specs.TableInside.{IsOpening, IsRestful, asked_children};
+ghost use Rattle.listener.specs.ListenInside.{AsksFor, Follows, HandsOut, HasNoneToHeed, IsArrival, IsInStep, IsKnownOfFront, ListensAsServed, OnlyReadsAndTakes, OnlyTakes, StaysWatching, TakesInTo, TellsAlike, TookAll};
+ghost use Rattle.rounds.specs.TableInside.{IsOpening, IsRestful, NoneDueLate, StandsInTime, asked_children};
 ghost use Rattle.listener.specs.OrdersInside.{KnowsComing, ServesNewest};
 ghost use Rattle.listener.specs.RoundInside.{BreaksOff, EndsTaking, FailsTaking, IsTaking, RoundEnds, TakesSome, TakesUntil};
-ghost use Rattle.rounds.specs.PartsInside.{ServesSome, StartsSome};
+ghost use Rattle.rounds.specs.PartsInside.{ServesSome, StartsSome, StaysTimely};
+ghost use Rattle.rounds.specs.Timely.{is_at_its_end, is_staffed};
+ghost use Rattle.listener.specs.Pace.{brought, taken};
+ghost use Rattle.listener.specs.ShareInside.{CutsShare, GoesOnInTime, HushesFor, MakesOneAtMost, MakesShare, TakesAllButOne, TakesHanded};
+ghost use Rattle.conn_machine.specs.declared.state.Going.TheVariants.{Serving};
 ghost use Rattle.listener.specs.StandingInside.{StandsBroken, StandsOn, owed_at, standing};
 ghost use Rattle.rounds.specs.Started.{BeginsWithStarts};
 ghost use Rattle.listener.specs.TurnsInside.{AreOver, HasListened, MayListen, listener_of};
@@ -134,7 +138,10 @@ impl<'a, 'c, L: Link + Send, N: Known, B: Bell, G: Gate> Listener<'a, 'c, L, N, 
     fn start(&mut self) -> Result<Rest, BoardFault>
         requires passes { 0 < self.old.board.book.passes }
         requires free { row_in 0 self.old.board.book ≡ None }
+        requires going { self.old.board.book.state.going ≡ Serving }
+        requires children { 0 < length self.old.board.book.state.children }
         ensures starts { StartsSome self.old.board.book self.new.board.book }
+        ensures staffed { OnOk result (is_staffed self.new.board.book.state ≡ true) }
         ensures first { OnOk result
             (IsOpening self.old.board.book → BeginsWithStarts
             (asked_children self.old.board.book.base) self.new.board.book.history) }
@@ -157,7 +164,10 @@ impl<'a, 'c, L: Link + Send, N: Known, B: Bell, G: Gate> Listener<'a, 'c, L, N, 
     fn serve<R: Wait>(&mut self, rt: &R) -> Result<Rest, BoardFault>
         requires passes { 1 < self.old.board.book.passes }
         requires free { row_in 1 self.old.board.book ≡ None }
+        requires in_time { NoneDueLate self.old.board.book.state }
+        requires staffed { is_staffed self.old.board.book.state ≡ true }
         ensures serves { ServesSome self.old.board self.new.board }
+        ensures timely { StaysTimely self.old.board.book self.new.board.book }
         ensures rest { LeavesRest self.old.board.book self.new.board.book }
         ensures until { IfOk result
             (λ rest. rest.until ≡ next_deadline_of self.old.board.book.state) }
@@ -195,18 +205,29 @@ impl<'a, 'c, L: Link + Send, N: Known, B: Bell, G: Gate> Listener<'a, 'c, L, N, 
         requires up { IsUp self.old.board.book.state.going }
         requires step { IsInStep (F.seen front.old).told self.old.board.book.state }
         requires heeded { IfSome (F.seen front.old).told HasNoneToHeed }
+        requires in_time { StandsInTime self.old.board.book.state }
         ensures round { IfOk result
             (λ ended. RoundEnds ended (moment_for moment) self.old.ready self.old.board.book
             self.new.board.book) }
         ensures broken { IfErr result
             (λ fault. BreaksOff fault (moment_for moment) self.old.ready self.old.board.book
             self.new.board.book) }
+        ensures share { MatchResult result
+            (λ ended. MakesShare ended moment self.old.ready (F.seen front.old).told
+            (F.seen front.new).told self.old.board.book self.new.board.book)
+            (λ fault. CutsShare moment self.old.ready (F.seen front.old).told
+            (F.seen front.new).told self.old.board.book self.new.board.book) }
+        ensures hushes { OnOk result
+            (TellsOn HushesFor (F.seen front.old).told (F.seen front.new).told) }
+        ensures timely { StaysTimely self.old.board.book self.new.board.book }
+        ensures goes_on { IfOk result (λ ended. GoesOnInTime ended self.new.board.book.state) }
+        ensures before { OnErr result (is_at_its_end self.new.board.book.state ≡ false) }
         ensures stands { let old = standing self.old.edition.stop_ms
             (D.seen store.old) (F.seen front.old) self.old.board.book in
             let new = standing self.new.edition.stop_ms
             (D.seen store.new) (F.seen front.new) self.new.board.book in
             MatchResult result
-            (λ ended. StandsOn N.known self.old.config [] (owed_at ended) old new)
+            (λ ended. StandsOn N.known self.old.config 0 (owed_at ended) old new)
             (λ fault. StandsBroken N.known self.old.config old new) }
         ensures knows { OnOk result
             (KnowsComing N.known self.new.board.book self.new.config (D.seen store.new).told) }
@@ -222,8 +243,8 @@ impl<'a, 'c, L: Link + Send, N: Known, B: Bell, G: Gate> Listener<'a, 'c, L, N, 
         ensures unheeded { OnErr result (IfSome (F.seen front.new).told HasNoneToHeed) }
         ensures follows { Follows (F.seen front.old) (F.seen front.new) }
         ensures front { TellsOn OnlyReadsAndTakes (F.seen front.old).told (F.seen front.new).told }
-        ensures watched { IsWatching (F.seen front.old).told self.old.board.book
-            → IsWatching (F.seen front.new).told self.new.board.book }
+        ensures watched { StaysWatching (F.seen front.old).told (F.seen front.new).told
+            self.old.board.book self.new.board.book }
         ensures listens { IfSome (F.seen front.new).told
             (ListensAsServed self.new.board.book.state) }
         ensures links { OnErr result (HandsOut (F.seen front.new).told self.new.board.book.state) }
@@ -268,6 +289,12 @@ impl<'a, 'c, L: Link + Send, N: Known, B: Bell, G: Gate> Listener<'a, 'c, L, N, 
         ensures takes { OnOk result (TakesSome self.old.board.book self.new.board.book) }
         ensures until { IfErr result
             (λ fault. TakesUntil fault self.old.board.book self.new.board.book) }
+        ensures handed { OnOk result (TakesHanded 0 (F.seen front.old).told
+            (F.seen front.new).told self.old.board.book self.new.board.book) }
+        ensures cut { OnErr result (TakesAllButOne (F.seen front.old).told
+            (F.seen front.new).told self.old.board.book self.new.board.book) }
+        ensures in_time { NoneDueLate self.old.board.book.state
+            → NoneDueLate self.new.board.book.state }
         ensures going { self.new.board.book.state.going ≡ self.old.board.book.state.going }
         ensures newest { self.new.board.book.state.newest ≡ self.old.board.book.state.newest }
         ensures moment { self.new.board.book.state.moment ≡ self.old.board.book.state.moment }
@@ -275,8 +302,8 @@ impl<'a, 'c, L: Link + Send, N: Known, B: Bell, G: Gate> Listener<'a, 'c, L, N, 
         ensures taken { OnOk result (TookAll (F.seen front.new).told self.new.board.book.state) }
         ensures follows { Follows (F.seen front.old) (F.seen front.new) }
         ensures front { TellsOn OnlyTakes (F.seen front.old).told (F.seen front.new).told }
-        ensures watched { IsWatching (F.seen front.old).told self.old.board.book
-            → IsWatching (F.seen front.new).told self.new.board.book }
+        ensures watched { StaysWatching (F.seen front.old).told (F.seen front.new).told
+            self.old.board.book self.new.board.book }
         ensures links { OnErr result (HandsOut (F.seen front.new).told self.new.board.book.state) }
         ensures edition { self.new.edition ≡ self.old.edition }
         ensures ready { self.new.ready ≡ self.old.ready }
@@ -323,6 +350,11 @@ impl<'a, 'c, L: Link + Send, N: Known, B: Bell, G: Gate> Listener<'a, 'c, L, N, 
             self.old.board.book self.new.board.book) }
         ensures until { IfErr result
             (λ fault. FailsTaking fault self.old.board.book self.new.board.book) }
+        ensures makes { OnOk result (brought self.new.board.book.history
+            ≡ brought self.old.board.book.history ++ taken ∷ []) }
+        ensures made { OnErr result (MakesOneAtMost self.old.board.book self.new.board.book) }
+        ensures in_time { NoneDueLate self.old.board.book.state
+            → NoneDueLate self.new.board.book.state }
         ensures going { self.new.board.book.state.going ≡ self.old.board.book.state.going }
         ensures newest { self.new.board.book.state.newest ≡ self.old.board.book.state.newest }
         ensures moment { self.new.board.book.state.moment ≡ self.old.board.book.state.moment }
@@ -333,8 +365,8 @@ impl<'a, 'c, L: Link + Send, N: Known, B: Bell, G: Gate> Listener<'a, 'c, L, N, 
             (F.seen front.new).told self.new.board.book.state) }
         ensures follows { Follows (F.seen front.old) (F.seen front.new) }
         ensures front { TellsOn OnlyTakes (F.seen front.old).told (F.seen front.new).told }
-        ensures watched { IsWatching (F.seen front.old).told self.old.board.book
-            → IsWatching (F.seen front.new).told self.new.board.book }
+        ensures watched { StaysWatching (F.seen front.old).told (F.seen front.new).told
+            self.old.board.book self.new.board.book }
         ensures links { OnErr result
             (EndsTaking (L.seen link).told (F.seen front.old).told (F.seen front.new).told
             self.old.board.book.state self.new.board.book.state) }

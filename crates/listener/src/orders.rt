@@ -3,21 +3,25 @@
 //! Each command line is done in its place, in the order in which they came (`specs/Orders.antt`, `specs/Commands.antt`): a restart reads
 //! the configuration and the site of the next edition of the store, and then a new generation begins, or the restart is refused for a
 //! reason, and all goes on as it was.
-ghost use Rattle.std.specs.Prelude.{◌≡◌, ◌<◌, ◌≤◌, [], None, Some, true, false, IfErr, IfOk, IfSome, MatchResult, OnErr, OnOk};
+ghost use Rattle.std.specs.Prelude.{◌≡◌, ◌<◌, ◌≤◌, [], ◌∷◌, None, Some, true, false, IfErr, IfOk, IfSome, MatchResult, OnErr, OnOk};
 ghost use Rattle.mpm_base.specs.Count.{Rises};
 ghost use Rattle.mpm_base.specs.Front.{TellsOn};
 ghost use Rattle.mpm_base.specs.declared.script_line.CommandWord.TheVariants as word;
+ghost use Rattle.conn_machine.specs.States.{is_serving};
 ghost use Rattle.conn_machine.specs.Table.{greatest_generation};
 ghost use Rattle.board.specs.Book.{row_in};
 ghost use Rattle.board.specs.Editions.{orders_in};
 ghost use Rattle.board.specs.Faults.{IsRefusedFor};
 ghost use Rattle.worker_group.specs.Service.{IsUp, RefusalLasts};
-ghost use Rattle.listener.specs.ListenInside.{Follows, HasNoneToHeed, HasOneToHeed, HasReadAll, IsInStep, IsWatching, OnlyReads};
+ghost use Rattle.listener.specs.ListenInside.{Follows, HasNoneToHeed, HasOneToHeed, HasReadAll, IsInStep, OnlyReads, StaysWatching};
 ghost use Rattle.listener.specs.Orders as spec;
-ghost use Rattle.listener.specs.OrdersInside.{BreaksBehind, Carries, EndingBreaks, EndingStands, KnowsComing, MayHush, Refuses, ServesNewest, StandsBehind, owed_by};
+ghost use Rattle.listener.specs.OrdersInside.{BreaksBehind, Carries, EndingBreaks, EndingStands, KnowsComing, MakesOrders, MayHush, Refuses, ServesNewest, StandsBehind, end_if, owed_by};
 ghost use Rattle.listener.specs.OrdersInside as inside;
 ghost use Rattle.listener.specs.RoundInside.{DoesOrders, DoesUntil};
+ghost use Rattle.listener.specs.ShareInside.{DoesAllButOne, DoesAsked, HushesFor, stop_if};
 ghost use Rattle.listener.specs.StandingInside.{StandsBroken, StandsOn, standing};
+ghost use Rattle.rounds.specs.PartsInside.{StaysTimely};
+ghost use Rattle.rounds.specs.Timely.{is_staffed};
 
 use crate::edition::LoadedEdition;
 use crate::listener_state::Listener;
@@ -54,15 +58,25 @@ impl<'a, 'c, L: Link + Send, N: Known, B: Bell, G: Gate> Listener<'a, 'c, L, N, 
         requires up { IsUp self.old.board.book.state.going }
         requires step { IsInStep (F.seen front.old).told self.old.board.book.state }
         requires heeded { IfSome (F.seen front.old).told HasNoneToHeed }
+        requires staffed { is_staffed self.old.board.book.state ≡ true }
         ensures does { OnOk result (DoesOrders self.old.board.book self.new.board.book) }
         ensures until { IfErr result
             (λ fault. DoesUntil fault self.old.board.book self.new.board.book) }
+        ensures asks { MatchResult result
+            (λ asked. DoesAsked (stop_if asked) (F.seen front.old).told (F.seen front.new).told
+            self.old.board.book self.new.board.book)
+            (λ fault. DoesAllButOne (F.seen front.old).told (F.seen front.new).told
+            self.old.board.book self.new.board.book) }
+        ensures hushes { OnOk result
+            (TellsOn HushesFor (F.seen front.old).told (F.seen front.new).told) }
+        ensures timely { StaysTimely self.old.board.book self.new.board.book }
+        ensures staffed { is_staffed self.new.board.book.state ≡ true }
         ensures stands { let old = standing self.old.edition.stop_ms
             (D.seen store.old) (F.seen front.old) self.old.board.book in
             let new = standing self.new.edition.stop_ms
             (D.seen store.new) (F.seen front.new) self.new.board.book in
             MatchResult result
-            (λ asked. StandsOn N.known self.old.config [] (owed_by asked) old new)
+            (λ asked. StandsOn N.known self.old.config 0 (owed_by asked) old new)
             (λ fault. StandsBroken N.known self.old.config old new) }
         ensures knows { OnOk result
             (KnowsComing N.known self.new.board.book self.new.config (D.seen store.new).told) }
@@ -80,8 +94,8 @@ impl<'a, 'c, L: Link + Send, N: Known, B: Bell, G: Gate> Listener<'a, 'c, L, N, 
         ensures unheeded { OnErr result (IfSome (F.seen front.new).told HasNoneToHeed) }
         ensures follows { Follows (F.seen front.old) (F.seen front.new) }
         ensures front { TellsOn OnlyReads (F.seen front.old).told (F.seen front.new).told }
-        ensures watched { IsWatching (F.seen front.old).told self.old.board.book
-            → IsWatching (F.seen front.new).told self.new.board.book }
+        ensures watched { StaysWatching (F.seen front.old).told (F.seen front.new).told
+            self.old.board.book self.new.board.book }
         ensures others { self.new ≡ record self.old
             { board = self.new.board; edition = self.new.edition } }
         ensures err { IfErr result (λ fault. RefusalLasts fault self.new.board.book) }
@@ -111,7 +125,12 @@ impl<'a, 'c, L: Link + Send, N: Known, B: Bell, G: Gate> Listener<'a, 'c, L, N, 
             (D.seen store.old).told }
         requires serves { ServesNewest N.known self.old.board.book self.old.edition }
         requires up { IsUp self.old.board.book.state.going }
+        requires staffed { is_staffed self.old.board.book.state ≡ true }
         ensures does { OnOk result (DoesOrders self.old.board.book self.new.board.book) }
+        ensures makes { OnOk result (MakesOrders (word.Graceful ∷ [])
+            self.old.board.book self.new.board.book) }
+        ensures timely { StaysTimely self.old.board.book self.new.board.book }
+        ensures staffed { is_staffed self.new.board.book.state ≡ true }
         ensures stands { OnOk result (StandsBehind N.known self.old.config word.Graceful
             (λ f. standing self.old.edition.stop_ms (D.seen store.old) f self.old.board.book)
             (λ f. standing self.new.edition.stop_ms (D.seen store.new) f self.new.board.book)) }
@@ -205,7 +224,13 @@ impl<'a, 'c, L: Link + Send, N: Known, B: Bell, G: Gate> Listener<'a, 'c, L, N, 
         requires free { row_in 0 self.old.board.book ≡ None }
         requires up { IsUp self.old.board.book.state.going }
         requires step { IsInStep (F.seen front.old).told self.old.board.book.state }
+        requires staffed { is_staffed self.old.board.book.state ≡ true }
         ensures does { OnOk result (DoesOrders self.old.board.book self.new.board.book) }
+        ensures makes { OnOk result
+            (MakesOrders (end_if (is_serving self.old.board.book.state.going))
+            self.old.board.book self.new.board.book) }
+        ensures timely { StaysTimely self.old.board.book self.new.board.book }
+        ensures staffed { is_staffed self.new.board.book.state ≡ true }
         ensures stands { OnOk result (EndingStands N.known self.old.config self.old.edition.stop_ms
             (F.seen front.old) (F.seen front.new) self.old.board.book self.new.board.book) }
         ensures broken { OnErr result (EndingBreaks N.known self.old.config self.old.edition.stop_ms

@@ -17,9 +17,17 @@ pub record Backlog : Type 0 where
   pub arrivals : ℕ
   pub lines : ℕ
 
--- a wait of a front: until when it was to last at most, and whether time might pass in it; the slots that it gave, and its
--- answer; and what waited to be taken just before it let time pass, where it did
+-- how far a server is with a front: how many connections were handed out to it, how many command lines it has read, and whether it has
+-- stopped listening
+pub record Progress : Type 0 where
+  pub accepted : ℕ
+  pub read : ℕ
+  pub hushed : Bool
+
+-- a wait of a front: how far the server was as the wait began; until when it was to last at most, and whether time might pass in it; the
+-- slots that it gave, and its answer; and what waited to be taken just before it let time pass, where it did
 pub record WaitTold : Type 0 where
+  pub began : Progress
   pub until : Option ℕ
   pub quiet : Bool
   pub slots : List ℕ
@@ -81,6 +89,10 @@ pub record FrontSeen : Type 0 where
   pub told : Option FrontTold
   pub counts : FrontCounts
 
+-- how far a server is with a front that tells
+abbrev pub progress_of : FrontTold → Progress
+progress_of t = record { accepted = t.accepted; read = t.read; hushed = t.hushed }
+
 -- it tells before and after, and this holds of what it tells; or it tells nothing
 abbrev pub TellsOn : (FrontTold → FrontTold → Type 0) → Option FrontTold → Option FrontTold → Type 0
 TellsOn Goes None told' = told' ≡ None
@@ -123,6 +135,12 @@ abbrev pub wait_failed : Woke → Bool
 wait_failed (woke.Woke m) = false
 wait_failed woke.Ended = false
 wait_failed woke.Failed = true
+
+-- the wait gave a moment
+abbrev pub gives_moment : Woke → Bool
+gives_moment (woke.Woke m) = true
+gives_moment woke.Ended = false
+gives_moment woke.Failed = false
 
 -- the moment that the answer gives, where it gives one
 abbrev pub moments_in : Woke → List ℕ
@@ -196,7 +214,8 @@ pub record GoesForward (until : Option ℕ) (quiet : Bool) (answer : Woke) (read
   pub answers : IsAnswerOf answer t'
   pub passed : Option Backlog
   pub patient : IfSome t.comings (λ comings. IsPatient comings until quiet answer passed t t')
-  pub waits : t'.waits ≡ t.waits ++ record { until = until; quiet = quiet; slots = ready; answer = answer; passed = passed } ∷ []
+  pub waits :
+      t'.waits ≡ t.waits ++ record { began = progress_of t; until = until; quiet = quiet; slots = ready; answer = answer; passed = passed } ∷ []
 
 -- nothing comes any more
 pub record StandsStill (t t' : FrontTold) : Type 0 where

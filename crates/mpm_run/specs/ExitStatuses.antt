@@ -10,7 +10,7 @@ use Rattle.listener.specs.Commands.{GivesLines}
 use Rattle.listener.specs.FirstNumbers.{numbers_of}
 use Rattle.listener.specs.Generations.{Opening}
 use Rattle.listener.specs.Outside.{KeepsOutside}
-use Rattle.listener.specs.Runs.{HasRun, entries_of_run, KeepsLines}
+use Rattle.listener.specs.Runs.{HasRun, ended_of_run, entries_of_run}
 use Rattle.script_run.specs.ScriptRefusals.{EndsMisconfigured, EndsScriptSiteRefused, EndsRefused}
 use Rattle.listener.specs.Stores.{KeepsStore}
 use Rattle.script_run.specs.declared.scripted.Scripted.{Scripted}
@@ -199,8 +199,8 @@ abbrev pub server_opening : Call → FrontSeen → List ℕ → Configuration �
 server_opening call f name c site = record { name = name; config = c; site = site; store = call.store; front = f }
 
 -- a server was run over the front and the clock, and what is left is of a run by the configuration of the file that the words name and
--- by the site of the store, and then by the store's editions; it is tied to the front, the clock and the store, and ended as its exit status
--- says
+-- by the site of the store, and then by the store's editions; all its entries, and all its connections that ended, are tied to the front, the
+-- clock and the store, and it ended as its exit status says
 pub record HasRunServer (call : Call) (f f' : FrontSeen) (calls : Option (List (ℕ × ℕ))) (status : ℕ) (b : SeenBoard) : Type 0 where
   pub name : List ℕ
   pub config : Configuration
@@ -210,8 +210,9 @@ pub record HasRunServer (call : Call) (f f' : FrontSeen) (calls : Option (List (
   pub loads : LoadsSite call config site
   pub shows : call.shown ≡ None
   pub has_run : HasRun (server_opening call f name config site) b
-  pub outside : KeepsOutside (numbers_of config) f f' calls b
-  pub lines : IfSome f'.told (KeepsLines (entries_of_run (server_opening call f name config site) b has_run) b)
+  pub outside :
+      KeepsOutside (numbers_of config) f f' calls b.book.state (entries_of_run (server_opening call f name config site) b has_run)
+      (ended_of_run (server_opening call f name config site) b has_run)
   pub given : GivesLines (entries_of_run (server_opening call f name config site) b has_run) f f'
   pub store :
       KeepsStore b.book.state.going (entries_of_run (server_opening call f name config site) b has_run) call.store call.store'
@@ -265,7 +266,7 @@ pub record Causes (call : Call) (f f' : FrontSeen) (status : ℕ) (scripted : Op
 pub record LeavesAll (call : Call) (f f' : FrontSeen) (calls calls' : Option (List (ℕ × ℕ))) (status : ℕ)
     (scripted : Option Scripted) (board : Option SeenBoard) : Type 0 where
   -- whatever the exit status, what is left of a script's run is of one of the script that was read or made
-  pub kept : IfSome scripted (λ s. HasPlayed call s.config s.board s.front s.store)
+  pub kept : IfSome scripted (λ s. HasPlayed call s.config s.board s.front s.clock s.store)
   -- it was stopped as its exit status says, and the output has its warnings and its report, or as much of them as that says
   pub ends : IfSome scripted (λ s. EndsAs call.sink call.sink' (warnings_of s.config) s.board status)
   -- the same of what is left of a server, as far as its front, its clock and its store tell. Over each front, whether it tells or not, it

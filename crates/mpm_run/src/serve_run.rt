@@ -3,10 +3,9 @@ ghost use Rattle.std.specs.Prelude.{◌≡◌, ◌⊎◌, ℕ, List, [], None, f
 ghost use Rattle.command_words.specs.Invocations.{IsServeWords};
 ghost use Rattle.mpm_base.specs.Front.{Binds};
 ghost use Rattle.mpm_run.specs.ExitStatusesInside.{EndsServe, IsOpenedStatus, LeavesUnbound, RefusesFolder};
-ghost use Rattle.listener.specs.FirstNumbers as opening;
 ghost use Rattle.listener.specs.Generations.{head_limits_of};
 ghost use Rattle.listener.specs.OrdersInside.{opening_by};
-ghost use Rattle.listener.specs.Outside.{KeepsOutside, TellsStill};
+ghost use Rattle.listener.specs.Outside.{TellsStill};
 ghost use Rattle.listener.specs.RunsInside.{HasRunBy};
 ghost use Rattle.listener.specs.Unused.{IsUnused};
 ghost use Rattle.run_opening.specs.Calls.{seen_call};
@@ -124,11 +123,8 @@ fn serve_edition<R: Wait, D: Store, F: Front, C: Clock, G: Gate, K: Sink>(
     requires unasked { IfSome (C.told clock.old) (λ calls. calls ≡ []) }
     ensures run { IfSome result.left (λ b.
         HasRunBy (opening_by config.entry edition (D.seen store.old) (F.seen front.old))
-        (D.seen store.new) (F.seen front.new) b) }
+        (D.seen store.new) (F.seen front.new) (C.told clock.new) b) }
     ensures store { IsNone result.left → D.seen store.new ≡ D.seen store.old }
-    ensures outside { IfSome result.left
-        (KeepsOutside (opening.numbers_of config.entry.config.now)
-        (F.seen front.old) (F.seen front.new) (C.told clock.new)) }
     ensures ends { IfSome result.left (λ b.
         EndsAs (K.seen out.old) (K.seen out.new) (warnings_of config.entry.config.now) b
         result.status) }

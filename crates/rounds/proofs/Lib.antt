@@ -1,9 +1,9 @@
 pub mod ActLemmas
 pub mod AddedLemmas
-pub mod AskedLemmas
 pub mod ChildrenLemmas
 pub mod ClosingLemmas
 pub mod DownLemmas
+pub mod DueLemmas
 pub mod FoundLemmas
 pub mod GoneLemmas
 pub mod HaltLemmas
@@ -15,3 +15,4 @@ pub mod PassLemmas
 pub mod SameEditionLemmas
 pub mod TakeLemmas
 pub mod TimeLemmas
+pub mod TimelyLemmas

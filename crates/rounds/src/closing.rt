@@ -138,6 +138,7 @@ pub(crate) fn drain_all<L: Link, N: Known>(board: &mut Board<L, N>) -> Result<()
     ensures drains { OnOk result (DrainsSome board.old.book board.new.book) }
     ensures until { IfErr result (λ fault. DrainsUntil fault board.old.book board.new.book) }
     ensures none { OnOk result (NoneToDrain board.new.book.state) }
+    ensures none_late { OnOk result (NoneOverdue board.new.book.state) }
     ensures rest { LeavesRest board.old.book board.new.book }
     ensures err { IfErr result (λ fault. RefusalLasts fault board.new.book) }
 {

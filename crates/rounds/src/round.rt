@@ -22,9 +22,10 @@ ghost use Rattle.worker_group.specs.Service.{IsUp, LeavesRest, RefusalLasts, lef
 ghost use Rattle.rounds.specs.ClosingInside.{IsLateWay, LetsGo};
 ghost use Rattle.rounds.specs.ClosedDown.{HasNoLive, IsClosedDown};
 ghost use Rattle.rounds.specs.EndsInside.{IsAllGone};
-ghost use Rattle.rounds.specs.TableInside.{HasTaken, IsOpening, IsRestful, NoneOverdue, asked_children};
+ghost use Rattle.rounds.specs.TableInside.{HasTaken, IsOpening, IsRestful, NoneDueLate, NoneOverdue, StandsInTime, asked_children};
 ghost use Rattle.rounds.specs.AtRest.{NoneDue};
-ghost use Rattle.rounds.specs.PartsInside.{GivesUp, LetsGoOfConns, LetsGoUntil, PassesTime, RetiresSome, ServesSome, SignalsFirst, StartsSome, signal_events, way_of};
+ghost use Rattle.rounds.specs.PartsInside.{GivesUp, LetsGoOfConns, LetsGoUntil, PassesTime, RetiresSome, ServesSome, SignalsFirst, StartsSome, StaysTimely, signal_events, way_of};
+ghost use Rattle.rounds.specs.Timely.{is_at_its_end, is_staffed};
 ghost use Rattle.rounds.specs.Started.{BeginsWithStarts};
 ghost use Rattle.rounds.specs.Moments.{moment_for};
 
@@ -37,7 +38,7 @@ use conn_machine::laws::{
     connections_go_to_the_chosen_child, passes_leave_the_rest_to_the_listener,
 };
 use conn_machine::laws_of_runs::{
-    children_change_one_at_a_time, histories_keep_sizes, rows_change_one_at_a_time,
+    children_change_one_at_a_time, histories_join, histories_keep_sizes, rows_change_one_at_a_time,
 };
 use conn_state::{Conn, Known};
 use mpm_base::{Bell, Cause, GREATEST_MOMENT, Gate, Kind, Link, Moment, Tail};
@@ -143,8 +144,11 @@ pub fn pass_time<L: Link, N: Known>(
     requires passes { 0 < board.old.book.passes }
     requires free { row_in 0 board.old.book ≡ None }
     requires up { IsUp board.old.book.state.going }
+    requires in_time { StandsInTime board.old.book.state }
     ensures passes { OnOk result (PassesTime (moment_for moment) board.old.book board.new.book) }
     ensures refused { OnErr result (LetsGo IsLateWay board.old.book board.new.book) }
+    ensures timely { StaysTimely board.old.book board.new.book }
+    ensures staffed { is_staffed board.new.book.state ≡ true }
     ensures why { IfErr result (λ fault. IsRefusedFor fault board.new.book) }
     ensures none { OnOk result (NoneOverdue board.new.book.state) }
     ensures going { board.new.book.state.going ≡ board.old.book.state.going }
@@ -154,13 +158,17 @@ pub fn pass_time<L: Link, N: Known>(
     ensures taken { board.new.book.state.accepted ≡ board.old.book.state.accepted }
     ensures err { IfErr result (λ fault. RefusalLasts fault board.new.book) }
 {
+    histories_join();
     passes_act_in_steps();
+    show_state(board);
     let_go_late(board);
+    board.show();
     let moment = moment.min(GREATEST_MOMENT);
     if moment > board.moment() {
-        board.show();
         board.tick(LISTENER, moment)?;
+        show_state(board);
         let_go_late(board);
+        show_state(board);
     }
     Ok(())
 }
@@ -171,8 +179,13 @@ pub fn signal_all<L: Link, N: Known>(
 ) -> Result<(), BoardFault>
     requires passes { 0 < board.old.book.passes }
     requires free { row_in 0 board.old.book ≡ None }
+    requires within { is_over board.old.book.state.moment board.old.book.state.going ≡ false }
+    requires staffed { is_staffed board.old.book.state ≡ true }
     ensures signals { OnOk result
         (Acts 0 (signal_events board.old.book slots.now) None board.old.book board.new.book) }
+    ensures timely { StaysTimely board.old.book board.new.book }
+    ensures rows { board.new.book.state.rows ≡ board.old.book.state.rows }
+    ensures children { board.new.book.state.children ≡ board.old.book.state.children }
     ensures first { OnErr result (SignalsFirst slots.now board.old.book board.new.book) }
     ensures why { IfErr result (λ fault. IsRefusedFor fault board.new.book) }
     ensures rest { LeavesRest board.old.book board.new.book }
@@ -188,8 +201,13 @@ pub fn signal_all<L: Link, N: Known>(
 fn signal<L: Link, N: Known>(board: &mut Board<L, N>, slot: u32) -> Result<(), BoardFault>
     requires passes { 0 < board.old.book.passes }
     requires free { row_in 0 board.old.book ≡ None }
+    requires within { is_over board.old.book.state.moment board.old.book.state.going ≡ false }
+    requires staffed { is_staffed board.old.book.state ≡ true }
     ensures signals { OnOk result
         (Acts 0 (signal_events board.old.book (slot ∷ [])) None board.old.book board.new.book) }
+    ensures timely { StaysTimely board.old.book board.new.book }
+    ensures rows { board.new.book.state.rows ≡ board.old.book.state.rows }
+    ensures children { board.new.book.state.children ≡ board.old.book.state.children }
     ensures rest { LeavesRest board.old.book board.new.book }
     ensures refused { OnErr result (board.new ≡ board.old) }
     ensures why { IfErr result (λ fault. IsRefusedFor fault board.old.book) }
@@ -211,15 +229,23 @@ pub fn let_go_of_conns<L: Link, N: Known>(
 ) -> Result<(), BoardFault>
     requires passes { 0 < board.old.book.passes }
     requires free { row_in 0 board.old.book ≡ None }
+    requires staffed { is_staffed board.old.book.state ≡ true }
     ensures gone { OnOk result (LetsGoOfConns board.old.book board.new.book) }
+    ensures timely { StaysTimely board.old.book board.new.book }
+    ensures staffed { is_staffed board.new.book.state ≡ true }
+    ensures none_late { OnOk result (NoneOverdue board.new.book.state) }
     ensures until { IfErr result (λ fault. LetsGoUntil fault board.old.book board.new.book) }
     ensures rest { LeavesRest board.old.book board.new.book }
     ensures err { IfErr result (λ fault. RefusalLasts fault board.new.book) }
 {
+    histories_join();
     passes_act_in_steps();
+    show_state(board);
     let_go_retiring(board, all_signalled);
     let_go_late(board);
-    drain_all(board)
+    let drained = drain_all(board);
+    show_state(board);
+    drained
 }
 /// Whether the time of a graceful stop is over.
 pub fn is_overdue<L: Link, N: Known>(board: &Board<L, N>) -> bool
@@ -230,7 +256,8 @@ pub fn is_overdue<L: Link, N: Known>(board: &Board<L, N>) -> bool
 /// Whether a graceful stop is at its end: the server takes no connections, and each child is gone.
 pub fn is_gone<L: Link, N: Known>(board: &Board<L, N>) -> bool
     requires { IsUp board.now.book.state.going }
-    ensures { (result ≡ true) ↔ IsAllGone board.now.book.state }
+    ensures gone { (result ≡ true) ↔ IsAllGone board.now.book.state }
+    ensures end { result ≡ is_at_its_end board.now.book.state }
 {
     board.show();
     let state = board.state();
@@ -276,12 +303,17 @@ pub fn serve_all<R: Wait, L: Link, N: Known, B: Bell, G: Gate>(
 ) -> Result<(), BoardFault>
     requires passes { 1 < board.old.book.passes }
     requires free { row_in 1 board.old.book ≡ None }
+    requires in_time { NoneDueLate board.old.book.state }
+    requires staffed { is_staffed board.old.book.state ≡ true }
     ensures serves { ServesSome board.old board.new }
+    ensures timely { StaysTimely board.old.book board.new.book }
     ensures why { IfErr result (λ fault. IsRefusedFor fault board.new.book) }
     ensures served { OnOk result (NoneDue board.new.book.state) }
     ensures rest { LeavesRest board.old.book board.new.book }
     ensures err { IfErr result (λ fault. RefusalLasts fault board.new.book) }
 {
+    histories_join();
+    rows_change_one_at_a_time();
     passes_act_in_steps();
     passes_leave_the_rest_to_the_listener();
     show_state(board);
@@ -304,6 +336,7 @@ pub fn retire_all<L: Link, N: Known>(board: &mut Board<L, N>)
 {
     passes_act_in_steps();
     while let Some(child) = board.can_retire() {
+        show_state(board);
         board.retire(LISTENER, child);
     }
     board.show();

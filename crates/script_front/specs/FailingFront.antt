@@ -1,7 +1,7 @@
 -- A front that plays a script, and some of whose waits and accepts fail: what contracts see of it, and what such a call leaves of it.
 use Rattle.std.specs.Prelude.{◌≡◌, ℕ, Bool, true, false, List, [], ◌∷◌, ◌++◌, Option, None, Some}
 use Rattle.mpm_base.specs.Count.{next_count}
-use Rattle.mpm_base.specs.Front.{FrontSeen}
+use Rattle.mpm_base.specs.Front.{FrontSeen, progress_of}
 use Rattle.stand_ins.specs.Calls.{next_is_listed}
 use Rattle.script_front.specs.ScriptFront.{Plays, SeenFront, new_front}
 use Rattle.mpm_base.specs.declared.front.Woke.{Woke}
@@ -55,7 +55,9 @@ after_failed_wait until quiet f =
     record f {
       told = record f.told {
         failed = false;
-        waits = f.told.waits ++ record { until = until; quiet = quiet; slots = []; answer = woke.Failed; passed = None } ∷ [];
+        waits =
+            f.told.waits
+            ++ record { began = progress_of f.told; until = until; quiet = quiet; slots = []; answer = woke.Failed; passed = None } ∷ [];
       };
     }
 

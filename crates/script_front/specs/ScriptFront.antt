@@ -35,10 +35,11 @@ pub record SeenFront : Type 0 where
 abbrev pub backlog_of : WaitingCounts → Backlog
 backlog_of counts = record { arrivals = counts.arrivals; lines = counts.lines }
 
--- a wait of it, from the slots that it gave and how it ended
+-- a wait of it, from the slots that it gave, how it ended, and how far the server was as it began
 abbrev pub wait_told : List ℕ × WaitEnd → WaitTold
 wait_told wait =
     record {
+      began = record { accepted = wait.1.accepted; read = wait.1.read; hushed = wait.1.hushed };
       until = wait.1.until;
       quiet = wait.1.quiet;
       slots = wait.0;

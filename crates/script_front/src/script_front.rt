@@ -312,6 +312,9 @@ impl ScriptFront {
         self.show();
         ready.clear();
         let end = WaitEnd {
+            accepted: self.accepted,
+            read: self.commands.read(),
+            hushed: self.hushed,
             until,
             quiet,
             answer: Woke::Failed,
@@ -369,6 +372,9 @@ impl Front for ScriptFront {
         let waiting = self.waiting();
         let answer = self.wake(until, quiet, ready);
         let end = WaitEnd {
+            accepted: self.accepted,
+            read: self.commands.read(),
+            hushed: self.hushed,
             until,
             quiet,
             answer,

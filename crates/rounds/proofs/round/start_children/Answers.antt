@@ -4,7 +4,7 @@ use Rattle.board.specs.Board.{SeenBoard}
 use Rattle.board.specs.Faults.{IsRefusedFor}
 use Rattle.worker_group.specs.Service.{LeavesRest}
 use Rattle.rounds.specs.PartsInside.{StartsSome}
-use Rattle.rounds.proofs.AskedLemmas.{asked-start}
+use Rattle.rounds.proofs.TimelyLemmas.{timely-start}
 use Rattle.rounds.proofs.ChildrenLemmas.{all-started, opens-in-order, starts-next}
 use Rattle.rounds.proofs.ListenLemmas.{may-start_child, fewer-gone}
 use Rattle.rounds.proofs.ActLemmas.{acts-added, rest_same, rest_start, starts-more, starts-none}
@@ -37,7 +37,7 @@ loop-child-preserved g c =
     record {
       starts =
           starts-more c.passes_act_in_steps.ensures.acts c.in-Some.child c.args.board.now.book c.loop-child.board.book c.start_child.new.self.book c.loop-child.invariant.starts one
-          (asked-start c.in-Some.child c.loop-child.board.book c.start_child.new.self.book one c.show.ensures.state (sym c.can_start.ensures ∙ c.in-Some.is));
+          (timely-start c.in-Some.child c.loop-child.board.book c.start_child.new.self.book one c.show.ensures.state (sym c.can_start.ensures ∙ c.in-Some.is));
       first =
           λ opening. starts-next (record { there = law.there; others = law.others; as_many = law.length }) c.args.board.now.book.base c.loop-child.board c.start_child.new.self c.in-Some.child (sym c.can_start.ensures ∙ c.in-Some.is)
           c.in_ok-start_child.ensures.ok.new_is (c.loop-child.invariant.first opening);
