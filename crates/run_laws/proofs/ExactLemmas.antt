@@ -192,7 +192,7 @@ module _ (one : OneForm) (answer : OneAnswer) (o : SeenOutcome) (is : IsOutcome 
   same-text lines text text' has has' = cc (has, has')
 
   played-config : (lines : List ScriptLine) (text : List ℕ) (s : Scripted) → HasConfig lines text
-      → HasPlayed o.call s.config s.board s.front s.store → s.front.script ≡ lines → Configures text s.config
+      → HasPlayed o.call s.config s.board s.front s.clock s.store → s.front.script ≡ lines → Configures text s.config
   played-config lines text s has kept script =
       let same = same-text lines text kept.config has (subst (λ (ls : List ScriptLine). HasConfig ls kept.config) script kept.config_is) in
       subst (λ (bs : List ℕ). Configures bs s.config) same kept.accepted

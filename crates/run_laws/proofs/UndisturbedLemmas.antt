@@ -131,13 +131,13 @@ receive-both : (clients : List (List ℕ)) (a b : List SeenEnded) → AllReceive
 receive-both clients [] b first second = second
 receive-both clients (e ∷ a) b first second = (first.0, receive-both clients a b first.1 second)
 
-pub script-served : RunLaws → (o : SeenOutcome) (s : Scripted) (played : HasPlayed o.call s.config s.board s.front s.store) → IsOutcome o
+pub script-served : RunLaws → (o : SeenOutcome) (s : Scripted) (played : HasPlayed o.call s.config s.board s.front s.clock s.store) → IsOutcome o
     → o.scripted ≡ Some s → IsUndisturbedScript o s played → EndsPlayed o s (played.has_run.folded.ended ++ s.board.ended)
 script-served laws o s played is some calm =
     let left = holds-of o.scripted s some is.left in
     let ends = holds-of o.scripted s some is.leaves.ends in
     let n = numbers_of s.config in
-    let run = ends-served laws n s.board played.has_run.run played.has_run.folded o s.front.told _ ends calm.run played.lines.done left.heeded left.unfailed
+    let run = ends-served laws n s.board played.has_run.run played.has_run.folded o s.front.told _ ends calm.run PACE left.front.heeded left.unfailed
     calm.output calm.memory in
     record {
       run = run;

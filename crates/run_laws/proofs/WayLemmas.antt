@@ -49,7 +49,7 @@ pub data PlayWays (o : SeenOutcome) (lines : List ScriptLine) : Type 0 where
       → o.call.shown ≡ Some number → PlayWays o lines
   play_unsited : o.status ≡ 9 → (text : List ℕ) (c : Configuration) (name : List ℕ) → HasConfig lines text → Configures text c
       → IsSiteRefused lines c name → o.call.shown ≡ None → PlayWays o lines
-  played : (s : Scripted) → o.scripted ≡ Some s → HasPlayed o.call s.config s.board s.front s.store → s.front.script ≡ lines → PlayWays o lines
+  played : (s : Scripted) → o.scripted ≡ Some s → HasPlayed o.call s.config s.board s.front s.clock s.store → s.front.script ≡ lines → PlayWays o lines
 
 -- so ends one that plays the script of that name: it can't be read, or is too large, or refused; or its lines are played
 pub data ScriptWays (o : SeenOutcome) (name : List ℕ) : Type 0 where
@@ -131,7 +131,7 @@ module _ (o : SeenOutcome) (is : IsOutcome o) where
   -- a run of one that opened
   played-ended : (s : Scripted) → o.scripted ≡ Some s → Ended o
   played-ended s some =
-      let kept : HasPlayed o.call s.config s.board s.front s.store = holds-of o.scripted s some is.leaves.kept in
+      let kept : HasPlayed o.call s.config s.board s.front s.clock s.store = holds-of o.scripted s some is.leaves.kept in
       play-ended s.front.script kept.plays (played s some kept refl)
 
   -- a run of a server that opened

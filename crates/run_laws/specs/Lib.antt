@@ -2,3 +2,4 @@ pub mod Exact
 pub mod Grounds
 pub mod Outcomes
 pub mod Undisturbed
+pub mod Unhurried

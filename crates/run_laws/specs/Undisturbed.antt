@@ -68,7 +68,7 @@ pub record IsUndisturbed (t : FrontTold) (b : SeenBoard) (ended : List SeenEnded
   pub links : NoneFailed ended
 
 -- nothing disturbed the run of a script: nor did a write of the output fail, and memory was found
-pub record IsUndisturbedScript (o : SeenOutcome) (s : Scripted) (played : HasPlayed o.call s.config s.board s.front s.store) : Type 0 where
+pub record IsUndisturbedScript (o : SeenOutcome) (s : Scripted) (played : HasPlayed o.call s.config s.board s.front s.clock s.store) : Type 0 where
   pub run : IsUndisturbed s.front.told s.board (played.has_run.folded.ended ++ s.board.ended)
   pub output : ¬ (Rises o.call.sink.faults o.call.sink'.faults)
   pub memory : o.status ≢ 6
@@ -140,7 +140,7 @@ pub record UndisturbedRunsAnswerEachRequest : Type 0 where
   -- the run of a script that isn't refused, and writes a configuration and a site that aren't, opens
   pub opens : (o : SeenOutcome) → IsOutcome o → WritesSite o.call → ¬ (StoreFailed o.call) → o.status ≢ 6 → IsSome o.scripted
   -- it serves each of its connections, folded ones among them
-  pub script : (o : SeenOutcome) (s : Scripted) (played : HasPlayed o.call s.config s.board s.front s.store)
+  pub script : (o : SeenOutcome) (s : Scripted) (played : HasPlayed o.call s.config s.board s.front s.clock s.store)
       → IsOutcome o
       → o.scripted ≡ Some s
       → IsUndisturbedScript o s played
