@@ -56,7 +56,7 @@ module _ (one : OneForm) (o : SeenOutcome) (is : IsOutcome o) (answer : Bool) (d
   no-server : is_some o.board ≡ true → ⊥
   no-server some =
       let b = some-of o.board some in
-      let run = holds-of o.board b.0 b.1 is.leaves.server in
+      let run = holds-of _ o.board b.0 b.1 is.leaves.server in
       let same = one o.call.words (sends d.word d.sends.name) (serves run.name) d.sends.command run.command in cc same
 
   left-front : LeavesFront o.call o.front o.front' o.status
@@ -74,7 +74,7 @@ module _ (one : OneForm) (o : SeenOutcome) (is : IsOutcome o) (answer : Bool) (d
   dialled-ends (inr (inr fails)) =
       let t = some-of o.front.told tells in
       elim fails.failed [
-        | inl unbound ↦ absurd (dialled-on o.front o.front' t.0 d.port _ answer t.1 d.dials (still-told o.front o.front' unbound.config unbound.binds))
+        | inl never ↦ absurd (dialled-on o.front o.front' t.0 d.port _ answer t.1 d.dials (still-told o.front o.front' never.config never.binds))
         | inr dialled ↦ inr (fails.status_is, dialled-once o.front o.front' t.0 d.port dialled.port _ _ answer false t.1 d.dials dialled.dials)
       ]
 
@@ -91,5 +91,5 @@ pub unopened-fails : (o : SeenOutcome) → IsOutcome o → IsNone o.board → o.
 unopened-fails o is none four =
     elim (is.causes.front_failed four) [
       | inl some ↦ absurd (both_ways (is_some o.board) none some)
-      | inr other ↦ elim other [ inl unbound ↦ unbound.unbound.binds.faults | inr undialled ↦ undialled.dialled.dials.faults ]
+      | inr other ↦ elim other [ inl never ↦ never.unbound.binds.faults | inr other ↦ other.dialled.dials.faults ]
     ]

@@ -38,8 +38,8 @@ serve-named : (o : SeenOutcome) (name : List ℕ) → ServeWays o name → Named
 serve-named o name (serve_unconfigured way) = inl way
 serve-named o name (unloaded three c accepted failed) = inr (c, had-accepted o.call name c accepted)
 serve-named o name (serve_unsited nine c for accepted refused shows) = inr (c, had-accepted o.call name c accepted)
-serve-named o name (unbound four c site accepted loads front) = inr (c, had-accepted o.call name c accepted)
-serve-named o name (served b c site some accepted loads) = inr (c, accepted)
+serve-named o name (unbound four c site accepted loaded front) = inr (c, had-accepted o.call name c accepted)
+serve-named o name (served b c site some accepted loaded) = inr (c, accepted)
 
 test-named : (o : SeenOutcome) (name : List ℕ) → TestWays o name → NamedWays o name
 test-named o name (test_unconfigured way) = inl way
@@ -82,7 +82,7 @@ module _ (one : OneForm) (answer : OneAnswer) (o : SeenOutcome) (is : IsOutcome 
   missing-config name t told none (inl (config_unread three unread)) =
       elim unread.cause [ inl missing ↦ inl (three, missing.0) | inr failed ↦ inr (inr (three, failed.1)) ]
   missing-config name t told none (inl (config_large one refused shows)) =
-      let large = holds-of o.call.store.told t told refused.large in absurd (cc (large.1, none))
+      let large = holds-of _ o.call.store.told t told refused.large in absurd (cc (large.1, none))
   missing-config name t told none (inl (config_unfit one other number why has refused shows)) =
       absurd (missing-file o.call name other t told none has.file)
   missing-config name t told none (inr accepted) = absurd (missing-file o.call name accepted.1.bytes t told none accepted.1.file)
@@ -92,7 +92,7 @@ module _ (one : OneForm) (answer : OneAnswer) (o : SeenOutcome) (is : IsOutcome 
   missing-script name t told none (script_unread three unread) =
       elim unread.cause [ inl missing ↦ inl (three, missing.0) | inr failed ↦ inr (inr (three, failed.1)) ]
   missing-script name t told none (script_large eight refused shows) =
-      let large = holds-of o.call.store.told t told refused.large in absurd (cc (large.1, none))
+      let large = holds-of _ o.call.store.told t told refused.large in absurd (cc (large.1, none))
   missing-script name t told none (script_unfit eight other line why has refused shows) =
       absurd (missing-file o.call name other t told none has.file)
   missing-script name t told none (plays_on other lines has script way) = absurd (missing-file o.call name other t told none has.file)
@@ -270,11 +270,11 @@ module _ (one : OneForm) (answer : OneAnswer) (o : SeenOutcome) (is : IsOutcome 
 
   by-site : (c : Configuration) (t : StoreTold) (by : ServesBy o.call c t) (c' : Configuration) (site : SeenSite) → HadConfigAccepted o.call by.name c'
       → LoadsSite o.call c' site → (site : SeenSite) × IsSiteOf (order_of c) t.files site × IsWithinLimits site
-  by-site c t by c' site had loads = (
+  by-site c t by c' site had loaded = (
     site,
     subst (λ (x : Configuration). IsSiteOf (order_of x) t.files site) (by-config c t by c' had)
-        (holds-of o.call.store.told t by.told loads.is_site),
-    loads.within,
+        (holds-of _ o.call.store.told t by.told loaded.is_site),
+    loaded.within,
   )
 
   served-config : (c : Configuration) (t : StoreTold) (by : ServesBy o.call c t) → ServeWays o by.name
@@ -291,13 +291,13 @@ module _ (one : OneForm) (answer : OneAnswer) (o : SeenOutcome) (is : IsOutcome 
         (
           name,
           subst (λ (x : Configuration). IsSiteRefusedOf t.files x name) (by-config c t by c' (had-accepted o.call by.name c' accepted))
-              (holds-of o.call.store.told t by.told refused.lacks),
+              (holds-of _ o.call.store.told t by.told refused.lacks),
         ),
       ))
-  served-config c t by (unbound four c' site accepted loads front) =
-      inr (inr (inr (four, front), by-site c t by c' site (had-accepted o.call by.name c' accepted) loads))
-  served-config c t by (served b c' site some had loads) =
-      inr (inr (inl (ap is_some some), by-site c t by c' site had loads))
+  served-config c t by (unbound four c' site accepted loaded front) =
+      inr (inr (inr (four, front), by-site c t by c' site (had-accepted o.call by.name c' accepted) loaded))
+  served-config c t by (served b c' site some had loaded) =
+      inr (inr (inl (ap is_some some), by-site c t by c' site had loaded))
 
   pub site-ends : HasNoSite o.call → EndsShowing o 9 None
   site-ends (inl writes) =

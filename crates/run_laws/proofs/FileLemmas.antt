@@ -26,25 +26,25 @@ use Rattle.run_laws.proofs.WayLemmas.{holds-of}
 -- a file of a store that tells its files has the bytes that it was read with
 pub same-bytes : (call : Call) (name bytes other : List ℕ) (t : StoreTold) → call.store.told ≡ Some t → bytes_of name t.files ≡ Some bytes
     → IfSome call.store.told (λ t. bytes_of name t.files ≡ Some other) → other ≡ bytes
-same-bytes call name bytes other t told found file = let there = holds-of call.store.told t told file in cc (there, found)
+same-bytes call name bytes other t told found file = let there = holds-of _ call.store.told t told file in cc (there, found)
 
 -- one that is missing has none
 pub missing-file : (call : Call) (name other : List ℕ) (t : StoreTold) → call.store.told ≡ Some t → bytes_of name t.files ≡ None
     → IfSome call.store.told (λ t. bytes_of name t.files ≡ Some other) → ⊥
-missing-file call name other t told none file = let there = holds-of call.store.told t told file in cc (there, none)
+missing-file call name other t told none file = let there = holds-of _ call.store.told t told file in cc (there, none)
 
 -- one that is there couldn't be read as a call of the store failed
 pub unread-fails : (call : Call) (name bytes : List ℕ) → TellsFile call name bytes → IsFileUnread call name → StoreFailed call
 unread-fails call name bytes file unread =
     elim unread.cause [
-      | inl missing ↦ let none = holds-of call.store.told file.t file.told missing.1.none in absurd (cc (none, file.found))
+      | inl missing ↦ let none = holds-of _ call.store.told file.t file.told missing.1.none in absurd (cc (none, file.found))
       | inr failed ↦ failed.1
     ]
 
 -- one that is refused for its size is too large
 pub large-file : (most : ℕ) (call : Call) (name bytes : List ℕ) → TellsFile call name bytes → IsRefusedAsLarge most call name → most < length bytes
 large-file most call name bytes file refused =
-    let large = holds-of call.store.told file.t file.told refused.large in
+    let large = holds-of _ call.store.told file.t file.told refused.large in
     let same : large.0 ≡ bytes = cc (large.1, file.found) in
     subst (λ (bs : List ℕ). most < length bs) same large.2
 

@@ -114,7 +114,7 @@ pub uncounted : (test : Event → Bool) (history : List Entry) → list_any (λ 
 uncounted test [] none = refl
 uncounted test (e ∷ history) none =
     let parts = or_parts (test e.event) (list_any (λ (x : Entry). test x.event) history) none in
-    let here : cond (test e.event) 1 0 ≡ 0 = ap (λ (b : Bool). cond b 1 0) parts.0 in
+    let here : ◌≡◌ {A = ℕ} (cond (test e.event) 1 0) 0 = ap (λ (b : Bool). cond b 1 0) parts.0 in
     let rest = uncounted test history parts.1 in
     omega (arith, sum_by-cons (λ (x : Entry). cond (test x.event) 1 0) e history, here, rest)
 

@@ -62,10 +62,10 @@ from-some (Some x) holds = holds x refl
 
 pub played-exactly : (o : SeenOutcome) → IsOutcome o → IfSome o.scripted (λ s. EndsExactly o (warnings_of s.config) s.board)
 played-exactly o is =
-    from-some o.scripted (λ s some. ends-exactly o (warnings_of s.config) s.board (holds-of o.scripted s some is.leaves.ends))
+    from-some o.scripted (λ s some. ends-exactly o (warnings_of s.config) s.board (holds-of _ o.scripted s some is.leaves.ends))
 
 pub served-exactly : (o : SeenOutcome) → IsOutcome o
     → IfSome o.board (λ b. (run : HasRunServer o.call o.front o.front' o.clock' o.status b) × EndsExactly o (warnings_of run.config) b)
 served-exactly o is =
     from-some o.board
-    (λ b some. let run = holds-of o.board b some is.leaves.server in (run, ends-exactly o (warnings_of run.config) b run.ends))
+    (λ b some. let run = holds-of _ o.board b some is.leaves.server in (run, ends-exactly o (warnings_of run.config) b run.ends))

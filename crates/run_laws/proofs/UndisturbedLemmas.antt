@@ -134,8 +134,8 @@ receive-both clients (e ∷ a) b first second = (first.0, receive-both clients a
 pub script-served : RunLaws → (o : SeenOutcome) (s : Scripted) (played : HasPlayed o.call s.config s.board s.front s.clock s.store) → IsOutcome o
     → o.scripted ≡ Some s → IsUndisturbedScript o s played → EndsPlayed o s (played.has_run.folded.ended ++ s.board.ended)
 script-served laws o s played is some calm =
-    let left = holds-of o.scripted s some is.left in
-    let ends = holds-of o.scripted s some is.leaves.ends in
+    let left = holds-of _ o.scripted s some is.left in
+    let ends = holds-of _ o.scripted s some is.leaves.ends in
     let n = numbers_of s.config in
     let run = ends-served laws n s.board played.has_run.run played.has_run.folded o s.front.told _ ends calm.run PACE left.front.heeded left.unfailed
     calm.output calm.memory in
@@ -162,8 +162,8 @@ failed-rises old new s (inr (inr (inr (inr (inr overdue))))) going = absurd (cc 
 pub server-served : RunLaws → (o : SeenOutcome) (t : FrontTold) (b : SeenBoard) (run : HasRunServer o.call o.front o.front' o.clock' o.status b)
     → o.front'.told ≡ Some t → IsUndisturbedServer o t b run → EndsServed o b (run.has_run.folded.ended ++ b.ended)
 server-served laws o t b run tells calm =
-    let front = holds-of o.front'.told t tells run.outside.front in
-    let lines = holds-of o.front'.told t tells run.lines in
+    let front = holds-of _ o.front'.told t tells run.outside.front in
+    let lines = holds-of _ o.front'.told t tells run.lines in
     ends-served laws (numbers_of run.config) b run.has_run.run run.has_run.folded o t _ run.ends calm.run lines.done front.heeded
     (λ going. calm.front (failed-rises o.front o.front' b.book.state run.outside.stopped going)) calm.output calm.memory
 

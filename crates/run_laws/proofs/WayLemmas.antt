@@ -38,8 +38,8 @@ some-of None some = absurd (cc some)
 some-of (Some x) some = (x, refl)
 
 -- what holds of its value, where it has this one
-pub holds-of : {X : Type 0} {P : X → Type 0} (o : Option X) (x : X) → o ≡ Some x → IfSome o P → P x
-holds-of {P = P} o x is holds = subst (λ (y : Option _). IfSome y P) is holds
+pub holds-of : {X : Type 0} (P : X → Type 0) (o : Option X) (x : X) → o ≡ Some x → IfSome o P → P x
+holds-of P o x is holds = subst (λ (y : Option _). IfSome y P) is holds
 
 -- ## How the lines of a script end
 
@@ -131,13 +131,13 @@ module _ (o : SeenOutcome) (is : IsOutcome o) where
   -- a run of one that opened
   played-ended : (s : Scripted) → o.scripted ≡ Some s → Ended o
   played-ended s some =
-      let kept : HasPlayed o.call s.config s.board s.front s.clock s.store = holds-of o.scripted s some is.leaves.kept in
+      let kept : HasPlayed o.call s.config s.board s.front s.clock s.store = holds-of _ o.scripted s some is.leaves.kept in
       play-ended s.front.script kept.plays (played s some kept refl)
 
   -- a run of a server that opened
   served-ended : (b : SeenBoard) → o.board ≡ Some b → Ended o
   served-ended b some =
-      let run : HasRunServer o.call o.front o.front' o.clock' o.status b = holds-of o.board b some is.leaves.server in
+      let run : HasRunServer o.call o.front o.front' o.clock' o.status b = holds-of _ o.board b some is.leaves.server in
       record { form = serves run.name; words = run.command; way = served b run.config run.site some run.accepted run.loads }
 
   -- one that has no configuration

@@ -74,8 +74,8 @@ pub record IsUndisturbedScript (o : SeenOutcome) (s : Scripted) (played : HasPla
   pub memory : o.status ≢ 6
 
 -- nothing disturbed the run of a server over a front that tells: besides, no wait of it failed
-pub record IsUndisturbedServer (o : SeenOutcome) (t : FrontTold) (b : SeenBoard) (run : HasRunServer o.call o.front o.front' o.clock' o.status b) : Type 0 where
-  pub run : IsUndisturbed t b (run.has_run.folded.ended ++ b.ended)
+pub record IsUndisturbedServer (o : SeenOutcome) (t : FrontTold) (b : SeenBoard) (ran : HasRunServer o.call o.front o.front' o.clock' o.status b) : Type 0 where
+  pub run : IsUndisturbed t b (ran.has_run.folded.ended ++ b.ended)
   pub front : ¬ (Rises o.front.counts.faults o.front'.counts.faults)
   pub output : ¬ (Rises o.call.sink.faults o.call.sink'.faults)
   pub memory : o.status ≢ 6
