@@ -1,4 +1,5 @@
 pub mod BrokenLemmas
+pub mod BroughtLemmas
 pub mod CommandLemmas
 pub mod CommandlessLemmas
 pub mod EditionLemmas
@@ -8,8 +9,9 @@ pub mod FoldedRunLemmas
 pub mod FoldedTurnLemmas
 pub mod FrontCallLemmas
 pub mod FrontLemmas
+pub mod HandedLemmas
 pub mod HeedLemmas
-pub mod InformLemmas
+pub mod IntakeLemmas
 pub mod LeftLemmas
 pub mod LineLemmas
 pub mod LinkLemmas
@@ -23,15 +25,16 @@ pub mod PatientLemmas
 pub mod PlanLemmas
 pub mod RestartLemmas
 pub mod RoundLemmas
+pub mod RoundShareLemmas
 pub mod RunLemmas
 pub mod ServedLemmas
+pub mod ShareLemmas
 pub mod StandingFoldLemmas
 pub mod StandingLemmas
 pub mod StandingPartLemmas
 pub mod StandingTurnLemmas
 pub mod StartedFirstLemmas
 pub mod StartedLemmas
-pub mod StartlessLemmas
 pub mod StoodLemmas
 pub mod StopLemmas
 pub mod TakenLemmas

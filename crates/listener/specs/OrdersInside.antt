@@ -110,6 +110,11 @@ EndingBreaks known c stop_ms front front' old new =
     (f : FrontSeen) (store : StoreSeen) → Commands f front (Some (command_word word.GracefulStop))
     → StandsBroken known c (standing stop_ms store f old) (standing stop_ms store front' new)
 
+-- listening was stopped, or the front is as it was
+abbrev pub IsHushedIf : Bool → FrontSeen → FrontSeen → Type 0
+IsHushedIf true old new = new ≡ after_hush old
+IsHushedIf false old new = new ≡ old
+
 -- the front is as it was, or listening was stopped
 abbrev pub MayHush : FrontSeen → FrontSeen → Type 0
 MayHush old new = (new ≡ old) ⊎ (new ≡ after_hush old)

@@ -2,7 +2,7 @@
 -- answer is later than all before; then the slots that the wait gave are signalled; then the command lines that are read are done; then
 -- children are let go of and started; and then the connections are taken that the front hands out. Nothing of it is made behind the next
 -- wait, and no child is let go of or started between two parts before that.
-use Rattle.std.specs.Prelude.{◌≡◌, ◌⊎◌, ◌<◌, ◌+◌, ◌-◌, ℕ, All, List, [], ◌∷◌, ◌++◌, drop, map, max, replicate, take, Option, None, Some, is_some, IfSome}
+use Rattle.std.specs.Prelude.{◌≡◌, ◌⊎◌, ◌<◌, ◌≤◌, ◌+◌, ◌-◌, ℕ, List, [], ◌∷◌, ◌++◌, drop, map, max, replicate, take, Option, None, Some, is_some, IfSome}
 use Rattle.std.specs.List.{flat_map, list_any}
 use Rattle.mpm_base.specs.Count.{greatest_count}
 use Rattle.mpm_base.specs.Front.{FrontTold, Progress, WaitTold, gives_moment, progress_of}
@@ -99,10 +99,13 @@ abbrev pub lines_between : List (List ℕ) → ℕ → ℕ → List (List ℕ)
 lines_between lines from to = take (to - from) (drop from lines)
 
 -- the share is that of the wait, where the server was so far with the front when the next wait began, or in the end: the clock was asked
--- exactly where the wait gave a moment, and the lines and connections are those that were read and handed out between the two
+-- exactly where the wait gave a moment, and the lines and connections are those that were read and handed out between the two. When the wait
+-- began listening was stopped exactly where a line that was read by then asks for a graceful stop, and no line was given back since
 pub record IsShareOf (rows : ℕ) (t : FrontTold) (wait : WaitTold) (next : Progress) (s : Share) : Type 0 where
   pub answer : is_some s.answer ≡ gives_moment wait.answer
   pub signals : s.signals ≡ known_slots rows wait.slots
+  pub reads : t.read < greatest_count → wait.began.read ≤ next.read
+  pub hushed : t.read < greatest_count → wait.began.hushed ≡ list_any asks_to_end (take wait.began.read t.lines)
   pub orders : t.read < greatest_count → s.orders ≡ asked_by wait.began.hushed (lines_between t.lines wait.began.read next.read)
   pub handed : t.accepted < greatest_count → wait.began.accepted + s.handed ≡ next.accepted
 
@@ -117,17 +120,11 @@ AreSharesOf rows t [] shares = shares ≡ []
 AreSharesOf rows t (wait ∷ waits) [] = ⊥
 AreSharesOf rows t (wait ∷ waits) (s ∷ shares) = IsShareOf rows t wait (progress_at t waits) s × AreSharesOf rows t waits shares
 
--- listening was stopped when the wait began exactly where a line that was read by then asks for a graceful stop
-abbrev pub IsHushedInTime : List (List ℕ) → WaitTold → Type 0
-IsHushedInTime lines wait = wait.began.hushed ≡ list_any asks_to_end (take wait.began.read lines)
-
--- the shares are those of all waits of the front, before the first of which no line was read and no connection was handed out; and
--- listening was stopped with the line that asks for it, while fewer were read than the greatest count
+-- the shares are those of all waits of the front, before the first of which no line was read and no connection was handed out
 pub record AreSharesOfAll (rows : ℕ) (t : FrontTold) (shares : List Share) : Type 0 where
   pub unread : (progress_at t t.waits).read ≡ 0
   pub untaken : (progress_at t t.waits).accepted ≡ 0
   pub each : AreSharesOf rows t t.waits shares
-  pub hushed : t.read < greatest_count → All (IsHushedInTime t.lines) t.waits
 
 -- the answer, where there is one
 abbrev pub answer_if : Option ℕ → List ℕ

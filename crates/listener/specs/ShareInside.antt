@@ -18,9 +18,10 @@ use Rattle.conn_machine.specs.declared.state.State.{State}
 
 -- ## Command lines
 
--- the lines that were read ask for this
-abbrev pub ReadsFor : List CommandWord → FrontTold → FrontTold → Type 0
-ReadsFor words t t' = t'.read < greatest_count → words ≡ asked_by t.hushed (lines_between t'.lines t.read t'.read)
+-- the lines that were read ask for this, and none was given back
+pub record ReadsFor (words : List CommandWord) (t t' : FrontTold) : Type 0 where
+  pub reads : t'.read < greatest_count → t.read ≤ t'.read
+  pub asks : t'.read < greatest_count → words ≡ asked_by t.hushed (lines_between t'.lines t.read t'.read)
 
 -- listening was stopped where one of them asks for a graceful stop
 abbrev pub HushesFor : FrontTold → FrontTold → Type 0
@@ -45,13 +46,13 @@ DoesAllButOne told told' old new = (last : CommandWord) × DoesAsked (last ∷ [
 -- ## Connections
 
 -- so many were handed out
-abbrev pub Hands : ℕ → FrontTold → FrontTold → Type 0
-Hands handed t t' = t'.accepted < greatest_count → t.accepted + handed ≡ t'.accepted
+abbrev pub HandsMany : ℕ → FrontTold → FrontTold → Type 0
+HandsMany handed t t' = t'.accepted < greatest_count → t.accepted + handed ≡ t'.accepted
 
 -- connections were handed out, and taken, but for so many at the end
 pub record TakesHanded (missing : ℕ) (told told' : Option FrontTold) (old new : SeenBook) : Type 0 where
   pub handed : ℕ
-  pub counted : TellsOn (Hands handed) told told'
+  pub counted : TellsOn (HandsMany handed) told told'
   pub made : brought new.history ++ replicate missing taken ≡ brought old.history ++ replicate handed taken
 
 -- the last one may not have been taken
@@ -83,7 +84,7 @@ pub record ComesWith (answer : ℕ) (slots : List ℕ) (rows : ℕ) (s : Share) 
   pub answer_is : s.answer ≡ Some answer
   pub signals : s.signals ≡ known_slots rows slots
   pub asked : TellsOn (ReadsFor s.orders) told told'
-  pub counted : TellsOn (Hands s.handed) told told'
+  pub counted : TellsOn (HandsMany s.handed) told told'
 
 -- what a round that ended the turns for this, or didn't, made of a share at this moment: before it this was made, and now that
 abbrev pub MakesFor : Option End → ℕ → Share → List Brought → List Brought → Type 0

@@ -19,7 +19,7 @@ ghost use Rattle.listener.specs.RoundInside.{BreaksOff, EndsTaking, FailsTaking,
 ghost use Rattle.rounds.specs.PartsInside.{ServesSome, StartsSome, StaysTimely};
 ghost use Rattle.rounds.specs.Timely.{is_at_its_end, is_staffed};
 ghost use Rattle.listener.specs.Pace.{brought, taken};
-ghost use Rattle.listener.specs.ShareInside.{CutsShare, GoesOnInTime, HushesFor, MakesOneAtMost, MakesShare, TakesAllButOne, TakesHanded};
+ghost use Rattle.listener.specs.ShareInside.{CutsShare, GoesOnInTime, HandsMany, HushesFor, MakesOneAtMost, MakesShare, TakesAllButOne, TakesHanded};
 ghost use Rattle.conn_machine.specs.declared.state.Going.TheVariants.{Serving};
 ghost use Rattle.listener.specs.StandingInside.{StandsBroken, StandsOn, owed_at, standing};
 ghost use Rattle.rounds.specs.Started.{BeginsWithStarts};
@@ -30,7 +30,9 @@ use crate::folding::fold_history;
 use crate::listener_state::Listener;
 use board::BoardFault;
 use board::laws::generations_keep_their_editions;
-use conn_machine::laws_of_runs::{histories_go_on_by_one_entry, histories_join};
+use conn_machine::laws_of_runs::{
+    histories_go_on_by_one_entry, histories_join, rows_change_one_at_a_time,
+};
 use conn_state::{Conn, Known};
 use file_table::Site;
 use mpm_base::{Arrival, Bell, Clock, Front, Gate, Link, Moment, Ready, Store, Woke};
@@ -168,6 +170,7 @@ impl<'a, 'c, L: Link + Send, N: Known, B: Bell, G: Gate> Listener<'a, 'c, L, N, 
         requires staffed { is_staffed self.old.board.book.state ≡ true }
         ensures serves { ServesSome self.old.board self.new.board }
         ensures timely { StaysTimely self.old.board.book self.new.board.book }
+        ensures staffed { is_staffed self.new.board.book.state ≡ true }
         ensures rest { LeavesRest self.old.board.book self.new.board.book }
         ensures until { IfOk result
             (λ rest. rest.until ≡ next_deadline_of self.old.board.book.state) }
@@ -253,6 +256,7 @@ impl<'a, 'c, L: Link + Send, N: Known, B: Bell, G: Gate> Listener<'a, 'c, L, N, 
         ensures err { IfErr result (λ fault. RefusalLasts fault self.new.board.book) }
     {
         generations_keep_their_editions();
+        histories_join();
         passes_act_in_steps();
         pass_time(&mut self.board, moment)?;
         if is_overdue(&self.board) {
@@ -260,6 +264,7 @@ impl<'a, 'c, L: Link + Send, N: Known, B: Bell, G: Gate> Listener<'a, 'c, L, N, 
         }
         signal_all(&mut self.board, self.ready.slots())?;
         let_go_of_conns(&mut self.board, !self.ready.is_full())?;
+        show_state(&self.board);
         let asked = self.heed(rt, store, front)?;
         if asked {
             return Ok(Some(End::Asked));
@@ -269,6 +274,7 @@ impl<'a, 'c, L: Link + Send, N: Known, B: Bell, G: Gate> Listener<'a, 'c, L, N, 
             return Ok(Some(End::Gone));
         }
         start_children(&mut self.board)?;
+        show_state(&self.board);
         self.take_all(rt, front)?;
         Ok(None)
     }
@@ -293,6 +299,9 @@ impl<'a, 'c, L: Link + Send, N: Known, B: Bell, G: Gate> Listener<'a, 'c, L, N, 
             (F.seen front.new).told self.old.board.book self.new.board.book) }
         ensures cut { OnErr result (TakesAllButOne (F.seen front.old).told
             (F.seen front.new).told self.old.board.book self.new.board.book) }
+        ensures timely { StaysTimely self.old.board.book self.new.board.book }
+        ensures children { self.new.board.book.state.children
+            ≡ self.old.board.book.state.children }
         ensures in_time { NoneDueLate self.old.board.book.state
             → NoneDueLate self.new.board.book.state }
         ensures going { self.new.board.book.state.going ≡ self.old.board.book.state.going }
@@ -353,6 +362,10 @@ impl<'a, 'c, L: Link + Send, N: Known, B: Bell, G: Gate> Listener<'a, 'c, L, N, 
         ensures makes { OnOk result (brought self.new.board.book.history
             ≡ brought self.old.board.book.history ++ taken ∷ []) }
         ensures made { OnErr result (MakesOneAtMost self.old.board.book self.new.board.book) }
+        ensures handed { TellsOn (HandsMany 0) (F.seen front.old).told (F.seen front.new).told }
+        ensures timely { StaysTimely self.old.board.book self.new.board.book }
+        ensures children { self.new.board.book.state.children
+            ≡ self.old.board.book.state.children }
         ensures in_time { NoneDueLate self.old.board.book.state
             → NoneDueLate self.new.board.book.state }
         ensures going { self.new.board.book.state.going ≡ self.old.board.book.state.going }
@@ -376,8 +389,11 @@ impl<'a, 'c, L: Link + Send, N: Known, B: Bell, G: Gate> Listener<'a, 'c, L, N, 
         ensures err { IfErr result (λ fault. RefusalLasts fault self.new.board.book) }
     {
         histories_go_on_by_one_entry();
+        histories_join();
         generations_keep_their_editions();
         passes_act_in_steps();
+        rows_change_one_at_a_time();
+        show_state(&self.board);
         let mut link = link;
         let taken = match accept(&mut self.board) {
             Ok(taken) => taken,
@@ -398,7 +414,9 @@ impl<'a, 'c, L: Link + Send, N: Known, B: Bell, G: Gate> Listener<'a, 'c, L, N, 
             link,
         );
         conn.show();
-        settle(&mut self.board, conn, watched)
+        let left = settle(&mut self.board, conn, watched);
+        show_state(&self.board);
+        left
     }
 }
 

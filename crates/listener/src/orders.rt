@@ -15,13 +15,13 @@ ghost use Rattle.board.specs.Faults.{IsRefusedFor};
 ghost use Rattle.worker_group.specs.Service.{IsUp, RefusalLasts};
 ghost use Rattle.listener.specs.ListenInside.{Follows, HasNoneToHeed, HasOneToHeed, HasReadAll, IsInStep, OnlyReads, StaysWatching};
 ghost use Rattle.listener.specs.Orders as spec;
-ghost use Rattle.listener.specs.OrdersInside.{BreaksBehind, Carries, EndingBreaks, EndingStands, KnowsComing, MakesOrders, MayHush, Refuses, ServesNewest, StandsBehind, end_if, owed_by};
+ghost use Rattle.listener.specs.OrdersInside.{BreaksBehind, Carries, EndingBreaks, EndingStands, IsHushedIf, KnowsComing, MakesOrders, MayHush, Refuses, ServesNewest, StandsBehind, end_if, owed_by};
 ghost use Rattle.listener.specs.OrdersInside as inside;
 ghost use Rattle.listener.specs.RoundInside.{DoesOrders, DoesUntil};
 ghost use Rattle.listener.specs.ShareInside.{DoesAllButOne, DoesAsked, HushesFor, stop_if};
 ghost use Rattle.listener.specs.StandingInside.{StandsBroken, StandsOn, standing};
 ghost use Rattle.rounds.specs.PartsInside.{StaysTimely};
-ghost use Rattle.rounds.specs.Timely.{is_staffed};
+ghost use Rattle.rounds.specs.TableInside.{StandsInTime};
 
 use crate::edition::LoadedEdition;
 use crate::listener_state::Listener;
@@ -58,7 +58,7 @@ impl<'a, 'c, L: Link + Send, N: Known, B: Bell, G: Gate> Listener<'a, 'c, L, N, 
         requires up { IsUp self.old.board.book.state.going }
         requires step { IsInStep (F.seen front.old).told self.old.board.book.state }
         requires heeded { IfSome (F.seen front.old).told HasNoneToHeed }
-        requires staffed { is_staffed self.old.board.book.state ≡ true }
+        requires in_time { StandsInTime self.old.board.book.state }
         ensures does { OnOk result (DoesOrders self.old.board.book self.new.board.book) }
         ensures until { IfErr result
             (λ fault. DoesUntil fault self.old.board.book self.new.board.book) }
@@ -70,7 +70,7 @@ impl<'a, 'c, L: Link + Send, N: Known, B: Bell, G: Gate> Listener<'a, 'c, L, N, 
         ensures hushes { OnOk result
             (TellsOn HushesFor (F.seen front.old).told (F.seen front.new).told) }
         ensures timely { StaysTimely self.old.board.book self.new.board.book }
-        ensures staffed { is_staffed self.new.board.book.state ≡ true }
+        ensures in_time { StandsInTime self.new.board.book.state }
         ensures stands { let old = standing self.old.edition.stop_ms
             (D.seen store.old) (F.seen front.old) self.old.board.book in
             let new = standing self.new.edition.stop_ms
@@ -125,12 +125,12 @@ impl<'a, 'c, L: Link + Send, N: Known, B: Bell, G: Gate> Listener<'a, 'c, L, N, 
             (D.seen store.old).told }
         requires serves { ServesNewest N.known self.old.board.book self.old.edition }
         requires up { IsUp self.old.board.book.state.going }
-        requires staffed { is_staffed self.old.board.book.state ≡ true }
+        requires in_time { StandsInTime self.old.board.book.state }
         ensures does { OnOk result (DoesOrders self.old.board.book self.new.board.book) }
         ensures makes { OnOk result (MakesOrders (word.Graceful ∷ [])
             self.old.board.book self.new.board.book) }
         ensures timely { StaysTimely self.old.board.book self.new.board.book }
-        ensures staffed { is_staffed self.new.board.book.state ≡ true }
+        ensures in_time { StandsInTime self.new.board.book.state }
         ensures stands { OnOk result (StandsBehind N.known self.old.config word.Graceful
             (λ f. standing self.old.edition.stop_ms (D.seen store.old) f self.old.board.book)
             (λ f. standing self.new.edition.stop_ms (D.seen store.new) f self.new.board.book)) }
@@ -224,13 +224,13 @@ impl<'a, 'c, L: Link + Send, N: Known, B: Bell, G: Gate> Listener<'a, 'c, L, N, 
         requires free { row_in 0 self.old.board.book ≡ None }
         requires up { IsUp self.old.board.book.state.going }
         requires step { IsInStep (F.seen front.old).told self.old.board.book.state }
-        requires staffed { is_staffed self.old.board.book.state ≡ true }
+        requires in_time { StandsInTime self.old.board.book.state }
         ensures does { OnOk result (DoesOrders self.old.board.book self.new.board.book) }
         ensures makes { OnOk result
             (MakesOrders (end_if (is_serving self.old.board.book.state.going))
             self.old.board.book self.new.board.book) }
         ensures timely { StaysTimely self.old.board.book self.new.board.book }
-        ensures staffed { is_staffed self.new.board.book.state ≡ true }
+        ensures in_time { StandsInTime self.new.board.book.state }
         ensures stands { OnOk result (EndingStands N.known self.old.config self.old.edition.stop_ms
             (F.seen front.old) (F.seen front.new) self.old.board.book self.new.board.book) }
         ensures broken { OnErr result (EndingBreaks N.known self.old.config self.old.edition.stop_ms
@@ -242,6 +242,10 @@ impl<'a, 'c, L: Link + Send, N: Known, B: Bell, G: Gate> Listener<'a, 'c, L, N, 
         ensures orders { orders_in self.new.board.book ≡ orders_in self.old.board.book }
         ensures step { IsInStep (F.seen front.new).told self.new.board.book.state }
         ensures hushed { MayHush (F.seen front.old) (F.seen front.new) }
+        ensures hushes { OnOk result (IsHushedIf (is_serving self.old.board.book.state.going)
+            (F.seen front.old) (F.seen front.new)) }
+        ensures serving { OnErr result (is_serving self.old.board.book.state.going ≡ true) }
+        ensures kept { OnErr result (F.seen front.new ≡ F.seen front.old) }
         ensures same { OnErr result (self.new ≡ self.old) }
         ensures others { self.new ≡ record self.old { board = self.new.board } }
         ensures why { IfErr result (λ fault. IsRefusedFor fault self.old.board.book) }

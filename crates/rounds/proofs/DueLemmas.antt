@@ -47,21 +47,21 @@ pub record KeepsOthers (slot : ℕ) (a b : State) : Type 0 where
 others-same : (slot : ℕ) (a : State) → KeepsOthers slot a a
 others-same slot a = record { rows = λ other apart. refl; signals = λ other apart. refl; moment = refl }
 
-others-more : (slot : ℕ) (a b c : State) → KeepsOthers slot a b → KeepsOthers slot b c → KeepsOthers slot a c
+pub others-more : (slot : ℕ) (a b c : State) → KeepsOthers slot a b → KeepsOthers slot b c → KeepsOthers slot a c
 others-more slot a b c first second = record {
   rows = λ other apart. second.rows other apart ∙ first.rows other apart;
   signals = λ other apart. second.signals other apart ∙ first.signals other apart;
   moment = second.moment ∙ first.moment;
 }
 
-set-other : (signals : List Bool) (slot other : ℕ) (b : Bool) → other ≢ slot → slice_index_or (slice_set signals slot b) other false ≡ slice_index_or signals other false
+pub set-other : (signals : List Bool) (slot other : ℕ) (b : Bool) → other ≢ slot → slice_index_or (slice_set signals slot b) other false ≡ slice_index_or signals other false
 set-other [] slot other b apart = refl
 set-other (x ∷ signals) zero zero b apart = absurd (apart refl)
 set-other (x ∷ signals) zero (suc other) b apart = refl
 set-other (x ∷ signals) (suc slot) zero b apart = refl
 set-other (x ∷ signals) (suc slot) (suc other) b apart = set-other signals slot other b (λ same. apart (ap (λ (n : ℕ). suc n) same))
 
-set-false : (signals : List Bool) (slot : ℕ) → slice_index_or (slice_set signals slot false) slot false ≡ false
+pub set-false : (signals : List Bool) (slot : ℕ) → slice_index_or (slice_set signals slot false) slot false ≡ false
 set-false [] slot = refl
 set-false (x ∷ signals) zero = refl
 set-false (x ∷ signals) (suc slot) = set-false signals slot
@@ -124,13 +124,13 @@ changed-by (x ∷ rows) zero change r at = let same : change x ≡ r = cc at in 
 changed-by (x ∷ rows) (suc slot) change r at = changed-by rows slot change r at
 
 -- how it is left
-left-others : LeavesOthers → (s : State) (name : ConnName) (way : Exit) → KeepsOthers name.slot s (state_by s (left_events way name))
+pub left-others : LeavesOthers → (s : State) (name : ConnName) (way : Exit) → KeepsOthers name.slot s (state_by s (left_events way name))
 left-others law s name (exit.Park kind) = others-park law s name kind
 left-others law s name (exit.Linger why) = others-linger law s name why
 left-others law s name (exit.Close why how) = others-close law s name why how
 left-others law s name (exit.GiveUp fault) = others-close law s name _ _
 
-left-quiet : (s : State) (name : ConnName) (way : Exit) → is_signalled s name.slot ≡ false → IsLeftQuiet name.slot (state_by s (left_events way name))
+pub left-quiet : (s : State) (name : ConnName) (way : Exit) → is_signalled s name.slot ≡ false → IsLeftQuiet name.slot (state_by s (left_events way name))
 left-quiet s name (exit.Park kind) none = inl none
 left-quiet s name (exit.Linger why) none =
     inr (λ r at.
@@ -142,7 +142,7 @@ left-quiet s name (exit.GiveUp fault) none = inl (set-false s.signals name.slot)
 -- ## A service
 
 -- what a service of the connection of that name leaves
-record LeavesQuiet (name : ConnName) (a b : State) : Type 0 where
+pub record LeavesQuiet (name : ConnName) (a b : State) : Type 0 where
   pub others : KeepsOthers name.slot a b
   pub quiet : IsLeftQuiet name.slot b
 
@@ -170,7 +170,7 @@ service-quiet law s name asks way =
     subst (LeavesQuiet name s) (sym (state-both started (answer_events name asks) (left_events way name))) whole
 
 -- so no other connection is due late that wasn't
-due-by : (name : ConnName) (a b : State) → LeavesQuiet name a b → NoneDueLate a → NoneDueLate b
+pub due-by : (name : ConnName) (a b : State) → LeavesQuiet name a b → NoneDueLate a → NoneDueLate b
 due-by name a b leaves soon slot r at signalled parked serves =
     elim (cases_eq slot name.slot) [
       | inl same ↦

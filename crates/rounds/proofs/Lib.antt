@@ -13,6 +13,7 @@ pub mod ListenLemmas
 pub mod MeasureLemmas
 pub mod PassLemmas
 pub mod SameEditionLemmas
+pub mod StaffLemmas
 pub mod TakeLemmas
 pub mod TimeLemmas
 pub mod TimelyLemmas

@@ -1,6 +1,6 @@
 //! The parts of the listener's round: a connection that comes is taken and waits, time passes, slots are signalled, connections
 //! are let go of and served, and children are started and let go of.
-ghost use Rattle.std.specs.Prelude.{◌≡◌, ◌↔◌, ◌<◌, [], ◌∷◌, None, Some, true, false, not, is_some, max, IfOk, IfErr, OnErr, OnOk};
+ghost use Rattle.std.specs.Prelude.{◌≡◌, ◌↔◌, ◌<◌, [], ◌∷◌, None, Some, true, false, length, not, is_some, max, IfOk, IfErr, OnErr, OnOk};
 ghost use Rattle.std.specs.List.{list_any};
 ghost use Rattle.mpm_base.specs.Count.{next_count};
 ghost use Rattle.mpm_base.specs.declared.conn.Cause.TheVariants as cause;
@@ -279,6 +279,15 @@ pub fn start_children<L: Link, N: Known>(board: &mut Board<L, N>) -> Result<(), 
     ensures starts { StartsSome board.old.book board.new.book }
     ensures why { IfErr result (λ fault. IsRefusedFor fault board.new.book) }
     ensures started { OnOk result (startable board.new.book.state ≡ None) }
+    ensures staffed { OnOk result
+        (is_halted board.old.book.state.going ≡ false
+        → is_at_its_end board.old.book.state ≡ false
+        → 0 < length board.new.book.state.children
+        → is_staffed board.new.book.state ≡ true) }
+    ensures before { is_at_its_end board.old.book.state ≡ false
+        → is_at_its_end board.new.book.state ≡ false }
+    ensures children { length board.new.book.state.children
+        ≡ length board.old.book.state.children }
     ensures first { OnOk result
         (IsOpening board.old.book → BeginsWithStarts (asked_children board.old.book.base)
         board.new.book.history) }
@@ -293,6 +302,7 @@ pub fn start_children<L: Link, N: Known>(board: &mut Board<L, N>) -> Result<(), 
         board.show();
         board.start_child(LISTENER, child)?;
     }
+    board.show();
     Ok(())
 }
 /// Serves each connection that is signalled and that a worker of its child is free for.
@@ -307,6 +317,7 @@ pub fn serve_all<R: Wait, L: Link, N: Known, B: Bell, G: Gate>(
     requires staffed { is_staffed board.old.book.state ≡ true }
     ensures serves { ServesSome board.old board.new }
     ensures timely { StaysTimely board.old.book board.new.book }
+    ensures staffed { is_staffed board.new.book.state ≡ true }
     ensures why { IfErr result (λ fault. IsRefusedFor fault board.new.book) }
     ensures served { OnOk result (NoneDue board.new.book.state) }
     ensures rest { LeavesRest board.old.book board.new.book }

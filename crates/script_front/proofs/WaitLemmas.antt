@@ -5,7 +5,7 @@ use Rattle.std.proofs.lemmas.Bool.Decides.{nat_tests}
 use Rattle.mpm_script.specs.Clients.{names_of}
 use Rattle.mpm_script.specs.Commands.{command_lines_of}
 use Rattle.mpm_base.specs.Count.{RisesExactlyWhere, RisesWhere}
-use Rattle.mpm_base.specs.Front.{FrontTold, Backlog, GivesOnlyAwake, HasAllTaken, IsAnswerOf, IsPatient, LetsTimePass, StandsStill, Waits, earlier, is_ended, wait_failed}
+use Rattle.mpm_base.specs.Front.{FrontTold, Backlog, GivesOnlyAwake, HasAllTaken, IsAnswerOf, IsPatient, LetsTimePass, StandsStill, Waits, earlier, is_ended, progress_of, wait_failed}
 use Rattle.script_front.specs.PlayedFrontInside.{KeepsRest, waiting_counts, passed_between, with_wait}
 use Rattle.script_front.specs.ScriptFront.{IsOfScript, MayPass, Moves, Plays, SeenFront, backlog_of, begins, comings_of, ends, front_seen, next_moment, lines_now, over, passes, recovers, served, signals, stays, to_come}
 use Rattle.script_front.specs.declared.wait_end.WaitEnd.{WaitEnd}
@@ -150,12 +150,13 @@ still-put_down old mid new end ready is still = record {
   moment = ap (λ (f : SeenFront). f.told.moment) is ∙ still.moment;
 }
 
-pub waits : (old mid new : SeenFront) (until : Option ℕ) (quiet : Bool) (answer : Woke) (ready : List ℕ) (passed : Option WaitingCounts) → IsOfScript old → IsOfScript new → (0 < new.ends → HasAllTaken new.told)
-    → passed ≡ passed_between old.told.moment mid.told.moment (waiting_counts old)
-    → new ≡ with_wait ready (record { until = until; quiet = quiet; answer = answer; passed = passed }) mid → Plays old new until quiet answer ready → KeepsRest answer old mid
+pub waits : (old mid new : SeenFront) (until : Option ℕ) (quiet : Bool) (answer : Woke) (ready : List ℕ) (passed : Option WaitingCounts) (accepted read : ℕ) (hushed : Bool)
+    → IsOfScript old → IsOfScript new → (0 < new.ends → HasAllTaken new.told) → passed ≡ passed_between old.told.moment mid.told.moment (waiting_counts old)
+    → accepted ≡ mid.told.accepted → read ≡ mid.told.read → hushed ≡ mid.told.hushed
+    → new ≡ with_wait ready (record { accepted = accepted; read = read; hushed = hushed; until = until; quiet = quiet; answer = answer; passed = passed }) mid → Plays old new until quiet answer ready → KeepsRest answer old mid
     → (0 < old.ends → (ready ≡ []) × StandsStill old.told mid.told)
     → Waits (front_seen old) (front_seen new) until quiet answer ready
-waits old mid new until quiet answer ready passed was now taken passed_so is plays rest ended =
+waits old mid new until quiet answer ready passed accepted read hushed was now taken passed_so accepted_is read_is hushed_is is plays rest ended =
     let went = plays-went plays in
     let told : new.told ≡ record mid.told { failed = false; waits = new.told.waits } = rw is refl in
     let kept : record new.told { arrived = 0; lines = []; left = 0; moment = 0; failed = false; waits = [] } ≡ record old.told { arrived = 0; lines = []; left = 0; moment = 0; failed = false; waits = [] } = rw (told, rest.told_is) refl in
@@ -194,7 +195,7 @@ waits old mid new until quiet answer ready passed was now taken passed_so is pla
           patient = subst (λ (o : Option (List ℕ)). IfSome o (λ comings. IsPatient comings until quiet answer (passed-of old new.told.moment) old.told new.told)) (sym was.comings) (plays-patient was plays);
           waits =
               ap (λ (f : SeenFront). f.told.waits) is
-              ∙ rw (passed_so, moment) (ap (λ (t : FrontTold). t.waits ++ record { until = until; quiet = quiet; slots = ready; answer = answer; passed = passed-of old new.told.moment } ∷ []) rest.told_is);
+              ∙ rw (passed_so, moment, accepted_is, read_is, hushed_is) (ap (λ (t : FrontTold). t.waits ++ record { began = progress_of t; until = until; quiet = quiet; slots = ready; answer = answer; passed = passed-of old new.told.moment } ∷ []) rest.told_is);
         },
       );
       over = λ e. record { none = (ended e).0; still = (new.told, refl, still-put_down old mid new _ ready is (ended e).1) };

@@ -1,8 +1,9 @@
-use Rattle.std.proofs.Common.{◌≡◌, ℕ, ◌<◌, [], None, refl, sym, subst, rules}
+use Rattle.std.proofs.Common.{◌≡◌, ℕ, ◌<◌, [], None, true, refl, sym, subst, rules}
 use Rattle.board.specs.Board.{SeenBoard}
 use Rattle.board.specs.Faults.{IsRefusedFor}
 use Rattle.worker_group.specs.Service.{LeavesRest}
 use Rattle.rounds.specs.PartsInside.{ServesSome, StaysTimely}
+use Rattle.rounds.specs.Timely.{is_staffed}
 use Rattle.rounds.proofs.DueLemmas.{serves-in_time}
 use Rattle.rounds.proofs.PassLemmas.{due-none, fewer-asking, serves-acts, serves-more, serves-rest, service-acts}
 use Rattle.rounds.proofs.round.serve_all.Goals as goal
@@ -61,6 +62,10 @@ loop-name-preserved g c =
 pub returns-in_err-serve-clause-timely : goal.returns-in_err-serve-clause-timely
 returns-in_err-serve-clause-timely g c =
     subst (λ (b : SeenBoard). StaysTimely c.args.board.now.book b.book) (sym c.in_err-serve.ensures.err) c.loop-name.invariant.timely
+
+pub returns-in_err-serve-clause-staffed : goal.returns-in_err-serve-clause-staffed
+returns-in_err-serve-clause-staffed g c =
+    subst (λ (b : SeenBoard). is_staffed b.book.state ≡ true) (sym c.in_err-serve.ensures.err) c.loop-name.invariant.staffed
 
 pub returns-in_err-serve-clause-serves : goal.returns-in_err-serve-clause-serves
 returns-in_err-serve-clause-serves g c =

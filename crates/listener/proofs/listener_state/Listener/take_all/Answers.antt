@@ -9,7 +9,9 @@ use Rattle.listener.proofs.LinkLemmas.{hands-ended}
 use Rattle.rounds.proofs.ActLemmas.{on-err}
 use Rattle.listener.proofs.RoundLemmas.{takes-more, takes-none}
 use Rattle.listener.proofs.TakenLemmas.{took-none}
-use Rattle.listener.proofs.WatchLemmas.{watched-accept}
+use Rattle.listener.proofs.HandedLemmas.{counts-link, counts-none, handed-cut, handed-more, handed-start, handed-still}
+use Rattle.listener.proofs.WatchLemmas.{watched-accept, watched-both}
+use Rattle.rounds.proofs.TimelyLemmas.{stays-none}
 use Rattle.listener.proofs.listener_state.Listener.take_all.Goals as goal
 
 pub loop-init : goal.loop-init
@@ -22,7 +24,11 @@ loop-init g c =
       step = c.requires.step;
       follows = follows-same _;
       front = takes-same _;
-      watched = λ before. before;
+      watched = λ past before. before;
+      handed = handed-start _ c.args.self.now.board.book;
+      timely = stays-none c.args.self.now.board.book;
+      children = refl;
+      in_time = λ soon. soon;
       edition = refl;
       ready = refl;
       config = refl;
@@ -91,7 +97,15 @@ loop-preserved g c =
           takes-trans _ _ _ before.front
           (takes-trans _ _ _ (takes-accept _ _ _ c.accept.ensures.accepts.told_is) c.take.ensures.front);
       watched =
-          λ first. c.take.ensures.watched (watched-accept _ _ _ _ c.accept.ensures.accepts.told_is (before.watched first));
+          watched-both _ _ _ c.args.self.now.board.book c.loop.self.board.book c.take.new.self.board.book before.watched
+          (watched-both _ _ _ c.loop.self.board.book c.loop.self.board.book c.take.new.self.board.book
+          (watched-accept _ _ _ c.loop.self.board.book c.accept.ensures.accepts.told_is) c.take.ensures.watched);
+      handed =
+          handed-more _ _ _ _ c.args.self.now.board.book c.loop.self.board.book c.take.new.self.board.book before.handed
+          (counts-link c.in-Some-accept.link _ _ c.accept.ensures.accepts.told_is) c.take.ensures.handed c.in_ok-take-in-Some-accept.ensures.makes;
+      timely = λ first. c.take.ensures.timely (before.timely first);
+      children = c.take.ensures.children ∙ before.children;
+      in_time = λ soon. c.take.ensures.in_time (before.in_time soon);
       edition = c.take.ensures.edition ∙ before.edition;
       ready = c.take.ensures.ready ∙ before.ready;
       config = c.take.ensures.config ∙ before.config;
@@ -166,7 +180,16 @@ returns-in-None-accept g c =
           follows-trans _ _ _ before.follows
           (follows-accept g.L.Link.seen _ _ _ c.accept.ensures.accepts);
       front = takes-trans _ _ _ before.front (takes-accept _ _ _ c.accept.ensures.accepts.told_is);
-      watched = λ first. watched-accept _ _ _ _ c.accept.ensures.accepts.told_is (before.watched first);
+      watched =
+          watched-both _ _ _ c.args.self.now.board.book c.loop.self.board.book c.loop.self.board.book before.watched
+          (watched-accept _ _ _ c.loop.self.board.book c.accept.ensures.accepts.told_is);
+      handed =
+          handed-still 0 _ _ _ c.args.self.now.board.book c.loop.self.board.book before.handed
+          (counts-none c.accept.result _ _ c.in-None-accept.is c.accept.ensures.accepts.told_is);
+      cut = tt;
+      timely = before.timely;
+      children = before.children;
+      in_time = before.in_time;
       links = tt;
       edition = before.edition;
       ready = before.ready;
@@ -176,8 +199,24 @@ returns-in-None-accept g c =
 
 pub returns-in_err-take-in-Some-accept-clause-watched : goal.returns-in_err-take-in-Some-accept-clause-watched
 returns-in_err-take-in-Some-accept-clause-watched g c =
-    let before = c.loop.invariant.watched in
-    λ first. c.take.ensures.watched (watched-accept _ _ _ _ c.accept.ensures.accepts.told_is (before first))
+    watched-both _ _ _ c.args.self.now.board.book c.loop.self.board.book c.take.new.self.board.book c.loop.invariant.watched
+    (watched-both _ _ _ c.loop.self.board.book c.loop.self.board.book c.take.new.self.board.book
+    (watched-accept _ _ _ c.loop.self.board.book c.accept.ensures.accepts.told_is) c.take.ensures.watched)
+
+pub returns-in_err-take-in-Some-accept-clause-cut : goal.returns-in_err-take-in-Some-accept-clause-cut
+returns-in_err-take-in-Some-accept-clause-cut g c =
+    on-err c.from_residual.result _
+    (handed-cut _ _ _ _ c.args.self.now.board.book c.loop.self.board.book c.take.new.self.board.book c.loop.invariant.handed
+    (counts-link c.in-Some-accept.link _ _ c.accept.ensures.accepts.told_is) c.take.ensures.handed c.in_err-take-in-Some-accept.ensures.made)
+
+pub returns-in_err-take-in-Some-accept-clause-timely : goal.returns-in_err-take-in-Some-accept-clause-timely
+returns-in_err-take-in-Some-accept-clause-timely g c first = c.take.ensures.timely (c.loop.invariant.timely first)
+
+pub returns-in_err-take-in-Some-accept-clause-children : goal.returns-in_err-take-in-Some-accept-clause-children
+returns-in_err-take-in-Some-accept-clause-children g c = c.take.ensures.children ∙ c.loop.invariant.children
+
+pub returns-in_err-take-in-Some-accept-clause-in_time : goal.returns-in_err-take-in-Some-accept-clause-in_time
+returns-in_err-take-in-Some-accept-clause-in_time g c soon = c.take.ensures.in_time (c.loop.invariant.in_time soon)
 
 pub returns-in_err-take-in-Some-accept-clause-links : goal.returns-in_err-take-in-Some-accept-clause-links
 returns-in_err-take-in-Some-accept-clause-links g c =
