@@ -6,5 +6,7 @@ pub mod FileLemmas
 pub mod LineLemmas
 pub mod MachineLemmas
 pub mod OpenedLemmas
+pub mod TickLemmas
 pub mod UndisturbedLemmas
+pub mod UnhurriedLemmas
 pub mod WayLemmas

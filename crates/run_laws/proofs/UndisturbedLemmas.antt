@@ -1,12 +1,11 @@
 -- What a run answers that nothing disturbs.
-use Rattle.std.proofs.Common.{◌≡◌, ◌≢◌, ◌⊎◌, inl, inr, ℕ, Bool, true, false, List, [], ◌∷◌, ◌++◌, length, map, Option, None, Some, IfSome, IsSome, refl, sym, ap, subst, ◌∙◌}
+use Rattle.std.proofs.Common.{◌≡◌, ◌≢◌, ◌<◌, ◌⊎◌, inl, inr, ℕ, Bool, true, false, List, [], ◌∷◌, ◌++◌, length, map, Option, None, Some, IfSome, IsSome, refl, sym, ap, subst, ◌∙◌}
 use Rattle.std.specs.List.{list_any}
-use Rattle.mpm_base.specs.Count.{Rises}
+use Rattle.mpm_base.specs.Count.{Rises, greatest_count}
 use Rattle.mpm_base.specs.Front.{FrontSeen, FrontTold}
 use Rattle.mpm_base.specs.declared.conn.Cause.TheVariants as cause
 use Rattle.mpm_base.specs.declared.script_line.CommandWord.{CommandWord}
 use Rattle.mpm_config.specs.Config.{Configuration}
-use Rattle.mpm_script.specs.Clients.{clients_of, names_of}
 use Rattle.conn_machine.specs.declared.event.Entry.{Entry}
 use Rattle.conn_machine.specs.declared.event.Why.TheVariants as why
 use Rattle.conn_machine.specs.declared.folded.Folded.{Folded}
@@ -22,21 +21,21 @@ use Rattle.conn_state.specs.Answered.{SeenEnded}
 use Rattle.board.specs.Board.{AreClosed, AreEnded, SeenBoard}
 use Rattle.board.specs.BoardLaws.{EndedConnectionsJoin}
 use Rattle.board.specs.ReportLine.{line_of}
-use Rattle.listener.specs.Commands.{DoesLines, HeedsLines, is_graceful_stop}
+use Rattle.listener.specs.Commands.{HeedsLines, is_graceful_stop, lines_read}
 use Rattle.listener.specs.FirstNumbers.{folded_by, numbers_of, opened_by}
 use Rattle.listener.specs.Listen.{HasFolded, IsRunFrom}
 use Rattle.listener.specs.Stops.{StoppedFor}
-use Rattle.listener.specs.Tells.{AllReceive}
+use Rattle.listener.specs.Pace.{KeepsPace}
 use Rattle.listener.specs.declared.run_numbers.RunNumbers.{RunNumbers}
 use Rattle.run_opening.specs.Calls.{StoreFailed}
 use Rattle.run_report.specs.Endings.{EndsAs}
 use Rattle.run_report.proofs.EndingLemmas.{may-end}
-use Rattle.script_run.specs.Played.{HasPlayed, IsLeftOfRun}
+use Rattle.script_run.specs.Played.{HasPlayed}
 use Rattle.script_run.specs.declared.scripted.Scripted.{Scripted}
 use Rattle.mpm_run.specs.ExitStatuses.{HasRunServer}
 use Rattle.run_laws.specs.Grounds.{SendsBy, TestsFit, WritesSite}
 use Rattle.run_laws.specs.Outcomes.{IsOutcome, SeenOutcome}
-use Rattle.run_laws.specs.Undisturbed.{AreServedWhole, EndsPlayed, EndsServed, IsUndisturbed, IsUndisturbedScript, IsUndisturbedServer}
+use Rattle.run_laws.specs.Undisturbed.{AreServedWhole, EndsPlayed, EndsServed, IsUndisturbed, IsUndisturbedScript, IsUndisturbedServer, NoneAsksStop}
 use Rattle.run_laws.proofs.AnsweredLemmas.{ItemsWait, all-served}
 use Rattle.run_laws.proofs.CauseLemmas.{none-ended, none-for}
 use Rattle.run_laws.proofs.ExactLemmas.{plays-opens, sends-well, tests-well}
@@ -58,7 +57,7 @@ pub record RunLaws : Type 0 where
 
 module _ (laws : RunLaws) (n : RunNumbers) (b : SeenBoard) (run : IsRunFrom n b) (f : HasFolded n b.book) where
   -- passes made them
-  made-all : AreMade (opened_by n) (folded_by n) (f.entries ++ b.book.history)
+  pub made-all : AreMade (opened_by n) (folded_by n) (f.entries ++ b.book.history)
   made-all =
       laws.folds.made n.passes (opened_by n) (folded_by n) f.entries b.book.history (map line_of f.ended) (laws.opens.places n.passes) f.few f.made
       (subst (λ (s : State). AreMade s (fold_of (opened_by n) f.entries (map line_of f.ended) (folded_by n)) b.book.history) f.base_is
@@ -102,14 +101,22 @@ module _ (laws : RunLaws) (n : RunNumbers) (b : SeenBoard) (run : IsRunFrom n b)
       (none-for cause.NoMemory (opened_by n) entries ended (none-ended n b.book f cause.NoMemory late.memory) closed-all)
       calm.links
 
+  -- where no line that was read asks for one it began no graceful stop
+  pub begun-none : (t : FrontTold) (calls : Option (List (ℕ × ℕ))) → KeepsPace n.slots (Some t) calls b.book.state.going (f.entries ++ b.book.history)
+      → t.read < greatest_count → NoneAsksStop (lines_read t)
+      → list_any (λ (e : Entry). is_graceful_stop e.event) (f.entries ++ b.book.history) ≡ false
+  begun-none t calls pace few none =
+      none-begun (opened_by n) (folded_by n) n.slots calls b.book.state.going (f.entries ++ b.book.history) t made-all pace few none
+
   -- so it ended
-  pub ends-served : (o : SeenOutcome) (t : FrontTold) (warnings : List ℕ) → EndsAs o.call.sink o.call.sink' warnings b o.status
-      → IsUndisturbed t b (f.ended ++ b.ended) → DoesLines b.book.state.going (f.entries ++ b.book.history) t → HeedsLines b.book.state.going t
+  pub ends-served : (o : SeenOutcome) (t : FrontTold) (calls : Option (List (ℕ × ℕ))) (warnings : List ℕ)
+      → EndsAs o.call.sink o.call.sink' warnings b o.status → IsUndisturbed t b (f.ended ++ b.ended)
+      → KeepsPace n.slots (Some t) calls b.book.state.going (f.entries ++ b.book.history) → HeedsLines b.book.state.going t
       → (b.book.state.going ≡ Halted why.FrontFailed → ⊥) → (Rises o.call.sink.faults o.call.sink'.faults → ⊥) → o.status ≢ 6
       → EndsServed o b (f.ended ++ b.ended)
-  ends-served o t warnings ends calm does heeds unfailed output memory =
+  ends-served o t calls warnings ends calm pace heeds unfailed output memory =
       let going = b.book.state.going in
-      let none = none-begun going (f.entries ++ b.book.history) t does calm.few calm.lines in
+      let none = begun-none t calls pace calm.few calm.lines in
       let ended = ended-going going o.status ends.may (never-to-end none) (not-asked going t heeds calm.few calm.lines) unfailed memory in
       record {
         well =
@@ -126,26 +133,23 @@ module _ (laws : RunLaws) (n : RunNumbers) (b : SeenBoard) (run : IsRunFrom n b)
 
 -- ## A script
 
--- what connections received, those that were folded first
-receive-both : (clients : List (List ℕ)) (a b : List SeenEnded) → AllReceive clients a → AllReceive clients b → AllReceive clients (a ++ b)
-receive-both clients [] b first second = second
-receive-both clients (e ∷ a) b first second = (first.0, receive-both clients a b first.1 second)
-
 pub script-served : RunLaws → (o : SeenOutcome) (s : Scripted) (played : HasPlayed o.call s.config s.board s.front s.clock s.store) → IsOutcome o
     → o.scripted ≡ Some s → IsUndisturbedScript o s played → EndsPlayed o s (played.has_run.folded.ended ++ s.board.ended)
 script-served laws o s played is some calm =
-    let left = holds-of _ o.scripted s some is.left in
+    let left = played.left in
     let ends = holds-of _ o.scripted s some is.leaves.ends in
     let n = numbers_of s.config in
-    let run = ends-served laws n s.board played.has_run.run played.has_run.folded o s.front.told _ ends calm.run PACE left.front.heeded left.unfailed
+    let f = played.has_run.folded in
+    let run =
+    ends-served laws n s.board played.has_run.run f o s.front.told (Some s.clock) _ ends calm.run left.pace left.front.heeded left.unfailed
     calm.output calm.memory in
     record {
       run = run;
       taken =
           played.taken run.going
-          (uncounted is_graceful_stop (played.has_run.folded.entries ++ s.board.book.history)
-          (none-begun s.board.book.state.going (played.has_run.folded.entries ++ s.board.book.history) s.front.told played.lines.done calm.run.few calm.run.lines));
-      receive = receive-both (clients_of s.front.script) played.has_run.folded.ended s.board.ended played.receive_before played.receive;
+          (uncounted is_graceful_stop (f.entries ++ s.board.book.history)
+          (begun-none laws n s.board played.has_run.run f s.front.told (Some s.clock) left.pace calm.run.few calm.run.lines));
+      receive = played.receive;
     }
 
 -- ## A server
@@ -162,9 +166,12 @@ failed-rises old new s (inr (inr (inr (inr (inr overdue))))) going = absurd (cc 
 pub server-served : RunLaws → (o : SeenOutcome) (t : FrontTold) (b : SeenBoard) (run : HasRunServer o.call o.front o.front' o.clock' o.status b)
     → o.front'.told ≡ Some t → IsUndisturbedServer o t b run → EndsServed o b (run.has_run.folded.ended ++ b.ended)
 server-served laws o t b run tells calm =
+    let n = numbers_of run.config in
+    let f = run.has_run.folded in
     let front = holds-of _ o.front'.told t tells run.outside.front in
-    let lines = holds-of _ o.front'.told t tells run.lines in
-    ends-served laws (numbers_of run.config) b run.has_run.run run.has_run.folded o t _ run.ends calm.run lines.done front.heeded
+    let pace =
+    subst (λ (told : Option FrontTold). KeepsPace n.slots told o.clock' b.book.state.going (f.entries ++ b.book.history)) tells run.outside.pace in
+    ends-served laws n b run.has_run.run f o t o.clock' _ run.ends calm.run pace front.heeded
     (λ going. calm.front (failed-rises o.front o.front' b.book.state run.outside.stopped going)) calm.output calm.memory
 
 -- ## The other forms
