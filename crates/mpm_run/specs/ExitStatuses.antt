@@ -3,7 +3,6 @@ use Rattle.board.specs.Board.{SeenBoard}
 use Rattle.command_words.specs.Invocations.{IsNoInvocation, IsSendWords, IsServeWords, IsTestWords, NamesConfig, NamesFile}
 use Rattle.file_table.specs.Site.{SeenSite}
 use Rattle.mpm_base.specs.CommandWord.{command_word}
-use Rattle.mpm_base.specs.Count.{Rises}
 use Rattle.mpm_base.specs.Front.{Binds, Dials, FrontSeen}
 use Rattle.mpm_base.specs.declared.script_line.CommandWord.{CommandWord}
 use Rattle.mpm_config.specs.Config.{Configuration}
@@ -21,7 +20,7 @@ use Rattle.run_opening.specs.Calls.{Call, HadConfigAccepted, HasConfigAccepted, 
 use Rattle.run_opening.specs.Configured.{IsRefused, warnings_of}
 use Rattle.run_report.specs.Endings.{EndsWell, EndsUnwritten, EndsAs}
 use Rattle.run_report.specs.Texts.{config_refused, front_fault, no_control_line, site_refused, store_fault, syntax_ok, usage}
-use Rattle.run_report.specs.Written.{WritesText}
+use Rattle.run_report.specs.Written.{LeavesUnwritten, WritesText}
 use Rattle.run_report.specs.declared.texts.ConfigRefusal.{ConfigRefusal}
 use Rattle.run_report.specs.declared.texts.ConfigRefusal.TheVariants.{BadValue}
 use Rattle.std.specs.Prelude.{◌≡◌, ◌≢◌, ℕ, ◌≤◌, ◌⊎◌, Bool, true, false, List, ◌++◌, Option, Some, None, option_map, IfSome, IsSome, IsSomeAnd, IsNone}
@@ -112,14 +111,14 @@ pub record EndsTested (call : Call) : Type 0 where
   pub shows : call.shown ≡ None
   pub text : call.sink'.told ≡ option_map (λ written. written ++ (warnings_of config ++ syntax_ok)) call.sink.told
 
--- with exit status 5, of a test: the configuration is accepted, and a write of its texts failed
+-- with exit status 5, of a test: the configuration is accepted, and a write of its texts failed, which were not written whole
 pub record EndsTestUnwritten (call : Call) : Type 0 where
   pub name : List ℕ
   pub config : Configuration
   pub command : IsTestWords call.words name
   pub accepted : HasConfigAccepted call name config
   pub shows : call.shown ≡ None
-  pub failed : Rises call.sink.faults call.sink'.faults
+  pub unwritten : LeavesUnwritten call.sink call.sink' (warnings_of config ++ syntax_ok)
 
 -- ## Where a command was sent
 
@@ -239,11 +238,11 @@ Succeeds call f f' scripted board =
 abbrev pub EndsFrontFault : Call → FrontSeen → FrontSeen → Option SeenBoard → Type 0
 EndsFrontFault call f f' board = IsSome board ⊎ EndsUnbound call f f' ⊎ EndsUndialled call f f'
 
--- with exit status 5: a write failed of the texts of a script's run, or of one over the front, as is said of its board; or of those of
--- a test
+-- with exit status 5: a write failed of the texts of a script's run, or of one over the front, as is said of its board, or of those of
+-- a test; and they were not written whole
 abbrev pub LacksOutput : Call → Option Scripted → Option SeenBoard → Type 0
 LacksOutput call scripted board =
-    IsSomeAnd scripted (λ s. EndsUnwritten call.sink call.sink' s.board) ⊎ IsSome board ⊎ EndsTestUnwritten call
+    IsSomeAnd scripted (λ s. EndsUnwritten call.sink call.sink' (warnings_of s.config) s.board) ⊎ IsSome board ⊎ EndsTestUnwritten call
 
 -- each exit status has its cause
 pub record Causes (call : Call) (f f' : FrontSeen) (status : ℕ) (scripted : Option Scripted) (board : Option SeenBoard) : Type 0 where
