@@ -180,10 +180,10 @@ waits old mid new until quiet answer ready passed accepted read hushed was now t
     let rises : RisesExactlyWhere (is_ended answer) old.ends new.ends = rw ends rest.ends in
     let says = plays-answers (λ e. taken (omega (arith, e, never-fell (is_ended answer) old.ends new.ends rises))) plays in
     let moment : mid.told.moment ≡ new.told.moment = sym (ap (λ (f : SeenFront). f.told.moment) is) in
-    let told_wait : WaitTold = record { until = until; quiet = quiet; slots = ready; answer = answer; passed = passed-of old new.told.moment } in
+    let told_wait : WaitTold = record { began = progress_of old.told; until = until; quiet = quiet; slots = ready; answer = answer; passed = passed-of old new.told.moment } in
     let told_waits : new.told.waits ≡ old.told.waits ++ told_wait ∷ [] =
     ap (λ (f : SeenFront). f.told.waits) is
-    ∙ rw (passed_so, moment) (ap (λ (t : FrontTold). t.waits ++ record { until = until; quiet = quiet; slots = ready; answer = answer; passed = passed-of old new.told.moment } ∷ []) rest.told_is) in
+    ∙ rw (passed_so, moment, accepted_is, read_is, hushed_is) (ap (λ (t : FrontTold). t.waits ++ record { began = progress_of t; until = until; quiet = quiet; slots = ready; answer = answer; passed = passed-of old new.told.moment } ∷ []) rest.told_is) in
     record {
       script = ap (λ (lines : List ScriptLine). let some : Option (List ScriptLine) = Some lines in some) went.script;
       tells = (
