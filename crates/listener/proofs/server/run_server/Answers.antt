@@ -1,6 +1,6 @@
 use Rattle.std.proofs.Common.{◌≡◌, Option, refl, ap, sym, subst, ◌∙◌, rules}
 use Rattle.conn_state.specs.Known.{KnownOutside}
-use Rattle.board.specs.Board.{AreOfOutside, EndedOfOutside}
+use Rattle.board.specs.Board.{AreOfOutside, EndedOfOutside, SeenBoard}
 use Rattle.board.specs.Book.{SeenBook}
 use Rattle.listener.specs.ListenInside.{clients_known}
 use Rattle.listener.specs.OrdersInside.{opening_by}
