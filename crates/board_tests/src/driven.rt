@@ -539,7 +539,8 @@ impl InHand {
     /// The connection waits for more of a request, or for a further one.
     fn wait(self, seen: &mut Seen) -> Option<Driven>
         requires turned { self.1.turn ≡ turn.More }
-        requires backed { (kind : Kind) → waits_to_read kind ≡ true → BacksWait kind self.0.book.state self.1 }
+        requires backed { (kind : Kind) → waits_to_read kind ≡ true
+            → BacksWait kind self.0.book.state self.1 }
     {
         self.conn.show();
         if self.conn.noted() && self.conn.rest_empty() {
@@ -610,7 +611,8 @@ impl Lingering {
     /// The connection lingers on.
     fn wait(self, seen: &mut Seen) -> Option<Driven>
         requires turned { self.1.linger ≡ linger.NotReady }
-        requires backed { (kind : Kind) → waits_to_read kind ≡ true → BacksWait kind self.0.book.state self.1 }
+        requires backed { (kind : Kind) → waits_to_read kind ≡ true
+            → BacksWait kind self.0.book.state self.1 }
     {
         self.conn.show();
         if self.allows(Kind::Linger) {

@@ -7,7 +7,7 @@ ghost use Rattle.mpm_base.specs.declared.front.Woke.TheVariants as woke;
 ghost use Rattle.script_front.specs.DuePlacesInside.{AllLook};
 ghost use Rattle.script_front.specs.FailingFront.{after_failed_wait};
 ghost use Rattle.script_front.specs.PlayedFrontInside.{KeepsRest, gone_to, waiting_counts, with_begun, with_clients, with_end, with_lines, with_moment, with_wait};
-ghost use Rattle.script_front.specs.ScriptFront.{HandsPaced, IsOfScript, Plays, comings_of, front_seen, lines_now, new_front, all_taken_closed, to_come};
+ghost use Rattle.script_front.specs.ScriptFront.{HandsPaced, IsOfScript, Plays, comings_of, front_seen, lines_now, new_front, all_taken_closed, to_come, woken_waits};
 ghost use Rattle.script_front.specs.Signals.{Gives, after_watch_of};
 ghost use Rattle.stand_ins.specs.ScriptLink.{SeenScriptLink};
 
@@ -312,6 +312,7 @@ impl ScriptFront {
         ensures none { ready.new ≡ [] }
         ensures told { self.new ≡ after_failed_wait until quiet self.old }
         ensures forward { GoesForward until quiet woke.Failed [] self.old.told self.new.told }
+        ensures wakes { woken_waits self.new.told.waits ≡ woken_waits self.old.told.waits }
     {
         self.show();
         ready.clear();
