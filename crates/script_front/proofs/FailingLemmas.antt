@@ -1,7 +1,7 @@
 -- Waits of a front of a script that fail.
 use Rattle.std.proofs.Common.{◌≡◌, ℕ, Bool, List, [], append-nil, Option, None, subst, sym, refl, arith}
 use Rattle.std.specs.Prelude.{IfSome}
-use Rattle.mpm_base.specs.Front.{FrontTold, GoesForward, IsPatient, WaitTold}
+use Rattle.mpm_base.specs.Front.{FrontTold, GoesForward, IsPatient, WaitTold, progress_of}
 use Rattle.script_front.specs.FailingFront.{after_failed_wait}
 use Rattle.script_front.specs.ScriptFront.{IsOfScript, SeenFront, woken_waits}
 use Rattle.mpm_base.specs.declared.front.Woke.TheVariants as woke
@@ -42,5 +42,5 @@ forward-failed old new until quiet was is =
 pub failed-wakes : (old new : SeenFront) (until : Option ℕ) (quiet : Bool) → new ≡ after_failed_wait until quiet old
     → woken_waits new.told.waits ≡ woken_waits old.told.waits
 failed-wakes old new until quiet is =
-    let wait : WaitTold = record { until = until; quiet = quiet; slots = []; answer = woke.Failed; passed = None } in
+    let wait : WaitTold = record { began = progress_of old.told; until = until; quiet = quiet; slots = []; answer = woke.Failed; passed = None } in
     subst (λ (f : SeenFront). woken_waits f.told.waits ≡ woken_waits old.told.waits) (sym is) (woken-more old.told.waits wait)
