@@ -1,5 +1,5 @@
 use Rattle.run_opening.specs.Configured.{warnings_of}
-use Rattle.std.proofs.Common.{◌≡◌, ◌∙◌, List, Some, refl, ap, sym, subst}
+use Rattle.std.proofs.Common.{◌≡◌, ◌∙◌, ℕ, List, Some, refl, ap, sym, subst}
 use Rattle.mpm_base.specs.declared.script_line.ScriptLine.{ScriptLine}
 use Rattle.mpm_script.specs.Clients.{clients_of}
 use Rattle.script_front.specs.ScriptFront.{SeenFront, front_seen}
