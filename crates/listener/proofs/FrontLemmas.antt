@@ -1,7 +1,7 @@
 -- What a wait and a link that is taken leave of a front, and whether the table is in step with it.
 use Rattle.std.proofs.Common.{◌≡◌, ◌⊎◌, inl, inr, ℕ, Bool, true, false, not, List, [], ◌∷◌, ◌++◌, map, Option, None, Some, option_map, IfSome, refl, sym, ap, subst, ◌∙◌, arith}
 use Rattle.mpm_base.specs.Count.{next_count}
-use Rattle.mpm_base.specs.Front.{FrontTold, FrontSeen, BoundTold, DialTold, TellsOn, GoesForward, Waits, HasAllTaken, IsHandedOut, Accepts, WaitTold, after_accept, after_turning_away, after_watch, is_ended, moments_in, moments_of, wait_failed}
+use Rattle.mpm_base.specs.Front.{FrontTold, FrontSeen, BoundTold, DialTold, TellsOn, GoesForward, Waits, HasAllTaken, IsHandedOut, Accepts, WaitTold, after_accept, after_turning_away, after_watch, is_ended, moments_in, moments_of, progress_of, wait_failed}
 use Rattle.mpm_base.specs.Clock.{asked_at}
 use Rattle.mpm_base.specs.declared.conn.ConnName.{ConnName}
 use Rattle.std.proofs.lemmas.Grind.{flat_map-append}
@@ -238,7 +238,7 @@ pub waits-after : (until : Option ℕ) (quiet : Bool) (answer : Woke) (ready : L
     → TellsOn (GoesForward until quiet answer ready) told told' → WaitsMore ready answer (waits_of told) (waits_of told')
 waits-after until quiet answer ready None told' tells = ap waits_of tells
 waits-after until quiet answer ready (Some t) told' tells = record {
-  wait = record { until = until; quiet = quiet; slots = ready; answer = answer; passed = tells.2.passed };
+  wait = record { began = progress_of t; until = until; quiet = quiet; slots = ready; answer = answer; passed = tells.2.passed };
   is = ap waits_of tells.1 ∙ ap (λ (waits : List WaitTold). Some waits) tells.2.waits;
   slots = refl;
   answers = refl;
@@ -252,7 +252,7 @@ failed-last until quiet ready (Some t) told' tells =
     subst (λ (o : Option FrontTold). IfSome o HasFailedLast) (sym tells.1)
     (record {
       before = t.waits;
-      last = record { until = until; quiet = quiet; slots = ready; answer = woke.Failed; passed = tells.2.passed };
+      last = record { began = progress_of t; until = until; quiet = quiet; slots = ready; answer = woke.Failed; passed = tells.2.passed };
       waits = tells.2.waits;
       failed = refl;
     })

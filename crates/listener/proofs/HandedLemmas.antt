@@ -7,7 +7,7 @@ use Rattle.mpm_base.specs.Link.{LinkTold}
 use Rattle.mpm_base.specs.declared.conn.ConnName.{ConnName}
 use Rattle.mpm_base.specs.declared.front.Arrival.{Arrival}
 use Rattle.mpm_base.specs.declared.front.Arrival.TheVariants as arrival
-use Rattle.std.specs.Prelude.{Bool}
+use Rattle.std.specs.Prelude.{Bool, true}
 use Rattle.board.specs.Book.{SeenBook}
 use Rattle.listener.specs.Pace.{Brought, brought, taken}
 use Rattle.listener.specs.ShareInside.{HandsMany, MakesOneAtMost, TakesAllButOne, TakesHanded}
@@ -50,10 +50,10 @@ counts-link link told told' is = counts-mapped 1 told told' (after_accept (arriv
 pub counts-none : {L : Type 0} (answer : Arrival L) (told told' : Option FrontTold) → (answer ≡ arrival.None) ⊎ (answer ≡ arrival.Failed)
     → told' ≡ option_map (after_accept answer) told → TellsOn (HandsMany 0) told told'
 counts-none answer told told' (inl none) is =
-    counts-mapped 0 told told' (after_accept {A = _} arrival.None) (λ t few. omega arith)
+    counts-mapped 0 told told' (λ (t : FrontTold). t) (λ t few. omega arith)
     (is ∙ ap (λ (a : Arrival _). option_map (after_accept a) told) none)
 counts-none answer told told' (inr failed) is =
-    counts-mapped 0 told told' (after_accept {A = _} arrival.Failed) (λ t few. omega arith)
+    counts-mapped 0 told told' (λ (t : FrontTold). record t { failed = true }) (λ t few. omega arith)
     (is ∙ ap (λ (a : Arrival _). option_map (after_accept a) told) failed)
 
 watch-counts : (name : ConnName) (answer : Bool) (link : Option LinkTold) (t : FrontTold) → HandsMany 0 t (after_watch name answer link t)

@@ -11,6 +11,7 @@ use Rattle.conn_machine.specs.Rows.{is_vacant}
 use Rattle.conn_machine.specs.Runs.{after}
 use Rattle.conn_machine.specs.declared.child.Child.{Child}
 use Rattle.conn_machine.specs.declared.state.Going.{Going}
+use Rattle.conn_machine.specs.declared.state.Going.TheVariants.{Serving}
 use Rattle.conn_machine.specs.Children.{is_empty}
 use Rattle.conn_machine.specs.States.{is_halted, is_over, is_serving, pick_child}
 use Rattle.conn_machine.specs.Table.{next}
@@ -134,5 +135,14 @@ stands-within a b moment going none staffed = record {
       λ over.
       let still : is_over b.moment b.going ≡ false = ap (λ (m : ℕ). is_over m b.going) moment ∙ ap (is_over a.moment) going ∙ none in
       absurd (cc (sym still ∙ over));
+  staffed = staffed;
+}
+
+-- at first, as the server takes connections
+pub stands-started : (a b : State) → a.going ≡ Serving → b.going ≡ a.going → is_staffed b ≡ true → StandsInTime b
+stands-started a b serving going staffed = record {
+  within =
+      λ over. let none : is_over b.moment b.going ≡ false = ap (is_over b.moment) (going ∙ serving) in
+      absurd (cc (sym none ∙ over));
   staffed = staffed;
 }

@@ -29,11 +29,11 @@ pub mod RoundShareLemmas
 pub mod RunLemmas
 pub mod ServedLemmas
 pub mod ShareLemmas
+pub mod SharedLemmas
 pub mod StandingFoldLemmas
 pub mod StandingLemmas
 pub mod StandingPartLemmas
 pub mod StandingTurnLemmas
-pub mod StartedFirstLemmas
 pub mod StartedLemmas
 pub mod StoodLemmas
 pub mod StopLemmas
@@ -44,3 +44,5 @@ pub mod TurnLemmas
 pub mod UnsignalledLemmas
 pub mod WaitLemmas
 pub mod WatchLemmas
+pub mod WholeLemmas
+pub mod WholeTurnLemmas

@@ -19,7 +19,7 @@ use Rattle.listener.specs.Pace.{Brought, Share, brought, made_of, moved, ordered
 use Rattle.listener.specs.ShareInside.{ComesWith, CutsShare, DoesAllButOne, DoesAsked, HandsMany, HushesFor, MakesShare, ReadsFor, TakesAllButOne, TakesHanded}
 use Rattle.listener.proofs.BroughtLemmas.{brings-readies, brings-retires, brings-starts, brings-time, brought-as, brought-kept, moves-both, unbrought-departures, unbrought-gone, unbrought-held}
 use Rattle.listener.proofs.HandedLemmas.{counts-both, counts-same}
-use Rattle.listener.proofs.LineLemmas.{reads-none}
+use Rattle.listener.proofs.LineLemmas.{read-none}
 
 -- ## Of what is brought
 
@@ -68,7 +68,7 @@ brought-moves a b c retires starts =
 -- ## The share
 
 -- what came with a wait that gave these slots
-share_of : ℕ → List ℕ → SeenBook → List CommandWord → ℕ → ℕ → Share
+abbrev share_of : ℕ → List ℕ → SeenBook → List CommandWord → ℕ → ℕ → Share
 share_of answer slots a orders moves handed =
     record { answer = Some answer; signals = known_slots (length a.base.rows) slots; orders = orders; moves = moves; handed = handed }
 
@@ -83,7 +83,7 @@ made-plain moment answer slots a =
 -- ## The front
 
 -- nothing was read
-reads-still : (told : Option FrontTold) → TellsOn (ReadsFor []) told told
+pub reads-still : (told : Option FrontTold) → TellsOn (ReadsFor []) told told
 reads-still None = refl
 reads-still (Some t) = (t, refl, (read-none t).reads)
 
@@ -309,11 +309,13 @@ makes-gone answer slots told told' a d e f before does reads retires =
     record {
       share = share_of answer slots a does.words moves 0;
       comes = comes-read answer slots a does.words moves told told' does.asked reads;
-      made =
-          adds-both (brought a.history) (brought e.history) (brought f.history) first (replicate moves moved)
-          (lines-done (moment_for answer) slots told told' a d e before does)
-          (brought-as _ None e f (replicate moves moved) retires.acts (brings-retires retires.children))
-          ∙ ap (λ (xs : List Brought). brought a.history ++ xs) (sym (append-nil (first ++ replicate moves moved)));
+      made = (
+        refl,
+        adds-both (brought a.history) (brought e.history) (brought f.history) first (replicate moves moved)
+            (lines-done (moment_for answer) slots told told' a d e before does)
+            (brought-as _ None e f (replicate moves moved) retires.acts (brings-retires retires.children))
+            ∙ ap (λ (xs : List Brought). brought a.history ++ xs) (sym (append-nil (first ++ replicate moves moved))),
+      );
     }
 
 -- the turns go on

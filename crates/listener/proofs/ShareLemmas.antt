@@ -102,7 +102,7 @@ share-kept rows t t' wait next s further began within is = record {
   handed = λ few. is.handed (omega (arith, few, further.accepted few));
 }
 
-progress-more : (t t' : FrontTold) (waits : List WaitTold) (wait : WaitTold) → wait.began ≡ progress_of t
+pub progress-more : (t t' : FrontTold) (waits : List WaitTold) (wait : WaitTold) → wait.began ≡ progress_of t
     → progress_at t' (waits ++ wait ∷ []) ≡ progress_at t waits
 progress-more t t' [] wait began = began
 progress-more t t' (x ∷ waits) wait began = refl

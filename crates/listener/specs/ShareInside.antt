@@ -89,7 +89,7 @@ pub record ComesWith (answer : ℕ) (slots : List ℕ) (rows : ℕ) (s : Share) 
 -- what a round that ended the turns for this, or didn't, made of a share at this moment: before it this was made, and now that
 abbrev pub MakesFor : Option End → ℕ → Share → List Brought → List Brought → Type 0
 MakesFor None moment s old new = new ≡ old ++ made_of moment s
-MakesFor (Some end.Gone) moment s old new = new ≡ old ++ made_of moment s
+MakesFor (Some end.Gone) moment s old new = (s.handed ≡ 0) × (new ≡ old ++ made_of moment s)
 MakesFor (Some end.Asked) moment s old new = (s.handed ≡ 0) × (new ++ ordered word.Stop ∷ [] ≡ old ++ made_of moment s)
 MakesFor (Some end.Overdue) moment s old new = (s.handed ≡ 0) × (new ≡ old ++ made_of moment (record s { signals = [] }))
 MakesFor (Some end.Ended) moment s old new = ⊥
@@ -130,5 +130,5 @@ TurnsMake (Ok end.Ended) shares made = EndsUntaken [] shares made
 TurnsMake (Ok end.Asked) shares made = EndsUntaken (word.Stop ∷ []) shares made
 TurnsMake (Ok end.Failed) shares made = EndsUntaken [] shares made
 TurnsMake (Ok end.Overdue) shares made = EndsUnsignalled shares made
-TurnsMake (Ok end.Gone) shares made = made ≡ made_from 0 shares
+TurnsMake (Ok end.Gone) shares made = EndsUntaken [] shares made
 TurnsMake (Err fault) shares made = (made ≡ made_from 0 shares) ⊎ IsCutShort shares made

@@ -12,6 +12,7 @@ use Rattle.worker_group.specs.Service.{IsUp}
 use Rattle.rounds.specs.declared.ends.End.{End}
 use Rattle.rounds.specs.EndsInside.{is_at_end}
 use Rattle.rounds.specs.PartsInside.{NoneHas, StaysTimely}
+use Rattle.rounds.specs.TableInside.{IsOpening}
 use Rattle.rounds.specs.Timely.{is_at_its_end}
 use Rattle.listener.specs.declared.edition.LoadedEdition.{LoadedEdition}
 use Rattle.listener.specs.declared.edition.NamedConfig.{NamedConfig}
@@ -78,6 +79,7 @@ pub record HasShares (rows : ℕ) (l : SeenListener) (shares : List Share) : Typ
 -- a run that opened so begins: nothing was folded, or done, and nothing asked of the front but to be bound, nor of the clock
 pub record IsBegun (known : Option KnownOutside) (o : Opening) (n : RunNumbers) (l : SeenListener) : Type 0 where
   pub book : l.board.book ≡ opened_book n
+  pub opening : IsOpening l.board.book
   pub stands : StandsSo known o n (record { entries = []; ended = [] }) 0 0 (stands_at l)
   pub unused : IfSome l.front.told HasNotBegun
   pub unasked : IfSome l.calls (λ calls. calls ≡ [])

@@ -22,7 +22,7 @@ use crate::folding::{folds_join, show_for_folds};
 use crate::listener_state::Listener;
 use crate::run_numbers::{RunNumbers, numbers_of};
 use board::Board;
-use board::laws::ended_links_are_of_closed_connections;
+use board::laws::{ended_links_are_of_closed_connections, generations_keep_their_editions};
 use conn_machine::laws::{accepted_connections_are_closed_or_live, events_keep_states_sound};
 use conn_machine::laws_of_runs::made_histories_are_runs;
 use conn_state::{Known, Nothing};
@@ -114,6 +114,7 @@ pub fn run_server<
     }
     board.show();
     folds_join();
+    generations_keep_their_editions();
     let written = write_all(out, text);
     let mut listener = Listener {
         alloc,

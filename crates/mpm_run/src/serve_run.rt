@@ -16,7 +16,6 @@ ghost use Rattle.run_report.specs.Endings.{EndsAs};
 ghost use Rattle.run_report.specs.Texts.{front_fault};
 
 use board::Board;
-use board::laws::{ended_connections_join, generations_keep_their_editions};
 use conn_state::Nothing;
 use file_table::LoadFault;
 use listener::{LoadedEdition, NamedConfig, OpenFault, ServedRun, head_limits_of, run_server};
@@ -155,8 +154,6 @@ fn serve_edition<R: Wait, D: Store, F: Front, C: Clock, G: Gate, K: Sink>(
         out,
         told.as_slice(),
     );
-    generations_keep_their_editions();
-    ended_connections_join();
     match answer {
         Ok(served) => {
             let ServedRun { board, written } = served;

@@ -28,6 +28,7 @@ use Rattle.rounds.specs.PartsInside.{RetiresSome, StartsSome}
 use Rattle.rounds.specs.TableInside.{NoneDueLate}
 use Rattle.rounds.specs.Timely.{is_at_its_end, is_staffed}
 use Rattle.rounds.proofs.ClosingLemmas.{GoesOnFrom, acts-state}
+use Rattle.rounds.proofs.ListenLemmas.{count-cons}
 use Rattle.rounds.proofs.TimelyLemmas.{not-at_end, not-at_end_halted, not-at_end_serving}
 
 -- ## Children
@@ -76,7 +77,7 @@ none-run (c ∷ children) gone = by (is_there c) refl where
   by true is = absurd (cc (sym (ap (λ (x : Bool). x || list_any is_there children) is) ∙ gone))
   by false is =
       let rest : list_any is_there children ≡ false = sym (ap (λ (x : Bool). x || list_any is_there children) is) ∙ gone in
-      rw (gone-child c.phase is) (none-run children rest)
+      count-cons (λ (x : Child). is_running x.phase) c children ∙ rw (gone-child c.phase is) (omega (arith, none-run children rest))
 
 -- the first child is gone
 first-gone : (c : Child) (children : List Child) → list_any is_there (c ∷ children) ≡ false → is_empty c.phase ≡ true
@@ -92,18 +93,36 @@ target-some shape bounds =
     (and_parts (nat_le 1 shape.target) (nat_le shape.target shape.children) (and_parts _ (is_between 1 shape.children shape.target) bounds).1).0 in
     grind (arith, nat_tests)
 
+-- what a search finds at once
+find-here : (test : ℕ → Bool) (k : ℕ) (ks : List ℕ) → test k ≡ true → find test (k ∷ ks) ≡ Some k
+find-here test k ks is = rw is refl
+
+startable-of : (serving few : Bool) (found : Option ℕ) (k : ℕ) → serving ≡ true → few ≡ true → found ≡ Some k → cond (serving && few) found None ≡ Some k
+startable-of true true found k serves less is = is
+startable-of true false found k serves less is = absurd (cc less)
+startable-of false few found k serves less is = absurd (cc serves)
+
+found-first : (s : State) (c : Child) (children : List Child) → s.children ≡ c ∷ children → is_empty c.phase ≡ true
+    → find (child_passes (λ x. is_empty x.phase) s) (range_with_len 0 (length s.children)) ≡ Some 0
+found-first s c children is empty =
+    let first : child_passes (λ x. is_empty x.phase) s 0 ≡ true =
+    ap (λ (xs : List Child). option_map_or (λ (x : Child). is_empty x.phase) (slice_get xs 0) false) is ∙ empty in
+    ap (λ (xs : List Child). find (child_passes (λ x. is_empty x.phase) s) (range_with_len 0 (length xs))) is
+    ∙ find-here (child_passes (λ x. is_empty x.phase) s) 0 (range_with_len (0 + 1) (length children)) first
+
 -- where each child is gone, and the server takes connections, the first one is to be started
 first-needed : (s : State) (children : List Child) → s.children ≡ children → 0 < length children → is_serving s.going ≡ true → is_in_bounds s.shape ≡ true
     → list_any is_there children ≡ false → startable s ≡ Some 0
 first-needed s [] is some serves bounds gone = absurd (omega (arith, some))
 first-needed s (c ∷ children) is some serves bounds gone =
-    let fewer : nat_lt (running_count (c ∷ children)) s.shape.target ≡ true =
-    rw (none-run (c ∷ children) gone) (target-by s.shape.target (target-some s.shape bounds)) in
-    let empty : is_empty c.phase ≡ true = first-gone c children gone in
-    rw (is, serves, fewer, empty) refl
+    let none : running_count s.children ≡ 0 = ap (λ (xs : List Child). running_count xs) is ∙ none-run (c ∷ children) gone in
+    let fewer : nat_lt (running_count s.children) s.shape.target ≡ true =
+    ap (λ (n : ℕ). nat_lt n s.shape.target) none ∙ below-target s.shape.target (target-some s.shape bounds) in
+    startable-of (is_serving s.going) (nat_lt (running_count s.children) s.shape.target) _ 0 serves fewer
+    (found-first s c children is (first-gone c children gone))
   where
-    target-by : (n : ℕ) → 0 < n → nat_lt 0 n ≡ true
-    target-by n more = grind (arith, nat_tests)
+    below-target : (n : ℕ) → 0 < n → nat_lt 0 n ≡ true
+    below-target n more = grind (arith, nat_tests)
 
 -- so where none is to be started some child isn't gone
 pub staffed-started : (s : State) → is_serving s.going ≡ true → startable s ≡ None → is_in_bounds s.shape ≡ true → 0 < length s.children → is_staffed s ≡ true

@@ -15,7 +15,6 @@ ghost use Rattle.run_report.specs.Endings.{EndsAs};
 ghost use Rattle.script_front.specs.Editions.{editions_of, store_of};
 
 use crate::scripted::Scripted;
-use board::laws::{ended_connections_join, generations_keep_their_editions};
 use file_table::LoadFault;
 use listener::{LoadedEdition, NamedConfig, OpenFault, ServedRun, head_limits_of, run_server};
 use mpm_base::{Gate, NoMemory, Octets, Sink, Store, StoreFault};
@@ -292,8 +291,6 @@ fn serve_script<R: Wait, G: Gate, K: Sink>(
     );
     front.show();
     clock.show();
-    generations_keep_their_editions();
-    ended_connections_join();
     match answer {
         Ok(served) => {
             let ServedRun { board, written } = served;

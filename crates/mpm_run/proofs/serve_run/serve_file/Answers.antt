@@ -54,8 +54,8 @@ returns-clause-ends g c words command =
           serves c.serve_edition.result.left _ c.args.name.now c.in-Ok.read.0 c.in-Ok-load_site.site asked front front'
           (g.C.Clock.told c.serve_edition.new.clock) status ready
           (asked-only old read asked c.args.name.now c.read-answer.result c.in-Ok-load_site.site c.read-answer.ensures loaded.leaves) ended.shown
-          (subst (λ (site : SeenSite). IfSome c.serve_edition.result.left (HasRunBy (record { name = c.args.name.now; config = c.in-Ok.read.0; site = site; store = asked; front = front }) (g.D.Store.seen c.serve_edition.new.store) front')) c.in-Ok-new.ensures.ok ended.run)
-          ended.outside ended.ends;
+          (subst (λ (site : SeenSite). IfSome c.serve_edition.result.left (HasRunBy (record { name = c.args.name.now; config = c.in-Ok.read.0; site = site; store = asked; front = front }) (g.D.Store.seen c.serve_edition.new.store) front' (g.C.Clock.told c.serve_edition.new.clock))) c.in-Ok-new.ensures.ok ended.run)
+          ended.ends;
       opened = ended.opened;
       unopened = λ none. record {
         front =

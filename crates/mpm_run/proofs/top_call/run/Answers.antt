@@ -30,14 +30,6 @@ returns-in-Ok-Script-clause-ends g c =
     subst (λ (o : Outcome _). Said c.args.words.now (g.D.Store.seen c.args.store.now) (g.D.Store.seen c.run_script.new.store) (g.K.Sink.seen c.args.out.now) (g.K.Sink.seen c.run_script.new.out) (g.F.Front.seen c.args.front.now) (g.F.Front.seen c.args.front.now) (g.C.Clock.told c.args.clock.now) (g.C.Clock.told c.args.clock.now) o.status o.shown o.scripted o.board)
     (sym c.scripted_outcome.ensures) (script-leaves _ (g.F.Front.seen c.args.front.now) (g.C.Clock.told c.args.clock.now) c.run_script.result.status c.run_script.result.left ended, script-causes _ (g.F.Front.seen c.args.front.now) c.run_script.result.status c.run_script.result.left ended)
 
-pub returns-in-Ok-Script-clause-left : goal.returns-in-Ok-Script-clause-left
-returns-in-Ok-Script-clause-left g c =
-    let named : c.deref.result.now ≡ string_bytes c.in-Ok-Script.name = c.deref.ensures in
-    let command : IsScriptWords c.args.words.now c.deref.result.now =
-    subst (λ (name : List ℕ). IsScriptWords c.args.words.now name) (sym named)
-    (subst (λ (i : Invocation). IsInvocation c.args.words.now i) c.in-Ok-Script.field-0-is c.in-Ok-Script.ensures.form) in
-    subst (λ (o : Outcome _). IfSome o.scripted IsLeftOfRun) (sym c.scripted_outcome.ensures) (c.run_script.ensures c.args.words.now command).left_of_run
-
 pub returns-in-Ok-Load-clause-ends : goal.returns-in-Ok-Load-clause-ends
 returns-in-Ok-Load-clause-ends g c =
     let command : IsLoadWords c.args.words.now c.in-Ok-Load.count =
@@ -45,12 +37,6 @@ returns-in-Ok-Load-clause-ends g c =
     let ended = c.run_load.ensures c.args.words.now (g.D.Store.seen c.args.store.now) command in
     subst (λ (o : Outcome _). Said c.args.words.now (g.D.Store.seen c.args.store.now) (g.D.Store.seen c.args.store.now) (g.K.Sink.seen c.args.out.now) (g.K.Sink.seen c.run_load.new.out) (g.F.Front.seen c.args.front.now) (g.F.Front.seen c.args.front.now) (g.C.Clock.told c.args.clock.now) (g.C.Clock.told c.args.clock.now) o.status o.shown o.scripted o.board)
     (sym c.scripted_outcome-in-Ok-Load.ensures) (script-leaves _ (g.F.Front.seen c.args.front.now) (g.C.Clock.told c.args.clock.now) c.run_load.result.status c.run_load.result.left ended, script-causes _ (g.F.Front.seen c.args.front.now) c.run_load.result.status c.run_load.result.left ended)
-
-pub returns-in-Ok-Load-clause-left : goal.returns-in-Ok-Load-clause-left
-returns-in-Ok-Load-clause-left g c =
-    let command : IsLoadWords c.args.words.now c.in-Ok-Load.count =
-    subst (λ (i : Invocation). IsInvocation c.args.words.now i) c.in-Ok-Load.field-0-is c.in-Ok-Load.ensures.form in
-    subst (λ (o : Outcome _). IfSome o.scripted IsLeftOfRun) (sym c.scripted_outcome-in-Ok-Load.ensures) (c.run_load.ensures c.args.words.now (g.D.Store.seen c.args.store.now) command).left_of_run
 
 pub returns-in-Ok-Serve-clause-ends : goal.returns-in-Ok-Serve-clause-ends
 returns-in-Ok-Serve-clause-ends g c =

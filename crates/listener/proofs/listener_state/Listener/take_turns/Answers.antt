@@ -2,14 +2,23 @@ use Rattle.std.proofs.Common.{◌≡◌, Option, None, refl, sym, ap, subst, ◌
 use Rattle.rounds.specs.declared.ends.End.{End}
 use Rattle.listener.specs.ListenInside.{TakesInTo}
 use Rattle.listener.specs.RoundInside.{GoesRound, RoundEnds}
+use Rattle.listener.specs.ShareInside.{GoesOnInTime}
+use Rattle.conn_machine.specs.States.{is_halted, is_serving}
 use Rattle.listener.specs.TurnsInside.{listener_of}
 use Rattle.rounds.specs.Moments.{moment_for}
 use Rattle.listener.proofs.CommandLemmas.{heeded-wait}
 use Rattle.listener.proofs.FoldedTurnLemmas.{turn-folded}
-use Rattle.listener.proofs.FrontLemmas.{follows-trans, follows-wait, named-follows, step-wait}
+use Rattle.listener.proofs.FrontLemmas.{follows-trans, follows-wait, named-follows, step-kept, step-wait}
 use Rattle.listener.proofs.OverLemmas.{over-broken, over-ended, over-ended_for, over-failed, over-served, over-started, turn-served, turn-started}
 use Rattle.rounds.proofs.ActLemmas.{none-has}
-use Rattle.listener.proofs.TurnLemmas.{HasGoneRound, HasServedRows, HasTakenIn, between-started}
+use Rattle.listener.proofs.CommandlessLemmas.{commandless-starts}
+use Rattle.listener.proofs.IntakeLemmas.{stands-started}
+use Rattle.listener.proofs.StandingTurnLemmas.{stands-acted}
+use Rattle.listener.proofs.TurnLemmas.{HasGoneRound, HasServedRows, HasTakenIn, between-started, kept-started}
+use Rattle.listener.proofs.WatchLemmas.{nobody-started, watched-as}
+use Rattle.listener.proofs.WholeLemmas.{whole-begun}
+use Rattle.listener.proofs.WholeTurnLemmas.{begun-broken}
+use Rattle.rounds.proofs.TimelyLemmas.{not-at_end_serving}
 use Rattle.listener.proofs.WaitLemmas.{has-waited}
 use Rattle.listener.proofs.listener_state.Listener.take_turns.Goals as goal
 
@@ -24,11 +33,17 @@ loop-init g c =
     let same : m ≡ record first { board = m.board } =
     ap (λ (l : _). listener_of c.start.new.self.board (g.F.Front.seen c.args.front.now) (g.C.Clock.told c.args.clock.now) l.ready l.edition
     (g.D.Store.seen c.args.store.now) l.config) c.start.ensures.others in
+    let in_time =
+    stands-started first.board.book.state m.board.book.state c.requires.may.going c.start.ensures.rest.going c.in_ok-first.ensures.staffed in
     let between =
-    between-started c.generations_keep_their_editions.ensures c.passes_act_in_steps.ensures.acts g.N.Known.known first m c.requires.may.free c.requires.may.going c.requires.may.step
-    c.requires.may.informed c.requires.may.knows c.requires.may.serves same c.start.ensures.starts c.start.ensures.rest in
-    turn-started g.N.Known.known c.in_ok-first.first first m between c.requires.may.heeded c.in_ok-first.ensures.first same c.start.ensures.starts c.start.ensures.rest.moment
-    c.in_ok-first.ensures.until c.in_ok-first.ensures.quiet
+    between-started c.generations_keep_their_editions.ensures c.passes_act_in_steps.ensures.acts g.N.Known.known first m c.requires.may.free
+    (ap is_halted c.requires.may.going) c.requires.may.step in_time c.requires.may.knows c.requires.may.serves same c.start.ensures.starts c.start.ensures.rest in
+    turn-started g.N.Known.known c.in_ok-first.first first m between
+    (λ o n opened begun. whole-begun g.N.Known.known o n first m opened begun same c.start.ensures.starts (c.in_ok-first.ensures.first begun.opening)
+    c.start.ensures.rest.moment
+    (stands-acted g.N.Known.known 0 _ None first m.board c.start.ensures.starts.acts (commandless-starts c.start.ensures.starts.children) c.start.ensures.rest.going)
+    (watched-as first.front.told first.board.book m.board.book (nobody-started first.board.book m.board.book c.start.ensures.starts) c.start.ensures.rest.accepted))
+    c.requires.may.heeded same c.start.ensures.starts c.start.ensures.rest.moment c.in_ok-first.ensures.until c.in_ok-first.ensures.quiet
 
 pub returns-in_err-first : goal.returns-in_err-first
 returns-in_err-first g c =
@@ -41,11 +56,16 @@ returns-in_err-first g c =
     let same : m ≡ record first { board = m.board } =
     ap (λ (l : _). listener_of c.start.new.self.board (g.F.Front.seen c.args.front.now) (g.C.Clock.told c.args.clock.now) l.ready l.edition
     (g.D.Store.seen c.args.store.now) l.config) c.start.ensures.others in
-    let between =
-    between-started c.generations_keep_their_editions.ensures c.passes_act_in_steps.ensures.acts g.N.Known.known first m c.requires.may.free c.requires.may.going c.requires.may.step
-    c.requires.may.informed c.requires.may.knows c.requires.may.serves same c.start.ensures.starts c.start.ensures.rest in
-    over-started g.N.Known.known c.from_residual.result c.in_err-first.field-0.0 first m c.from_residual.ensures.1 between c.requires.may.heeded same c.start.ensures.starts
-    c.in_err-first.ensures.err
+    let going = c.requires.may.going in
+    let kept =
+    kept-started c.passes_act_in_steps.ensures.acts first m c.requires.may.free (ap is_halted going) same c.start.ensures.starts c.start.ensures.rest in
+    over-started g.N.Known.known c.from_residual.result c.in_err-first.field-0.0 first m c.from_residual.ensures.1 kept
+    (λ fault o n opened begun. begun-broken g.N.Known.known o n fault first m opened begun same c.start.ensures.starts c.start.ensures.rest.moment
+    (stands-acted g.N.Known.known 0 _ None first m.board c.start.ensures.starts.acts (commandless-starts c.start.ensures.starts.children) c.start.ensures.rest.going)
+    (watched-as first.front.told first.board.book m.board.book (nobody-started first.board.book m.board.book c.start.ensures.starts) c.start.ensures.rest.accepted))
+    (not-at_end_serving m.board.book.state (ap is_serving (c.start.ensures.rest.going ∙ going)))
+    (step-kept first.front.told first.board.book.state m.board.book.state c.start.ensures.rest.accepted c.start.ensures.rest.going c.requires.may.step)
+    c.requires.may.heeded same c.start.ensures.starts c.in_err-first.ensures.err
 
 pub take_in-requires-clause-named : goal.take_in-requires-clause-named
 take_in-requires-clause-named g c κs within =
@@ -114,6 +134,7 @@ returns-in_err-ended g c =
     c.take_in.new.self.edition (g.D.Store.seen c.take_in.new.store) c.take_in.new.self.config in
     let took : HasTakenIn w b =
     record {
+      timely = c.take_in.ensures.timely;
       up = c.take_in.ensures.up;
       follows = c.take_in.ensures.follows;
       front = c.take_in.ensures.front;
@@ -123,7 +144,14 @@ returns-in_err-ended g c =
     } in
     over-broken c.passes_act_in_steps.ensures.acts g.N.Known.known c.loop.rest c.take_pause-pause.result first a w c.loop.invariant waited
     c.from_residual-in_err-ended.result c.in_err-ended.field-0.0 b c.from_residual-in_err-ended.ensures.1
-    (record { took = took; round = c.in_err-ended.ensures.broken; stands = c.in_err-ended.ensures.stands; listens = c.take_in.ensures.listens })
+    (record {
+      took = took;
+      round = c.in_err-ended.ensures.broken;
+      share = c.in_err-ended.ensures.share;
+      before = c.in_err-ended.ensures.before;
+      stands = c.in_err-ended.ensures.stands;
+      listens = c.take_in.ensures.listens;
+    })
     c.in_err-ended.ensures.unheeded c.in_err-ended.ensures.links c.in_err-ended.ensures.err
 
 pub returns-in-Some-ended : goal.returns-in-Some-ended
@@ -145,6 +173,7 @@ returns-in-Some-ended g c =
     c.take_in.new.self.edition (g.D.Store.seen c.take_in.new.store) c.take_in.new.self.config in
     let took : HasTakenIn w b =
     record {
+      timely = c.take_in.ensures.timely;
       up = c.take_in.ensures.up;
       follows = c.take_in.ensures.follows;
       front = c.take_in.ensures.front;
@@ -156,6 +185,9 @@ returns-in-Some-ended g c =
     record {
       took = took;
       round = c.in_ok-ended.ensures.round;
+      share = c.in_ok-ended.ensures.share;
+      hushes = c.in_ok-ended.ensures.hushes;
+      goes_on = c.in_ok-ended.ensures.goes_on;
       stands = c.in_ok-ended.ensures.stands;
       moment = c.in_ok-ended.ensures.moment;
       step = c.in_ok-ended.ensures.step;
@@ -163,6 +195,21 @@ returns-in-Some-ended g c =
       serves = c.in_ok-ended.ensures.serves;
     } in
     over-ended_for c.passes_act_in_steps.ensures.acts g.N.Known.known c.loop.rest c.take_pause-pause.result first a w c.loop.invariant waited c.in_ok-ended.ended _ b c.in-Some-ended.is gone c.in_ok-ended.ensures.ends
+
+pub take_in-requires-clause-in_time : goal.take_in-requires-clause-in_time
+take_in-requires-clause-in_time g c κs within = c.loop.invariant.between.in_time
+
+pub serve-requires-clause-in_time : goal.serve-requires-clause-in_time
+serve-requires-clause-in_time g c κs within =
+    let goes_on : GoesOnInTime None c.take_in.new.self.board.book.state =
+    subst (λ (o : Option End). GoesOnInTime o c.take_in.new.self.board.book.state) c.in-None-ended.is c.in_ok-ended.ensures.goes_on in
+    goes_on.1
+
+pub serve-requires-clause-staffed : goal.serve-requires-clause-staffed
+serve-requires-clause-staffed g c κs within =
+    let goes_on : GoesOnInTime None c.take_in.new.self.board.book.state =
+    subst (λ (o : Option End). GoesOnInTime o c.take_in.new.self.board.book.state) c.in-None-ended.is c.in_ok-ended.ensures.goes_on in
+    goes_on.0.staffed
 
 pub serve-requires-clause-free : goal.serve-requires-clause-free
 serve-requires-clause-free g c κs within =
@@ -190,6 +237,7 @@ returns-in_err-rest g c =
     c.take_in.new.self.edition (g.D.Store.seen c.take_in.new.store) c.take_in.new.self.config in
     let took : HasTakenIn w b =
     record {
+      timely = c.take_in.ensures.timely;
       up = c.take_in.ensures.up;
       follows = c.take_in.ensures.follows;
       front = c.take_in.ensures.front;
@@ -201,6 +249,9 @@ returns-in_err-rest g c =
     record {
       took = took;
       round = c.in_ok-ended.ensures.round;
+      share = c.in_ok-ended.ensures.share;
+      hushes = c.in_ok-ended.ensures.hushes;
+      goes_on = c.in_ok-ended.ensures.goes_on;
       stands = c.in_ok-ended.ensures.stands;
       moment = c.in_ok-ended.ensures.moment;
       step = c.in_ok-ended.ensures.step;
@@ -217,6 +268,8 @@ returns-in_err-rest g c =
     let served : HasServedRows b d =
     record {
       serves = c.serve.ensures.serves;
+      timely = c.serve.ensures.timely;
+      staffed = c.serve.ensures.staffed;
       rest = c.serve.ensures.rest;
       others =
           ap (λ (l : _). listener_of c.serve.new.self.board (g.F.Front.seen c.take_in.new.front) (g.C.Clock.told c.take_pause-pause.new.clock) l.ready l.edition
@@ -244,6 +297,7 @@ loop-preserved g c =
     c.take_in.new.self.edition (g.D.Store.seen c.take_in.new.store) c.take_in.new.self.config in
     let took : HasTakenIn w b =
     record {
+      timely = c.take_in.ensures.timely;
       up = c.take_in.ensures.up;
       follows = c.take_in.ensures.follows;
       front = c.take_in.ensures.front;
@@ -255,6 +309,9 @@ loop-preserved g c =
     record {
       took = took;
       round = c.in_ok-ended.ensures.round;
+      share = c.in_ok-ended.ensures.share;
+      hushes = c.in_ok-ended.ensures.hushes;
+      goes_on = c.in_ok-ended.ensures.goes_on;
       stands = c.in_ok-ended.ensures.stands;
       moment = c.in_ok-ended.ensures.moment;
       step = c.in_ok-ended.ensures.step;
@@ -271,6 +328,8 @@ loop-preserved g c =
     let served : HasServedRows b d =
     record {
       serves = c.serve.ensures.serves;
+      timely = c.serve.ensures.timely;
+      staffed = c.serve.ensures.staffed;
       rest = c.serve.ensures.rest;
       others =
           ap (λ (l : _). listener_of c.serve.new.self.board (g.F.Front.seen c.take_in.new.front) (g.C.Clock.told c.take_pause-pause.new.clock) l.ready l.edition
