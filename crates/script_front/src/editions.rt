@@ -1,18 +1,18 @@
 //! The store of a script: its files at the opening, and at each `command graceful`.
 //!
 //! Which files those are stands in `specs/Editions.antt`. The file `httpd.conf` is always there, empty where no line says
-//! otherwise: it is the configuration.
-ghost use Rattle.std.specs.Prelude.{◌≡◌, ◌≤◌, ℕ, List, Some, ◌∷◌, length, All, IsUtf8, IsSome, IfOk, OnOk};
+//! otherwise: it is the configuration. Each line is read once, and an edition shares with the one before it what didn't change.
+ghost use Rattle.std.specs.Prelude.{◌≡◌, ◌≤◌, ℕ, List, Some, [], ◌∷◌, ◌++◌, length, All, IsUtf8, IsSome, IfOk, OnOk, if◌then◌else◌};
 ghost use Rattle.std.specs.List.{fold, prefix_len};
 ghost use Rattle.mpm_base.specs.Store.{bytes_of};
 ghost use Rattle.mpm_base.specs.declared.store.File.{File as SeenFile};
 ghost use Rattle.mpm_base.specs.declared.script_line.ScriptLine.{ScriptLine as Line};
 ghost use Rattle.mpm_script.specs.FileNames.{HasTextName, HaveTextNames, NamesText};
-ghost use Rattle.script_front.specs.Editions.{conf_after, conf_file, conf_name, conf_of, edition_of, editions_of, files_after, is_conf_name, is_graceful, is_site, opening_lines, site_in, store_of};
+ghost use Rattle.script_front.specs.Editions.{conf_after, conf_file, conf_name, conf_of, edition_of, editions_behind, editions_of, files_after, is_conf_name, is_graceful, is_site, opening_lines, site_in, store_of};
 
 use mpm_base::{CommandWord, NoMemory, Octets, ScriptLine, SiteLine};
 use mpm_script::Script;
-use stand_ins::{Files, PlainStore};
+use stand_ins::{History, PlainStore};
 use std::alloc::Global;
 
 /// The name of the configuration among the files of a script.
@@ -26,14 +26,11 @@ pub fn script_store(alloc: Global, script: &Script) -> Result<PlainStore, NoMemo
     ensures { IfOk result (λ store. store ≡ store_of script.now) }
 {
     let lines = script.lines();
-    let opening = edition_of(alloc, opening_lines(lines))?;
-    let mut store = PlainStore::make(alloc, opening);
-    for (place, line) in lines.iter().enumerate() {
-        if is_graceful(line) {
-            store.later(edition_of(alloc, &lines[..place])?)?;
-        }
-    }
-    Ok(store)
+    let (opening, behind) = lines.split_at(opening_len(lines));
+    let mut history = opening_of(alloc, opening)?;
+    history.end()?;
+    take_lines(alloc, &mut history, opening, behind)?;
+    Ok(PlainStore::of_history(alloc, history))
 }
 
 /// A law of the editions of a script: each has the file of the configuration. The first one's is what the lines of the site
@@ -45,13 +42,6 @@ pub fn editions_have_a_configuration()
         All (λ (files : List SeenFile). IsSome (bytes_of conf_name files))
         (editions_of lines).later }
 {}
-
-/// The lines of the site before the first other line.
-fn opening_lines(lines: &[ScriptLine]) -> &[ScriptLine]
-    ensures { result.now ≡ opening_lines lines.now }
-{
-    &lines[..opening_len(lines)]
-}
 
 /// How many lines of the site stand before the first other line.
 fn opening_len(lines: &[ScriptLine]) -> usize
@@ -73,86 +63,92 @@ fn is_graceful(line: &ScriptLine) -> bool
     matches!(line, ScriptLine::Command(CommandWord::Graceful))
 }
 
-/// All files that the lines leave.
-fn edition_of(alloc: Global, lines: &[ScriptLine]) -> Result<Files, NoMemory>
+/// What the lines of the site among these do to no files but an empty configuration.
+fn opening_of(alloc: Global, lines: &[ScriptLine]) -> Result<History, NoMemory>
     requires { HaveTextNames lines.now }
-    ensures { IfOk result (λ files. files ≡ edition_of lines.now) }
+    ensures { IfOk result (λ history. history ≡ record { past = []; files = edition_of lines.now }) }
 {
-    let conf = conf_of(alloc, lines)?;
-    let mut files = Files::make(alloc);
-    files.set(CONF_NAME, conf.as_slice())?;
+    let mut history = History::make(alloc);
+    history.set(CONF_NAME, b"")?;
     for line in lines {
-        change_files(&mut files, line)?;
+        change(alloc, &mut history, line)?;
     }
-    Ok(files)
+    Ok(history)
 }
 
-/// The configuration that the lines leave.
-fn conf_of(alloc: Global, lines: &[ScriptLine]) -> Result<Octets, NoMemory>
-    ensures { IfOk result (λ conf. conf ≡ conf_of lines.now) }
+/// What the lines behind the opening do, and the editions that end with them. Where memory lacks some may have been done.
+fn take_lines(
+    alloc: Global,
+    history: &mut History,
+    opening: &[ScriptLine],
+    lines: &[ScriptLine],
+) -> Result<(), NoMemory>
+    requires names { HaveTextNames lines.now }
+    requires files { history.old.files ≡ edition_of opening.now }
+    ensures { OnOk result (history.new.past ≡ history.old.past ++ editions_behind opening.now lines.now) }
 {
-    let mut conf = Octets::make(alloc);
     for line in lines {
-        if let ScriptLine::Site(site) = line {
-            change_conf(&mut conf, site)?;
-        }
+        take_line(alloc, history, line)?;
     }
-    Ok(conf)
+    Ok(())
 }
 
-/// What the line of the site does to the configuration happens.
-fn change_conf(conf: &mut Octets, site: &SiteLine) -> Result<(), NoMemory>
-    ensures { OnOk result (conf.new ≡ conf_after conf.old site.now) }
-{
-    match site {
-        SiteLine::Conf(text) => {
-            conf.add(text.as_slice())?;
-            conf.add(b"\n")
-        }
-        SiteLine::Clear => set_conf(conf, b""),
-        SiteLine::File(name, bytes) if is_conf_name(name) => set_conf(conf, bytes.as_slice()),
-        SiteLine::Unfile(name) if is_conf_name(name) => set_conf(conf, b""),
-        _ => Ok(()),
-    }
-}
-
-fn set_conf(conf: &mut Octets, bytes: &[u8]) -> Result<(), NoMemory>
-    ensures { OnOk result (conf.new ≡ bytes.now) }
-{
-    conf.clear();
-    conf.add(bytes)
-}
-
-/// What the line does to the other files happens; the configuration's file stands before them.
-fn change_files(files: &mut Files, line: &ScriptLine) -> Result<(), NoMemory>
+/// The same of one line.
+fn take_line(alloc: Global, history: &mut History, line: &ScriptLine) -> Result<(), NoMemory>
     requires { HasTextName line.now }
-    ensures { OnOk result
-        ((conf : List ℕ) (others : List SeenFile) → files.old ≡ conf_file conf ∷ others →
-        files.new ≡ conf_file conf ∷ fold files_after others (site_in line.now)) }
+    ensures past { OnOk result (history.new.past
+        ≡ (if is_graceful line.now then history.old.past ++ history.old.files ∷ []
+        else history.old.past)) }
+    ensures files { OnOk result
+        ((conf : List ℕ) (others : List SeenFile) → history.old.files ≡ conf_file conf ∷ others →
+        history.new.files ≡ conf_file (fold conf_after conf (site_in line.now))
+        ∷ fold files_after others (site_in line.now)) }
+{
+    if is_graceful(line) {
+        return history.end();
+    }
+    change(alloc, history, line)
+}
+
+/// What the line does to the files happens; the configuration's file stands before them.
+fn change(alloc: Global, history: &mut History, line: &ScriptLine) -> Result<(), NoMemory>
+    requires { HasTextName line.now }
+    ensures past { OnOk result (history.new.past ≡ history.old.past) }
+    ensures files { OnOk result
+        ((conf : List ℕ) (others : List SeenFile) → history.old.files ≡ conf_file conf ∷ others →
+        history.new.files ≡ conf_file (fold conf_after conf (site_in line.now))
+        ∷ fold files_after others (site_in line.now)) }
 {
     match line {
-        ScriptLine::Site(site) => change_site_files(files, site),
+        ScriptLine::Site(site) => change_site(alloc, history, site),
         _ => Ok(()),
     }
 }
 
 /// The same of a line of the site.
-fn change_site_files(files: &mut Files, site: &SiteLine) -> Result<(), NoMemory>
+fn change_site(alloc: Global, history: &mut History, site: &SiteLine) -> Result<(), NoMemory>
     requires { NamesText site.now }
-    ensures { OnOk result
-        ((conf : List ℕ) (others : List SeenFile) → files.old ≡ conf_file conf ∷ others →
-        files.new ≡ conf_file conf ∷ files_after others site.now) }
+    ensures past { OnOk result (history.new.past ≡ history.old.past) }
+    ensures files { OnOk result
+        ((conf : List ℕ) (others : List SeenFile) → history.old.files ≡ conf_file conf ∷ others →
+        history.new.files ≡ conf_file (conf_after conf site.now) ∷ files_after others site.now) }
 {
     match site {
-        SiteLine::File(name, bytes) if !is_conf_name(name) => {
-            files.set(text_of(name.as_slice()), bytes.as_slice())
-        }
-        SiteLine::Unfile(name) if !is_conf_name(name) => {
-            files.unset(text_of(name.as_slice()));
-            Ok(())
-        }
-        _ => Ok(()),
+        SiteLine::Conf(text) => history.add(CONF_NAME, line_of(alloc, text.as_slice())?),
+        SiteLine::Clear => history.set(CONF_NAME, b""),
+        SiteLine::File(name, bytes) => history.set(text_of(name.as_slice()), bytes.as_slice()),
+        SiteLine::Unfile(name) if is_conf_name(name) => history.set(CONF_NAME, b""),
+        SiteLine::Unfile(name) => history.unset(text_of(name.as_slice())),
     }
+}
+
+/// The text and a line feed.
+fn line_of(alloc: Global, text: &[u8]) -> Result<Octets, NoMemory>
+    ensures { IfOk result (λ line. line ≡ text.now ++ 10 ∷ []) }
+{
+    let mut line = Octets::of(alloc, text)?;
+    line.add(b"\n")?;
+    Ok(line)
 }
 
 fn is_conf_name(name: &Octets) -> bool

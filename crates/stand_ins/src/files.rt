@@ -1,29 +1,36 @@
 //! A list of files by name.
-ghost use Rattle.std.specs.Prelude.{◌≡◌, ◌≢◌, ℕ, Some, None, List, [], find, position, OnOk, OnErr, option_map};
+ghost use Rattle.std.specs.Prelude.{◌≡◌, ◌≢◌, ℕ, Some, None, List, [], ◌∷◌, ◌++◌, OnOk, OnErr, IfSome, IfNone, option_map, IsUtf8};
 ghost use Rattle.mpm_base.specs.Store.{bytes_of};
-ghost use Rattle.stand_ins.specs.Files.{AllNamesUtf8, is_file_named, with_file, without_file};
+ghost use Rattle.stand_ins.specs.Files.{files_in, with_file, with_more, without_file};
+ghost use Rattle.stand_ins.specs.FilesInside.{AreFound, FindsSlots, HasNone, HaveTexts, IsOnlyAt};
 
-use mpm_base::{File, NoMemory, Octets};
+use crate::slot::Slot;
+use mpm_base::{NoMemory, Octets};
 use std::alloc::Global;
+use std::collections::HashMap;
 use std::marker::Model;
 
-/// A list of files, as contracts see it. Each name is UTF-8.
+/// A list of files, as contracts see it. Each is found by a map, and so in a time that doesn't grow with their number. Each name is
+/// UTF-8.
 #[derive(Debug, Drop)]
 pub struct Files {
     alloc: Global,
-    items: Vec<File>,
+    slots: Vec<Slot>,
+    places: HashMap<Vec<u8>, usize>,
 }
 
 impl Model for Files {
     ghost use Rattle.std.specs.Prelude.{List};
-    ghost use Rattle.stand_ins.specs.Files.{AllNamesUtf8};
+    ghost use Rattle.stand_ins.specs.Files.{files_in};
     ghost use Rattle.mpm_base.specs.declared.store.File.{File};
 
     ghost Value = { List File };
 
-    ghost view = { λ f. f.items.items };
+    ghost view = { λ f. files_in f.slots.items };
 
-    ghost invariant = { λ f. AllNamesUtf8 f.items.items };
+    ghost use Rattle.stand_ins.specs.FilesInside.{AreFound};
+
+    ghost invariant = { λ f. AreFound f.places f.slots.items };
 }
 
 impl Files {
@@ -33,7 +40,8 @@ impl Files {
     {
         Files {
             alloc,
-            items: Vec::new(alloc),
+            slots: Vec::new(alloc),
+            places: HashMap::new(alloc),
         }
     }
 
@@ -49,14 +57,29 @@ impl Files {
             ((other : List ℕ) → other ≢ name.now →
             bytes_of other self.new ≡ bytes_of other self.old) }
     {
-        let bytes = Octets::of(self.alloc, bytes)?;
-        if let Some(place) = place_of(&self.items, name) {
-            self.items[place].bytes = bytes;
-            return Ok(());
+        let octets = Octets::of(self.alloc, bytes)?;
+        match place_of(&self.slots, &self.places, name) {
+            Some(place) => {
+                self.slots[place].bytes = Some(octets);
+                Ok(())
+            }
+            None => put(self.alloc, &mut self.slots, &mut self.places, name, octets),
         }
-        let name = Octets::of(self.alloc, name.as_bytes())?;
-        self.items.push(File { name, bytes })?;
-        Ok(())
+    }
+
+    /// Puts these bytes behind those of the file of that name, or puts it at the end where there is none.
+    /// Where memory lacks nothing changes.
+    pub fn add(&mut self, name: &str, bytes: &[u8]) -> Result<(), NoMemory>
+        ensures ok { OnOk result (self.new ≡ with_more name.now bytes.now self.old) }
+        ensures err { OnErr result (self.new ≡ self.old) }
+    {
+        match place_of(&self.slots, &self.places, name) {
+            Some(place) => self.slots[place].add(bytes),
+            None => {
+                let octets = Octets::of(self.alloc, bytes)?;
+                put(self.alloc, &mut self.slots, &mut self.places, name, octets)
+            }
+        }
     }
 
     /// Removes the file of that name, where there is one.
@@ -68,44 +91,70 @@ impl Files {
         ensures others { (other : List ℕ) → other ≢ name.now →
             bytes_of other self.new ≡ bytes_of other self.old }
     {
-        self.items
-            .retain(|file| file.name.as_slice() != name.as_bytes());
+        if let Some(place) = place_of(&self.slots, &self.places, name) {
+            self.slots[place].bytes = None;
+        }
     }
 
     /// The bytes of the file of that name.
-    #[tactic(auto, using(crate::proofs::LookupLemmas::bytes_of_found))]
     pub fn get(&self, name: &str) -> Option<&Octets>
         ensures { option_map (λ bytes. bytes.now) result ≡ bytes_of name.now self.now }
     {
-        match file_of(&self.items, name) {
-            Some(file) => Some(&file.bytes),
+        match place_of(&self.slots, &self.places, name) {
+            Some(place) => self.slots[place].bytes.as_ref(),
             None => None,
         }
     }
 
-    /// The files, in order.
-    pub fn as_slice(&self) -> &[File]
-        ensures files { result.now ≡ self.now }
-        ensures utf8 { AllNamesUtf8 self.now }
+    /// The places of the files, in order. At some there may be none any more.
+    pub fn slots(&self) -> &[Slot]
+        ensures files { files_in result.now ≡ self.now }
+        ensures texts { HaveTexts result.now }
     {
-        self.items.as_slice()
+        self.slots.as_slice()
     }
 }
 
-/// The first file of that name.
-fn file_of<'a>(files: &'a [File], name: &str) -> Option<&'a File>
-    ensures { option_map (λ file. file.now) result ≡ find (is_file_named name.now) files.now }
+/// The place of the file of that name.
+fn place_of(slots: &[Slot], places: &HashMap<Vec<u8>, usize>, name: &str) -> Option<usize>
+    requires { FindsSlots places.now slots.now }
+    ensures some { IfSome result (λ place. IsOnlyAt name.now place slots.now) }
+    ensures none { IfNone result (HasNone name.now slots.now) }
 {
-    files
-        .iter()
-        .find(|file| file.name.as_slice() == name.as_bytes())
+    // The map may still have the place of a file that was removed.
+    let place = places.get(name.as_bytes()).copied()?;
+    let slot = slots.get(place)?;
+    if slot.has_name(name) {
+        Some(place)
+    } else {
+        None
+    }
 }
 
-/// The place of the first file of that name.
-fn place_of(files: &[File], name: &str) -> Option<usize>
-    ensures { result ≡ position (is_file_named name.now) files.now }
+/// Puts the file at the end, where there is none of that name. Where memory lacks nothing changes.
+fn put(
+    alloc: Global,
+    slots: &mut Vec<Slot>,
+    places: &mut HashMap<Vec<u8>, usize>,
+    name: &str,
+    bytes: Octets,
+) -> Result<(), NoMemory>
+    requires none { HasNone name.now slots.old.items }
+    requires found { AreFound places.old slots.old.items }
+    ensures ok { OnOk result
+        (slots.new.items ≡ slots.old.items ++ record { name = name.now; bytes = Some bytes } ∷ []) }
+    ensures err { OnErr result (slots.new.items ≡ slots.old.items) }
+    ensures found { AreFound places.new slots.new.items }
 {
-    files
-        .iter()
-        .position(|file| file.name.as_slice() == name.as_bytes())
+    let key = Vec::from_slice(alloc, name.as_bytes())?;
+    let text = Octets::of(alloc, name.as_bytes())?;
+    slots.reserve(1)?;
+    places.insert(key, slots.len())?;
+    match slots.push(Slot {
+        name: text,
+        bytes: Some(bytes),
+    }) {
+        Ok(()) => Ok(()),
+        Err(_) => unreachable!(),
+    }
 }

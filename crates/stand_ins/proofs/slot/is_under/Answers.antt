@@ -1,7 +1,7 @@
 use Rattle.std.proofs.Common.{◌∷◌, []}
 use Rattle.std.proofs.lemmas.List.{take_rest}
 use Rattle.stand_ins.proofs.NamesLemmas.{starts_with-append}
-use Rattle.stand_ins.proofs.plain_store.is_under.Goals as goal
+use Rattle.stand_ins.proofs.slot.is_under.Goals as goal
 
 pub returns-then-starts_with : goal.returns-then-starts_with
 returns-then-starts_with c =

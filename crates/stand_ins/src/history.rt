@@ -1,0 +1,117 @@
+//! The changes of a folder of files, one behind the other, and where its editions end.
+ghost use Rattle.std.specs.Prelude.{◌≡◌, ◌++◌, ◌∷◌, [], length, OnOk, OnErr};
+ghost use Rattle.stand_ins.specs.Files.{with_file, with_more, without_file};
+ghost use Rattle.stand_ins.specs.History.{no_history};
+ghost use Rattle.stand_ins.specs.HistoryInside.{seen_history};
+
+use crate::files::Files;
+use mpm_base::{NoMemory, Octets};
+use std::alloc::Global;
+use std::collections::VecDeque;
+use std::marker::Model;
+
+/// A step of a history.
+#[derive(Debug, Drop)]
+pub(crate) enum Step {
+    /// The file of that name has these bytes from now on.
+    Set(String, Octets),
+    /// It has these behind its own.
+    Add(String, Octets),
+    /// There is no such file any more.
+    Unset(String),
+    /// The files are an edition.
+    End,
+    /// These files are one, in place of all before.
+    Whole(Files),
+}
+
+/// What became of a folder of files, which is empty at first: one list of its changes, and of where its editions end. So an edition
+/// takes no memory for what it shares with the one before it.
+#[derive(Debug, Drop)]
+pub struct History {
+    alloc: Global,
+    steps: VecDeque<Step>,
+    count: usize,
+}
+
+impl Model for History {
+    ghost use Rattle.std.specs.Prelude.{◌≡◌, [], length};
+    ghost use Rattle.stand_ins.specs.History.{SeenHistory};
+    ghost use Rattle.stand_ins.specs.HistoryInside.{ended, seen_history};
+
+    ghost Value = { SeenHistory };
+
+    ghost view = { λ h. seen_history h.steps.items };
+
+    ghost invariant = { λ h. h.count ≡ length (ended [] h.steps.items) };
+}
+
+impl History {
+    /// No change was made, and no edition ended. It takes no memory.
+    pub fn make(alloc: Global) -> History
+        ensures { result ≡ no_history }
+    {
+        History {
+            alloc,
+            steps: VecDeque::new(alloc),
+            count: 0,
+        }
+    }
+
+    /// Gives the file of that name these bytes, as `Files::set` does. Where memory lacks nothing changes.
+    pub fn set(&mut self, name: &str, bytes: &[u8]) -> Result<(), NoMemory>
+        ensures ok { OnOk result (self.new
+            ≡ record self.old { files = with_file name.now bytes.now self.old.files }) }
+        ensures err { OnErr result (self.new ≡ self.old) }
+    {
+        let text = String::from_str(self.alloc, name)?;
+        let octets = Octets::of(self.alloc, bytes)?;
+        self.steps.push_back(Step::Set(text, octets))?;
+        Ok(())
+    }
+
+    /// Puts these bytes behind those of the file of that name, as `Files::add` does. Where memory lacks nothing changes.
+    pub fn add(&mut self, name: &str, bytes: Octets) -> Result<(), NoMemory>
+        ensures ok { OnOk result (self.new
+            ≡ record self.old { files = with_more name.now bytes self.old.files }) }
+        ensures err { OnErr result (self.new ≡ self.old) }
+    {
+        let text = String::from_str(self.alloc, name)?;
+        self.steps.push_back(Step::Add(text, bytes))?;
+        Ok(())
+    }
+
+    /// Removes the file of that name, where there is one. Where memory lacks nothing changes.
+    pub fn unset(&mut self, name: &str) -> Result<(), NoMemory>
+        ensures ok { OnOk result (self.new
+            ≡ record self.old { files = without_file name.now self.old.files }) }
+        ensures err { OnErr result (self.new ≡ self.old) }
+    {
+        let text = String::from_str(self.alloc, name)?;
+        self.steps.push_back(Step::Unset(text))?;
+        Ok(())
+    }
+
+    /// Has the files that all changes leave be the next edition. Where memory lacks nothing changes.
+    pub fn end(&mut self) -> Result<(), NoMemory>
+        ensures ok { OnOk result (self.new
+            ≡ record self.old { past = self.old.past ++ self.old.files ∷ [] }) }
+        ensures err { OnErr result (self.new ≡ self.old) }
+    {
+        let Some(count) = self.count.checked_add(1) else {
+            return Err(NoMemory);
+        };
+        self.steps.push_back(Step::End)?;
+        self.count = count;
+        Ok(())
+    }
+
+    /// Its steps, and how many editions end with them.
+    pub(crate) fn into_steps(self) -> (VecDeque<Step>, usize)
+        ensures steps { seen_history result.0.items ≡ self }
+        ensures count { result.1 ≡ length self.past }
+    {
+        let History { steps, count, .. } = self;
+        (steps, count)
+    }
+}
