@@ -70,7 +70,7 @@ found-set places slots i slot slot' all within is same kept =
     let P : Slot → Type 0 = λ s. IsUtf8 s.name in
     record {
       found = λ name k has.
-        all.found name k (set-names (λ s. has_name name s ≡ true) slots i slot' (λ h. ap (has_name name) at ∙ kept name h) k has);
+          all.found name k (set-names (λ s. has_name name s ≡ true) slots i slot' (λ h. ap (has_name name) at ∙ kept name h) k has);
       texts = All-set P slots i slot' (subst IsUtf8 (sym same) (subst P (sym is) (All-get_or P slots i slot within all.texts))) all.texts;
     }
 
@@ -123,8 +123,8 @@ pub found-last : {S : Type 0} (old new : HashMap (Vec ℕ) ℕ S) (slots : List 
     → AreFound new (slots ++ slot ∷ [])
 found-last old new slots slot key n is text size all none updates = record {
   found = finds-last old new slots slot all.found none
-    (subst (λ m. hash.UpdatesBy (λ (x y : Vec ℕ). bytes_eq x.items y.items) (λ (k : Vec ℕ). bytes_eq slot.name k.items) old new (Some m)) size
-    (subst (λ t. hash.UpdatesBy (λ (x y : Vec ℕ). bytes_eq x.items y.items) (λ (k : Vec ℕ). bytes_eq t k.items) old new (Some n)) is updates));
+      (subst (λ m. hash.UpdatesBy (λ (x y : Vec ℕ). bytes_eq x.items y.items) (λ (k : Vec ℕ). bytes_eq slot.name k.items) old new (Some m)) size
+      (subst (λ t. hash.UpdatesBy (λ (x y : Vec ℕ). bytes_eq x.items y.items) (λ (k : Vec ℕ). bytes_eq t k.items) old new (Some n)) is updates));
   texts = All-push (λ (s : Slot). IsUtf8 s.name) slots slot all.texts text;
 }
 

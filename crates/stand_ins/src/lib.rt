@@ -2,9 +2,9 @@
 //!
 //! `PlainLink`, `PlainSink` and `PlainStore` never fail; `ScriptLink`, `MemSink` and `MemStore` fail at the calls whose
 //! numbers they are given, and a script may drop a `ScriptLink` besides. Each does what its trait of `mpm_base` says, and
-//! exactly what its own clauses say. A `History` is what a store of many editions is made of, which share what didn't change. Their
-//! definitions stand in `specs/`, one file for each type. `Wire` is what the front
-//! of a script and one of its links tell each other.
+//! exactly what its own clauses say. A store is made of `Files`, or of a `History`, whose editions share what didn't change.
+//! Their definitions stand in `specs/`, one file for each type. `Wire` is what the front of a script and one of its links tell
+//! each other.
 #![tactic(auto)]
 
 mod calls;
