@@ -18,7 +18,7 @@ pub ended-push : (files : List File) (steps : List Step) (s : Step)
 ended-push files [] s = append-nil (ended_by s (after_step files s))
 ended-push files (first ∷ steps) s =
     ap (λ editions. ended_by first (after_step files first) ++ editions) (ended-push (after_step files first) steps s)
-    ∙ sym (append_assoc (ended_by first (after_step files first)) (ended (after_step files first) steps) _)
+    ∙ sym (append_assoc (ended_by first (after_step files first)) (ended (after_step files first) steps) (ended_by s (after_step (fold after_step files (first ∷ steps)) s)))
 
 pub ended-more : (files : List File) (steps : List Step) (s : Step) → is_end s ≡ true
     → ended files (steps ++ s ∷ []) ≡ ended files steps ++ after_step (fold after_step files steps) s ∷ []
@@ -64,7 +64,7 @@ some-step files (s ∷ steps) some = omega arith
 
 -- at the next one
 pub next-one : (editions : List (List File)) (i : ℕ) → i + 1 < length editions → at_first (drop (i + 1) editions) ≡ after_renew (at_first (drop i editions))
-next-one editions i l = rw (add-one i) (go editions i (omega arith))
+next-one editions i l = rw (add-one i) (go editions i l)
   where
     go : (editions : List (List File)) (i : ℕ) → i + 1 < length editions → at_first (drop (suc i) editions) ≡ after_renew (at_first (drop i editions))
     go [] i l = absurd (omega arith)

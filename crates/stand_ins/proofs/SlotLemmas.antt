@@ -55,7 +55,7 @@ set-none name bytes [] none = refl
 set-none name bytes (slot ∷ slots) none =
     set-past name bytes slot.name slot.bytes (files_in slots) (none 0)
     ∙ ap (file_ahead slot.name slot.bytes) (set-none name bytes slots (λ k. none (suc k)))
-    ∙ ahead-append slot.name slot.bytes (files_in slots) _
+    ∙ ahead-append slot.name slot.bytes (files_in slots) (record { name = name; bytes = bytes } ∷ [])
 
 unset-none : (name : List ℕ) (slots : List Slot) → HasNone name slots → without_file name (files_in slots) ≡ files_in slots
 unset-none name [] none = refl
@@ -69,11 +69,11 @@ bytes-none name (slot ∷ slots) none = bytes-past name slot.name slot.bytes (fi
 -- one more at the end
 files-push : (slots : List Slot) (slot : Slot) → files_in (slots ++ slot ∷ []) ≡ files_in slots ++ file_ahead slot.name slot.bytes []
 files-push [] slot = refl
-files-push (first ∷ slots) slot = ap (file_ahead first.name first.bytes) (files-push slots slot) ∙ ahead-append first.name first.bytes (files_in slots) _
+files-push (first ∷ slots) slot = ap (file_ahead first.name first.bytes) (files-push slots slot) ∙ ahead-append first.name first.bytes (files_in slots) (file_ahead slot.name slot.bytes [])
 
 pub put-last : (name bytes : List ℕ) (slots : List Slot) → HasNone name slots
     → files_in (slots ++ record { name = name; bytes = Some bytes } ∷ []) ≡ with_file name bytes (files_in slots)
-put-last name bytes slots none = files-push slots _ ∙ sym (set-none name bytes slots none)
+put-last name bytes slots none = files-push slots (record { name = name; bytes = Some bytes }) ∙ sym (set-none name bytes slots none)
 
 -- ## One of that name
 
@@ -142,7 +142,7 @@ get-missing name slots none = sym (bytes-none name slots none)
 
 -- the file that is there has bytes
 pub has-bytes : (name : List ℕ) (slots : List Slot) (i : ℕ) (slot : Slot) → IsOnlyAt name i slots → slot ≡ get_or slots i slot → is_some slot.bytes ≡ true
-has-bytes name slots i slot only is = first _ _ (ap (has_name name) (sym (there slots i slot only.within is)) ∙ only.named)
+has-bytes name slots i slot only is = first (is_some slot.bytes) (bytes_eq slot.name name) (ap (has_name name) (sym (there slots i slot only.within is)) ∙ only.named)
   where
     first : (a b : Bool) → (a && b) ≡ true → a ≡ true
     first true b h = refl

@@ -142,7 +142,7 @@ fn make_steps(files: &mut Files, coming: &mut VecDeque<Step>, due: usize) -> usi
     ensures fewer { result ≤ due }
 {
     let mut left = due;
-    while left > 0 {
+    'steps: while left > 0 {
         match make_step(files, coming) {
             Ok(true) => left -= 1,
             Ok(false) => (),

@@ -111,7 +111,11 @@ impl History {
         ensures steps { seen_history result.0.items ≡ self }
         ensures count { result.1 ≡ length self.past }
     {
-        let History { steps, count, .. } = self;
+        let History {
+            alloc: _,
+            steps,
+            count,
+        } = self;
         (steps, count)
     }
 }
