@@ -9,8 +9,8 @@
 //!   or of the wire that paces it.
 //! - `sink`: an output. Its first row has the writes that fail, the others are pieces that are written. `slow` takes single bytes.
 //! - `files`: files are set and unset. `store`: the same up to a row `--`, then a row with the calls that fail, and calls of the store.
-//! - `editions`: what a file is in one edition after the other. `history`: files are set, added to and unset, and editions end, up to
-//!   a row `--`; then calls of the store that has it. `notes`: whether each note is the last.
+//! - `editions`: what a file is in one edition after the other. `history`: files are set and unset, and editions end, up to a row
+//!   `--`; then calls of the store that has it. `notes`: whether each note is the last.
 #![tactic(auto)]
 
 mod calls;

@@ -1,21 +1,21 @@
 //! What stores answer.
 use crate::calls::calls_of;
-use mpm_base::{NoMemory, Octets, Store};
+use mpm_base::{NoMemory, Store};
 use stand_ins::{Calls, Files, History, MemStore, PlainStore};
 use std::alloc::Global;
 use std::io;
 use test_rows::{grown, number_of, show_bytes, words};
 
-/// The files that the rows set, add to and unset.
+/// The files that the rows set and unset.
 fn files_of(alloc: Global, rows: &str) -> Result<Files, NoMemory> {
     let mut files = Files::make(alloc);
     for row in rows.lines() {
         let (word, rest) = words(row);
         let (name, bytes) = words(rest);
-        match word {
-            "set" => files.set(name, bytes.as_bytes())?,
-            "add" => files.add(name, bytes.as_bytes())?,
-            _ => files.unset(name),
+        if word == "set" {
+            files.set(name, bytes.as_bytes())?;
+        } else {
+            files.unset(name);
         }
     }
     Ok(files)
@@ -112,7 +112,6 @@ fn history_of(alloc: Global, rows: &str) -> Result<History, NoMemory> {
         let (name, bytes) = words(rest);
         match word {
             "set" => history.set(name, bytes.as_bytes())?,
-            "add" => history.add(name, Octets::of(alloc, bytes.as_bytes())?)?,
             "unset" => history.unset(name)?,
             _ => history.end()?,
         }
@@ -123,6 +122,7 @@ fn history_of(alloc: Global, rows: &str) -> Result<History, NoMemory> {
 /// Shows what the store of a history answers.
 pub fn show_history(rt: &impl Print, alloc: Global, rows: &str) -> io::Result<()> {
     let (changes, calls) = rows.split_once("--\n").unwrap_or((rows, ""));
-    let mut store = PlainStore::of_history(alloc, grown(history_of(alloc, changes))?);
+    let history = grown(history_of(alloc, changes))?;
+    let mut store = grown(PlainStore::of_history(alloc, history))?;
     show_calls(rt, alloc, &mut store, calls)
 }

@@ -23,22 +23,19 @@ fold-site step start before line =
     ap (fold step start) (flat_map-append site_in before (line ∷ []) ∙ ap (λ xs. site_lines before ++ xs) (append-nil (site_in line)))
     ∙ fold-append step start (site_lines before) (site_in line)
 
-edition-line : (before : List ScriptLine) (line : ScriptLine)
-    → edition_of (before ++ line ∷ []) ≡ conf_file (fold conf_after (conf_of before) (site_in line)) ∷ fold files_after (files_of before) (site_in line)
-edition-line before line =
-    ap (λ conf. conf_file conf ∷ files_of (before ++ line ∷ [])) (fold-site conf_after [] before line)
-    ∙ ap (λ others. conf_file (fold conf_after (conf_of before) (site_in line)) ∷ others) (fold-site files_after [] before line)
-
 lines-more : (opening lines : List ScriptLine) (i : ℕ) (line : ScriptLine) → i < length lines → line ≡ get_or lines i line
     → opening ++ take (i + 1) lines ≡ (opening ++ take i lines) ++ line ∷ []
 lines-more opening lines i line l e =
     ap (λ xs. opening ++ xs) (take_more lines i line l ∙ ap (λ x. take i lines ++ x ∷ []) (sym e)) ∙ sym (append_assoc opening (take i lines) (line ∷ []))
 
--- what it leaves of the files
-pub edition-more : (opening lines : List ScriptLine) (i : ℕ) (line : ScriptLine) → i < length lines → line ≡ get_or lines i line
-    → edition_of (opening ++ take (i + 1) lines)
-    ≡ conf_file (fold conf_after (conf_of (opening ++ take i lines)) (site_in line)) ∷ fold files_after (files_of (opening ++ take i lines)) (site_in line)
-edition-more opening lines i line l e = ap edition_of (lines-more opening lines i line l e) ∙ edition-line (opening ++ take i lines) line
+-- what it leaves of the configuration and of the other files
+pub conf-more : (opening lines : List ScriptLine) (i : ℕ) (line : ScriptLine) → i < length lines → line ≡ get_or lines i line
+    → conf_of (opening ++ take (i + 1) lines) ≡ fold conf_after (conf_of (opening ++ take i lines)) (site_in line)
+conf-more opening lines i line l e = ap conf_of (lines-more opening lines i line l e) ∙ fold-site conf_after [] (opening ++ take i lines) line
+
+pub files-more : (opening lines : List ScriptLine) (i : ℕ) (line : ScriptLine) → i < length lines → line ≡ get_or lines i line
+    → files_of (opening ++ take (i + 1) lines) ≡ fold files_after (files_of (opening ++ take i lines)) (site_in line)
+files-more opening lines i line l e = ap files_of (lines-more opening lines i line l e) ∙ fold-site files_after [] (opening ++ take i lines) line
 
 -- the edition that may end with it
 one-edition : (graceful : Bool) (past rest : List (List File)) (edition : List File)

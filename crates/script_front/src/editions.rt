@@ -2,21 +2,19 @@
 //!
 //! Which files those are stands in `specs/Editions.antt`. The file `httpd.conf` is always there, empty where no line says
 //! otherwise: it is the configuration. Each line is read once, and an edition shares with the one before it what didn't change.
-ghost use Rattle.std.specs.Prelude.{◌≡◌, ◌≤◌, ℕ, List, Some, [], ◌∷◌, ◌++◌, length, All, IsUtf8, IsSome, IfOk, OnOk, if◌then◌else◌};
+ghost use Rattle.std.specs.Prelude.{◌≡◌, ◌≤◌, List, Some, [], ◌∷◌, ◌++◌, length, All, IsSome, IfOk, OnOk, if◌then◌else◌};
 ghost use Rattle.std.specs.List.{fold, prefix_len};
 ghost use Rattle.mpm_base.specs.Store.{bytes_of};
 ghost use Rattle.mpm_base.specs.declared.store.File.{File as SeenFile};
 ghost use Rattle.mpm_base.specs.declared.script_line.ScriptLine.{ScriptLine as Line};
-ghost use Rattle.mpm_script.specs.FileNames.{HasTextName, HaveTextNames, NamesText};
-ghost use Rattle.script_front.specs.Editions.{conf_after, conf_file, conf_name, conf_of, edition_of, editions_behind, editions_of, files_after, is_conf_name, is_graceful, is_site, opening_lines, site_in, store_of};
+ghost use Rattle.mpm_script.specs.FileNames.{HasTextName, HaveTextNames};
+ghost use Rattle.script_front.specs.Editions.{conf_after, conf_file, conf_name, conf_of, edition_of, editions_behind, editions_of, files_after, files_of, is_graceful, is_site, opening_lines, site_in, store_of};
 
-use mpm_base::{CommandWord, NoMemory, Octets, ScriptLine, SiteLine};
+use crate::draft::Draft;
+use mpm_base::{CommandWord, NoMemory, ScriptLine};
 use mpm_script::Script;
-use stand_ins::{History, PlainStore};
+use stand_ins::PlainStore;
 use std::alloc::Global;
-
-/// The name of the configuration among the files of a script.
-pub const CONF_NAME: &str = "httpd.conf";
 
 /// The store of the script. Its first edition has the effect of the lines of the site before all others, and is there from
 /// the start; each later one has that of all lines of the site before a `command graceful`, and comes with `renew`. No call
@@ -27,10 +25,10 @@ pub fn script_store(alloc: Global, script: &Script) -> Result<PlainStore, NoMemo
 {
     let lines = script.lines();
     let (opening, behind) = lines.split_at(opening_len(lines));
-    let mut history = opening_of(alloc, opening)?;
-    history.end()?;
-    take_lines(alloc, &mut history, opening, behind)?;
-    Ok(PlainStore::of_history(alloc, history))
+    let mut draft = Draft::make(alloc)?;
+    take_opening(&mut draft, opening)?;
+    take_lines(&mut draft, opening, behind)?;
+    PlainStore::of_history(alloc, draft.into_history())
 }
 
 /// A law of the editions of a script: each has the file of the configuration. The first one's is what the lines of the site
@@ -63,106 +61,67 @@ fn is_graceful(line: &ScriptLine) -> bool
     matches!(line, ScriptLine::Command(CommandWord::Graceful))
 }
 
-/// What the lines of the site among these do to no files but an empty configuration.
-fn opening_of(alloc: Global, lines: &[ScriptLine]) -> Result<History, NoMemory>
-    requires { HaveTextNames lines.now }
-    ensures { IfOk result (λ history. history ≡ record { past = []; files = edition_of lines.now }) }
+/// The lines of the opening happen to an empty site, and its edition ends.
+fn take_opening(draft: &mut Draft, lines: &[ScriptLine]) -> Result<(), NoMemory>
+    requires names { HaveTextNames lines.now }
+    requires empty { draft.old ≡ record { past = []; conf = []; others = [] } }
+    ensures { OnOk result (draft.new ≡ record {
+      past = edition_of lines.now ∷ [];
+      conf = conf_of lines.now;
+      others = files_of lines.now;
+    }) }
 {
-    let mut history = History::make(alloc);
-    history.set(CONF_NAME, b"")?;
     for line in lines {
-        change(alloc, &mut history, line)?;
+        change(draft, line)?;
     }
-    Ok(history)
+    draft.end()
 }
 
-/// What the lines behind the opening do, and the editions that end with them. Where memory lacks some may have been done.
+/// The lines behind the opening happen, and the editions end that end with them.
 fn take_lines(
-    alloc: Global,
-    history: &mut History,
+    draft: &mut Draft,
     opening: &[ScriptLine],
     lines: &[ScriptLine],
 ) -> Result<(), NoMemory>
     requires names { HaveTextNames lines.now }
-    requires files { history.old.files ≡ edition_of opening.now }
-    ensures { OnOk result (history.new.past ≡ history.old.past ++ editions_behind opening.now lines.now) }
+    requires conf { draft.old.conf ≡ conf_of opening.now }
+    requires others { draft.old.others ≡ files_of opening.now }
+    ensures { OnOk result
+        (draft.new.past ≡ draft.old.past ++ editions_behind opening.now lines.now) }
 {
     for line in lines {
-        take_line(alloc, history, line)?;
+        take_line(draft, line)?;
     }
     Ok(())
 }
 
 /// The same of one line.
-fn take_line(alloc: Global, history: &mut History, line: &ScriptLine) -> Result<(), NoMemory>
+fn take_line(draft: &mut Draft, line: &ScriptLine) -> Result<(), NoMemory>
     requires { HasTextName line.now }
-    ensures past { OnOk result (history.new.past
-        ≡ (if is_graceful line.now then history.old.past ++ history.old.files ∷ []
-        else history.old.past)) }
-    ensures files { OnOk result
-        ((conf : List ℕ) (others : List SeenFile) → history.old.files ≡ conf_file conf ∷ others →
-        history.new.files ≡ conf_file (fold conf_after conf (site_in line.now))
-        ∷ fold files_after others (site_in line.now)) }
+    ensures past { OnOk result (draft.new.past ≡ (if is_graceful line.now
+        then draft.old.past ++ (conf_file draft.old.conf ∷ draft.old.others) ∷ []
+        else draft.old.past)) }
+    ensures conf { OnOk result
+        (draft.new.conf ≡ fold conf_after draft.old.conf (site_in line.now)) }
+    ensures others { OnOk result
+        (draft.new.others ≡ fold files_after draft.old.others (site_in line.now)) }
 {
     if is_graceful(line) {
-        return history.end();
+        return draft.end();
     }
-    change(alloc, history, line)
+    change(draft, line)
 }
 
-/// What the line does to the files happens; the configuration's file stands before them.
-fn change(alloc: Global, history: &mut History, line: &ScriptLine) -> Result<(), NoMemory>
+/// What the line does to the site happens.
+fn change(draft: &mut Draft, line: &ScriptLine) -> Result<(), NoMemory>
     requires { HasTextName line.now }
-    ensures past { OnOk result (history.new.past ≡ history.old.past) }
-    ensures files { OnOk result
-        ((conf : List ℕ) (others : List SeenFile) → history.old.files ≡ conf_file conf ∷ others →
-        history.new.files ≡ conf_file (fold conf_after conf (site_in line.now))
-        ∷ fold files_after others (site_in line.now)) }
+    ensures { OnOk result (draft.new ≡ record draft.old {
+      conf = fold conf_after draft.old.conf (site_in line.now);
+      others = fold files_after draft.old.others (site_in line.now);
+    }) }
 {
     match line {
-        ScriptLine::Site(site) => change_site(alloc, history, site),
+        ScriptLine::Site(site) => draft.change(site),
         _ => Ok(()),
-    }
-}
-
-/// The same of a line of the site.
-fn change_site(alloc: Global, history: &mut History, site: &SiteLine) -> Result<(), NoMemory>
-    requires { NamesText site.now }
-    ensures past { OnOk result (history.new.past ≡ history.old.past) }
-    ensures files { OnOk result
-        ((conf : List ℕ) (others : List SeenFile) → history.old.files ≡ conf_file conf ∷ others →
-        history.new.files ≡ conf_file (conf_after conf site.now) ∷ files_after others site.now) }
-{
-    match site {
-        SiteLine::Conf(text) => history.add(CONF_NAME, line_of(alloc, text.as_slice())?),
-        SiteLine::Clear => history.set(CONF_NAME, b""),
-        SiteLine::File(name, bytes) => history.set(text_of(name.as_slice()), bytes.as_slice()),
-        SiteLine::Unfile(name) if is_conf_name(name) => history.set(CONF_NAME, b""),
-        SiteLine::Unfile(name) => history.unset(text_of(name.as_slice())),
-    }
-}
-
-/// The text and a line feed.
-fn line_of(alloc: Global, text: &[u8]) -> Result<Octets, NoMemory>
-    ensures { IfOk result (λ line. line ≡ text.now ++ 10 ∷ []) }
-{
-    let mut line = Octets::of(alloc, text)?;
-    line.add(b"\n")?;
-    Ok(line)
-}
-
-fn is_conf_name(name: &Octets) -> bool
-    ensures { result ≡ is_conf_name name.now }
-{
-    CONF_NAME.as_bytes() == name.as_slice()
-}
-
-fn text_of(bytes: &[u8]) -> &str
-    requires { IsUtf8 bytes.now }
-    ensures { result.now ≡ bytes.now }
-{
-    match std::str::from_utf8(bytes) {
-        Ok(text) => text,
-        Err(_) => unreachable!(),
     }
 }

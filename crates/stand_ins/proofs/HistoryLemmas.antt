@@ -1,12 +1,12 @@
 -- What a further step leaves of a history, and what a store that goes through its editions tells.
-use Rattle.std.proofs.Common.{◌≡◌, ℕ, zero, suc, ◌+◌, ◌-◌, ◌<◌, ◌≤◌, Bool, true, false, cond, List, [], ◌∷◌, ◌++◌, length, drop, refl, sym, ap, ◌∙◌, append_assoc, add-one, arith}
+use Rattle.std.proofs.Common.{◌≡◌, ℕ, suc, ◌+◌, ◌<◌, Bool, true, false, cond, List, [], ◌∷◌, ◌++◌, length, refl, sym, ap, ◌∙◌, append_assoc, arith}
 use Rattle.std.specs.List.{fold}
 use Rattle.std.proofs.lemmas.List.{append-nil, length-append}
 use Rattle.std.proofs.lemmas.List.Sums.{fold-append}
 use Rattle.mpm_base.specs.Store.{StoreTold, after_renew}
 use Rattle.mpm_base.specs.declared.store.File.{File}
 use Rattle.stand_ins.specs.History.{SeenHistory}
-use Rattle.stand_ins.specs.HistoryInside.{AreCounted, after_step, at_first, ended, ended_by, is_end, seen_history, told_by}
+use Rattle.stand_ins.specs.HistoryInside.{after_step, ended, ended_by, is_end, seen_history, told_by}
 use Rattle.stand_ins.specs.PlainStore.{with_edition}
 use Rattle.stand_ins.specs.declared.history.Step.{Step}
 
@@ -62,44 +62,41 @@ some-step files (s ∷ steps) some = omega arith
 
 -- ## A store that goes through editions
 
--- at the next one
-pub next-one : (editions : List (List File)) (i : ℕ) → i + 1 < length editions → at_first (drop (i + 1) editions) ≡ after_renew (at_first (drop i editions))
-next-one editions i l = rw (add-one i) (go editions i l)
+-- as many end whatever the files are before
+pub same-count : (files other : List File) (steps : List Step) → length (ended files steps) ≡ length (ended other steps)
+same-count files other [] = refl
+same-count files other (s ∷ steps) = by_step (is_end s) (same-count (after_step files s) (after_step other s) steps)
   where
-    go : (editions : List (List File)) (i : ℕ) → i + 1 < length editions → at_first (drop (suc i) editions) ≡ after_renew (at_first (drop i editions))
-    go [] i l = absurd (omega arith)
-    go (edition ∷ []) i l = absurd (omega arith)
-    go (edition ∷ next ∷ editions) zero l = refl
-    go (edition ∷ next ∷ editions) (suc i) l = go (next ∷ editions) i (omega arith)
+    by_step : (end : Bool) → length (ended (after_step files s) steps) ≡ length (ended (after_step other s) steps)
+        → length (cond end (after_step files s ∷ []) [] ++ ended (after_step files s) steps) ≡ length (cond end (after_step other s ∷ []) [] ++ ended (after_step other s) steps)
+    by_step true rest = ap suc rest
+    by_step false rest = rest
 
--- at the last one it stays
-pub last-one : (editions : List (List File)) (i : ℕ) → i + 1 ≡ length editions → at_first (drop i editions) ≡ after_renew (at_first (drop i editions))
-last-one [] i l = absurd (omega arith)
-last-one (edition ∷ []) zero l = refl
-last-one (edition ∷ []) (suc i) l = absurd (omega arith)
-last-one (edition ∷ next ∷ editions) zero l = absurd (omega arith)
-last-one (edition ∷ next ∷ editions) (suc i) l = last-one (next ∷ editions) i (omega arith)
+none-left : {X : Type 0} (xs : List X) → length xs ≡ 0 → xs ≡ []
+none-left [] none = refl
+none-left (x ∷ xs) none = absurd (omega arith)
+
+-- at the next one of those that come by steps
+pub next-told : (files files' : List File) (steps steps' : List Step) (others : List (List File))
+    → files' ∷ ended files' steps' ≡ ended files steps → told_by files' steps' others ≡ after_renew (told_by files steps others)
+next-told files files' steps steps' others is =
+    ap (λ editions. after_renew (let told : StoreTold = record { files = files; later = editions ++ others } in told)) is
+
+-- at the next one of the others, where no further one comes by steps
+pub other-told : (files next : List File) (steps : List Step) (others : List (List File)) → 0 ≡ length (ended files steps)
+    → told_by next [] others ≡ after_renew (told_by files steps (next ∷ others))
+other-told files next steps others none =
+    ap (λ editions. after_renew (let told : StoreTold = record { files = files; later = editions ++ (next ∷ others) } in told)) (sym (none-left (ended files steps) (sym none)))
+
+-- and at the last one it stays
+pub last-told : (files : List File) (steps : List Step) → 0 ≡ length (ended files steps) → told_by files steps [] ≡ after_renew (told_by files steps [])
+last-told files steps none =
+    let empty : ended files steps ≡ [] = none-left (ended files steps) (sym none) in
+    ap (λ editions. let told : StoreTold = record { files = files; later = editions ++ [] } in told) empty
+    ∙ ap (λ editions. after_renew (let told : StoreTold = record { files = files; later = editions ++ [] } in told)) (sym empty)
 
 -- one more behind all others
-one-behind : (editions : List (List File)) (i : ℕ) (files : List File) → i < length editions
-    → at_first (drop i (editions ++ files ∷ [])) ≡ with_edition files (at_first (drop i editions))
-one-behind [] i files l = absurd (omega arith)
-one-behind (edition ∷ editions) zero files l = refl
-one-behind (edition ∷ editions) (suc i) files l = one-behind editions i files (omega arith)
-
-pub told-later : (files : List File) (steps : List Step) (due count : ℕ) (s : Step) (edition : List File) → AreCounted files steps due count → is_end s ≡ true
-    → after_step (fold after_step files steps) s ≡ edition → told_by files (steps ++ s ∷ []) due ≡ with_edition edition (told_by files steps due)
-told-later files steps due count s edition counted is same =
-    ap (λ editions. at_first (drop due (files ∷ editions))) (ended-more files steps s is ∙ ap (λ e. ended files steps ++ e ∷ []) same)
-    ∙ one-behind (files ∷ ended files steps) due edition (omega (arith, counted.counted, counted.within))
-
--- ## Steps that are made
-
--- the files before the next edition count for nothing where that is due
-pub due-ahead : (due : ℕ) (files other : List File) (editions : List (List File)) → 0 < due → drop due (files ∷ editions) ≡ drop due (other ∷ editions)
-due-ahead zero files other editions some = absurd (omega arith)
-due-ahead (suc due) files other editions some = refl
-
-pub due-one : (due : ℕ) (files : List File) (editions : List (List File)) → 0 < due → drop (due - 1) editions ≡ drop due (files ∷ editions)
-due-one zero files editions some = absurd (omega arith)
-due-one (suc due) files editions some = let less : suc due - 1 ≡ due = omega arith in ap (λ n. drop n editions) less
+pub later-told : (files : List File) (steps : List Step) (others : List (List File)) (edition : List File)
+    → told_by files steps (others ++ edition ∷ []) ≡ with_edition edition (told_by files steps others)
+later-told files steps others edition =
+    ap (λ later. let told : StoreTold = record { files = files; later = later } in told) (sym (append_assoc (ended files steps) others (edition ∷ [])))

@@ -1,13 +1,13 @@
 -- What a change at one place leaves of the files.
 use Rattle.std.proofs.Common.{◌≡◌, ◌≢◌, ℕ, zero, suc, ◌<◌, ◌≤◌, Bool, true, false, ◌&&◌, List, [], ◌∷◌, ◌++◌, length, Option, None, Some, get_or, set, bytes_eq, refl, sym, ap, ◌∙◌, arith}
-use Rattle.std.specs.Option.{is_some, unwrap_or}
+use Rattle.std.specs.Option.{is_some}
 use Rattle.std.proofs.lemmas.Bool.Decides.{nat_tests}
 use Rattle.std.proofs.lemmas.Grind.{common_steps}
 use Rattle.std.proofs.lemmas.List.{append-nil, get_or_default}
 use Rattle.mpm_base.specs.Store.{bytes_of}
 use Rattle.mpm_base.specs.declared.store.File.{File}
 use Rattle.stand_ins.specs.declared.slot.Slot.{Slot}
-use Rattle.stand_ins.specs.Files.{file_ahead, files_in, with_file, with_more, without_file}
+use Rattle.stand_ins.specs.Files.{file_ahead, files_in, with_file, without_file}
 use Rattle.stand_ins.specs.FilesInside.{HasNone, IsOnlyAt, gone, has_name, slot_at}
 
 -- the test at a place whose name and bytes these are
@@ -120,15 +120,6 @@ pub bytes-only : (name : List ℕ) (slots : List Slot) (i : ℕ) (slot : Slot) �
 bytes-only name slots i slot only is =
     bytes-at name slots i only.named (before-only name slots i only) ∙ ap (λ (s : Slot). s.bytes) (there slots i slot only.within is)
 
-pub add-only : (name bytes : List ℕ) (slots : List Slot) (i : ℕ) (slot : Slot) → IsOnlyAt name i slots → slot ≡ get_or slots i slot
-    → files_in (set slots i (record slot { bytes = Some (unwrap_or slot.bytes [] ++ bytes) })) ≡ with_more name bytes (files_in slots)
-add-only name bytes slots i slot only is =
-    set-only name (unwrap_or slot.bytes [] ++ bytes) slots i slot only is
-    ∙ ap (λ old. with_file name (unwrap_or old [] ++ bytes) (files_in slots)) (sym (bytes-only name slots i slot only is))
-
-pub add-none : (name bytes : List ℕ) (slots : List Slot) → HasNone name slots → with_more name bytes (files_in slots) ≡ with_file name bytes (files_in slots)
-add-none name bytes slots none = ap (λ old. with_file name (unwrap_or old [] ++ bytes) (files_in slots)) (bytes-none name slots none)
-
 pub unset-only : (name : List ℕ) (slots : List Slot) (i : ℕ) (slot : Slot) → IsOnlyAt name i slots → slot ≡ get_or slots i slot
     → files_in (set slots i (record slot { bytes = None })) ≡ without_file name (files_in slots)
 unset-only name slots i slot only is =
@@ -141,9 +132,13 @@ pub get-missing : (name : List ℕ) (slots : List Slot) → HasNone name slots �
 get-missing name slots none = sym (bytes-none name slots none)
 
 -- the file that is there has bytes
-pub has-bytes : (name : List ℕ) (slots : List Slot) (i : ℕ) (slot : Slot) → IsOnlyAt name i slots → slot ≡ get_or slots i slot → is_some slot.bytes ≡ true
-has-bytes name slots i slot only is = first (is_some slot.bytes) (bytes_eq slot.name name) (ap (has_name name) (sym (there slots i slot only.within is)) ∙ only.named)
+pub has-bytes : (name : List ℕ) (slot : Slot) → has_name name slot ≡ true → is_some slot.bytes ≡ true
+has-bytes name slot is = first (is_some slot.bytes) (bytes_eq slot.name name) is
   where
     first : (a b : Bool) → (a && b) ≡ true → a ≡ true
     first true b h = refl
     first false b h = absurd (cc h)
+
+-- what stands where one is, of its name
+pub only-name : (name : List ℕ) (slots : List Slot) (i : ℕ) (slot : Slot) → IsOnlyAt name i slots → slot ≡ get_or slots i slot → has_name name slot ≡ true
+only-name name slots i slot only is = ap (has_name name) (sym (there slots i slot only.within is)) ∙ only.named

@@ -1,7 +1,5 @@
 -- A list of files by name: what setting and removing one leaves of it, and which files there are at places.
-use Rattle.std.specs.Prelude.{ℕ, Bool, not, List, [], ◌∷◌, ◌++◌, filter, bytes_eq, if◌then◌else◌, Option, None, Some}
-use Rattle.std.specs.Option.{unwrap_or}
-use Rattle.mpm_base.specs.Store.{bytes_of}
+use Rattle.std.specs.Prelude.{ℕ, Bool, not, List, [], ◌∷◌, filter, bytes_eq, if◌then◌else◌, Option, None, Some}
 use Rattle.mpm_base.specs.declared.store.File.{File}
 use Rattle.stand_ins.specs.declared.slot.Slot.{Slot}
 
@@ -14,10 +12,6 @@ abbrev pub with_file : List ℕ → List ℕ → List File → List File
 with_file name bytes [] = record { name = name; bytes = bytes } ∷ []
 with_file name bytes (file ∷ files) =
     if is_file_named name file then record file { bytes = bytes } ∷ files else file ∷ with_file name bytes files
-
--- the files once these bytes were put behind those of the file of that name: in its place where there was one, else at the end
-abbrev pub with_more : List ℕ → List ℕ → List File → List File
-with_more name bytes files = with_file name (unwrap_or (bytes_of name files) [] ++ bytes) files
 
 -- the files without that name
 abbrev pub without_file : List ℕ → List File → List File

@@ -1,10 +1,20 @@
 -- What holds between files at places and a map that finds them, and which of their names lie below a folder.
-use Rattle.std.specs.Prelude.{◌≡◌, ◌≢◌, ℕ, ◌<◌, Bool, true, false, ◌&&◌, List, [], length, map, filter, All, IsUtf8, Option, None, Some, bytes_eq, slice_index_or}
+use Rattle.std.specs.Prelude.{◌≡◌, ◌≢◌, ℕ, ◌-◌, ◌<◌, min, Bool, true, false, ◌&&◌, List, [], length, map, filter, All, IsUtf8, Option, None, Some, bytes_eq, slice_index_or, vec_capacity}
 use Rattle.std.specs.Option.{is_some}
 use Rattle.std.specs.Global.{Vec}
-use Rattle.std.specs.HashMap.{HashMap, get_by}
+use Rattle.std.specs.HashMap.{HashMap, get_by, spare}
 use Rattle.mpm_base.specs.Store.{lies_under}
+use Rattle.mpm_base.specs.declared.store.File.{File}
 use Rattle.stand_ins.specs.declared.slot.Slot.{Slot}
+
+-- files, and for how many further ones there is room
+pub record SeenShelf : Type 0 where
+  pub files : List File
+  pub room : ℕ
+
+-- for how many there is room in both
+abbrev pub room_in : {X Y S : Type 0} → ℕ → ℕ → HashMap X Y S → ℕ
+room_in size capacity places = min (capacity - size) (spare places)
 
 -- a place at which there is no file
 abbrev pub gone : Slot

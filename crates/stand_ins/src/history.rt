@@ -1,10 +1,10 @@
 //! The changes of a folder of files, one behind the other, and where its editions end.
 ghost use Rattle.std.specs.Prelude.{◌≡◌, ◌++◌, ◌∷◌, [], length, OnOk, OnErr};
-ghost use Rattle.stand_ins.specs.Files.{with_file, with_more, without_file};
+ghost use Rattle.stand_ins.specs.Files.{with_file, without_file};
 ghost use Rattle.stand_ins.specs.History.{no_history};
 ghost use Rattle.stand_ins.specs.HistoryInside.{seen_history};
 
-use crate::files::Files;
+use crate::entry::Entry;
 use mpm_base::{NoMemory, Octets};
 use std::alloc::Global;
 use std::collections::VecDeque;
@@ -14,15 +14,11 @@ use std::marker::Model;
 #[derive(Debug, Drop)]
 pub(crate) enum Step {
     /// The file of that name has these bytes from now on.
-    Set(String, Octets),
-    /// It has these behind its own.
-    Add(String, Octets),
-    /// There is no such file any more.
-    Unset(String),
+    Set(Entry),
+    /// There is no file of that name any more.
+    Unset(Octets),
     /// The files are an edition.
     End,
-    /// These files are one, in place of all before.
-    Whole(Files),
 }
 
 /// What became of a folder of files, which is empty at first: one list of its changes, and of where its editions end. So an edition
@@ -58,26 +54,15 @@ impl History {
         }
     }
 
-    /// Gives the file of that name these bytes, as `Files::set` does. Where memory lacks nothing changes.
+    /// Gives the file of that name these bytes, in its place, or puts it at the end where there is none.
+    /// Where memory lacks nothing changes.
     pub fn set(&mut self, name: &str, bytes: &[u8]) -> Result<(), NoMemory>
         ensures ok { OnOk result (self.new
             ≡ record self.old { files = with_file name.now bytes.now self.old.files }) }
         ensures err { OnErr result (self.new ≡ self.old) }
     {
-        let text = String::from_str(self.alloc, name)?;
-        let octets = Octets::of(self.alloc, bytes)?;
-        self.steps.push_back(Step::Set(text, octets))?;
-        Ok(())
-    }
-
-    /// Puts these bytes behind those of the file of that name, as `Files::add` does. Where memory lacks nothing changes.
-    pub fn add(&mut self, name: &str, bytes: Octets) -> Result<(), NoMemory>
-        ensures ok { OnOk result (self.new
-            ≡ record self.old { files = with_more name.now bytes self.old.files }) }
-        ensures err { OnErr result (self.new ≡ self.old) }
-    {
-        let text = String::from_str(self.alloc, name)?;
-        self.steps.push_back(Step::Add(text, bytes))?;
+        let entry = Entry::of(self.alloc, name, bytes)?;
+        self.steps.push_back(Step::Set(entry))?;
         Ok(())
     }
 
@@ -87,8 +72,8 @@ impl History {
             ≡ record self.old { files = without_file name.now self.old.files }) }
         ensures err { OnErr result (self.new ≡ self.old) }
     {
-        let text = String::from_str(self.alloc, name)?;
-        self.steps.push_back(Step::Unset(text))?;
+        let octets = Octets::of(self.alloc, name.as_bytes())?;
+        self.steps.push_back(Step::Unset(octets))?;
         Ok(())
     }
 

@@ -9,6 +9,7 @@
 
 mod calls;
 mod editions;
+mod entry;
 mod files;
 mod history;
 mod link_counters;
@@ -18,6 +19,7 @@ mod mem_store;
 mod plain_link;
 mod plain_store;
 mod script_link;
+mod shelf;
 mod slot;
 mod wire;
 

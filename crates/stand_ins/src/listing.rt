@@ -4,7 +4,7 @@ ghost use Rattle.mpm_base.specs.Store.{bytes_of, lies_under, names_under};
 ghost use Rattle.stand_ins.specs.FilesInside.{is_listed, names_in};
 ghost use Rattle.stand_ins.specs.PlainStore.{file_answer, names_answer, AnswersUnlessNoMemory};
 
-use crate::files::Files;
+use crate::shelf::Shelf;
 use crate::slot::Slot;
 use mpm_base::{Names, NoMemory, Octets, StoreFault};
 use std::alloc::Global;
@@ -12,13 +12,13 @@ use std::alloc::Global;
 /// The bytes of a file, at most so many.
 pub(crate) fn read_file(
     alloc: Global,
-    files: &Files,
+    shelf: &Shelf,
     name: &str,
     most: u64,
 ) -> Result<Octets, StoreFault>
-    ensures { AnswersUnlessNoMemory result (file_answer (bytes_of name.now files.now) most) }
+    ensures { AnswersUnlessNoMemory result (file_answer (bytes_of name.now shelf.now.files) most) }
 {
-    let Some(bytes) = files.get(name) else {
+    let Some(bytes) = shelf.get(name.as_bytes()) else {
         return Err(StoreFault::Missing);
     };
     let size = bytes.len() as u64;
@@ -54,16 +54,16 @@ fn copy_names(alloc: Global, slots: &[Slot], folder: &str) -> Result<Names, NoMe
 /// The names below a folder, at most so many.
 pub(crate) fn list_names(
     alloc: Global,
-    files: &Files,
+    shelf: &Shelf,
     folder: &str,
     most: u32,
 ) -> Result<Names, StoreFault>
     ensures answer { AnswersUnlessNoMemory result
-        (names_answer (names_under folder.now files.now) most) }
+        (names_answer (names_under folder.now shelf.now.files) most) }
     ensures utf8 { IfOk result (λ names. All IsUtf8 names) }
     ensures below { IfOk result (All (λ name. lies_under folder.now name ≡ true)) }
 {
-    let slots = files.slots();
+    let slots = shelf.slots();
     if count_names(slots, folder) > most as usize {
         return Err(StoreFault::Many);
     }

@@ -1,5 +1,5 @@
 //! A store in memory that never fails.
-ghost use Rattle.std.specs.Prelude.{◌≡◌, Some, OnOk, OnErr};
+ghost use Rattle.std.specs.Prelude.{◌≡◌, Some, IfOk, OnOk, OnErr};
 ghost use Rattle.mpm_base.specs.Store.{Renews, ListsNames, ReadsFile, after_renew, bytes_of, names_under, is_refusal, answers_with, telling_store};
 ghost use Rattle.stand_ins.specs.History.{told_past};
 ghost use Rattle.stand_ins.specs.PlainStore.{no_store_counts, only_files, with_edition, file_answer, names_answer, AnswersUnlessNoMemory, count_answer};
@@ -7,6 +7,7 @@ ghost use Rattle.stand_ins.specs.PlainStore.{no_store_counts, only_files, with_e
 use crate::editions::Editions;
 use crate::files::Files;
 use crate::history::History;
+use crate::listing::{list_names, read_file};
 use mpm_base::{Names, NoMemory, Octets, Store, StoreFault};
 use std::alloc::Global;
 use std::marker::Model;
@@ -40,15 +41,16 @@ impl PlainStore {
         }
     }
 
-    /// A store of the editions that ended in the history, which is at the first one. Where none did it has no file. It takes no
-    /// memory.
-    pub fn of_history(alloc: Global, history: History) -> PlainStore
-        ensures { result ≡ record { told = told_past history.past; counts = no_store_counts } }
+    /// A store of the editions that ended in the history, which is at the first one. Where none did it has no file. No later call
+    /// but those that copy names and bytes needs memory.
+    pub fn of_history(alloc: Global, history: History) -> Result<PlainStore, NoMemory>
+        ensures { IfOk result (λ store.
+            store ≡ record { told = told_past history.past; counts = no_store_counts }) }
     {
-        PlainStore {
-            editions: Editions::of(alloc, history),
+        Ok(PlainStore {
+            editions: Editions::of(alloc, history)?,
             refused: 0,
-        }
+        })
     }
 
     /// Puts an edition behind all others. Where memory lacks nothing changes, and the files are dropped.
@@ -100,7 +102,7 @@ impl Store for PlainStore {
         ensures state { self.new
             ≡ record self.old { counts = count_answer result self.old.counts } }
     {
-        let answer = self.editions.names(alloc, under, most);
+        let answer = list_names(alloc, self.editions.shelf(), under, most);
         if was_refused(&answer) {
             self.refused = self.refused.saturating_add(1);
         }
@@ -117,7 +119,7 @@ impl Store for PlainStore {
         ensures state { self.new
             ≡ record self.old { counts = count_answer result self.old.counts } }
     {
-        let answer = self.editions.read(alloc, name, most);
+        let answer = read_file(alloc, self.editions.shelf(), name, most);
         if was_refused(&answer) {
             self.refused = self.refused.saturating_add(1);
         }

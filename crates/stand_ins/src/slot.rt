@@ -1,10 +1,9 @@
 //! A place at which a file is, or was.
-ghost use Rattle.std.specs.Prelude.{◌≡◌, ◌++◌, [], Some, IsSome, OnOk, OnErr};
-ghost use Rattle.std.specs.Option.{unwrap_or};
+ghost use Rattle.std.specs.Prelude.{◌≡◌, option_map};
 ghost use Rattle.mpm_base.specs.Store.{lies_under};
 ghost use Rattle.stand_ins.specs.FilesInside.{has_name, is_listed};
 
-use mpm_base::{NoMemory, Octets};
+use mpm_base::Octets;
 
 /// A place among files: the name of the file that was put there, and its bytes, until it is removed.
 #[derive(Debug, Drop)]
@@ -15,10 +14,10 @@ pub struct Slot {
 
 impl Slot {
     /// Whether there is a file of that name.
-    pub(crate) fn has_name(&self, name: &str) -> bool
+    pub(crate) fn has_name(&self, name: &[u8]) -> bool
         ensures { result ≡ has_name name.now self.now }
     {
-        self.bytes.is_some() && self.name.as_slice() == name.as_bytes()
+        self.bytes.is_some() && self.name.as_slice() == name
     }
 
     /// Whether there is a file whose name lies below a folder.
@@ -28,16 +27,13 @@ impl Slot {
         self.bytes.is_some() && is_under(self.name.as_slice(), folder)
     }
 
-    /// Puts these bytes behind those of the file. Where memory lacks nothing changes.
-    pub(crate) fn add(&mut self, bytes: &[u8]) -> Result<(), NoMemory>
-        requires { IsSome self.old.bytes }
-        ensures ok { OnOk result (self.new
-            ≡ record self.old { bytes = Some (unwrap_or self.old.bytes [] ++ bytes.now) }) }
-        ensures err { OnErr result (self.new ≡ self.old) }
+    /// The bytes of the file, where there is one.
+    pub(crate) fn kept(&self) -> Option<&Octets>
+        ensures { option_map (λ bytes. bytes.now) result ≡ self.now.bytes }
     {
-        match &mut self.bytes {
-            Some(kept) => kept.add(bytes),
-            None => unreachable!(),
+        match &self.bytes {
+            Some(bytes) => Some(bytes),
+            None => None,
         }
     }
 }
