@@ -13,11 +13,11 @@ use Rattle.stand_ins.specs.declared.slot.Slot.{Slot}
 use Rattle.stand_ins.specs.FilesInside.{AreFound, FindsSlots, HasNone, HaveTexts, IsOnlyAt, gone, has_name, slot_at}
 
 false_if : (b : Bool) → (b ≡ true → ⊥) → b ≡ false
-false_if true no = absurd (no refl)
-false_if false no = refl
+false_if true never = absurd (never refl)
+false_if false never = refl
 
 not_both : (b : Bool) → b ≡ true → b ≡ false → ⊥
-not_both b yes no = let both : true ≡ false = sym yes ∙ no in cc both
+not_both b one other = let both : true ≡ false = sym one ∙ other in cc both
 
 second : (a b : Bool) → (a && b) ≡ true → b ≡ true
 second true b h = h

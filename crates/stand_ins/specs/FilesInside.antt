@@ -1,5 +1,5 @@
 -- What holds between files at places and a map that finds them, and which of their names lie below a folder.
-use Rattle.std.specs.Prelude.{◌≡◌, ◌≢◌, ℕ, ◌-◌, ◌<◌, min, Bool, true, false, ◌&&◌, List, [], length, map, filter, All, IsUtf8, Option, None, Some, bytes_eq, slice_index_or, vec_capacity}
+use Rattle.std.specs.Prelude.{◌≡◌, ◌≢◌, ℕ, ◌-◌, ◌<◌, min, Bool, true, false, ◌&&◌, List, [], length, map, filter, All, IsUtf8, Option, None, Some, bytes_eq, slice_index_or, vec_capacity, vec_len}
 use Rattle.std.specs.Option.{is_some}
 use Rattle.std.specs.Global.{Vec}
 use Rattle.std.specs.HashMap.{HashMap, get_by, spare}
@@ -13,8 +13,13 @@ pub record SeenShelf : Type 0 where
   pub room : ℕ
 
 -- for how many there is room in both
-abbrev pub room_in : {X Y S : Type 0} → ℕ → ℕ → HashMap X Y S → ℕ
-room_in size capacity places = min (capacity - size) (spare places)
+abbrev pub room_in : {X S : Type 0} → Vec X → HashMap (Vec ℕ) ℕ S → ℕ
+room_in slots places = min (vec_capacity slots - vec_len slots) (spare places)
+
+-- the key of a file is its name, which is UTF-8
+pub record IsEntry (key name : List ℕ) : Type 0 where
+  pub same : key ≡ name
+  pub text : IsUtf8 name
 
 -- a place at which there is no file
 abbrev pub gone : Slot

@@ -1,8 +1,8 @@
 //! Files at places, and a map that finds them.
-ghost use Rattle.std.specs.Prelude.{◌≡◌, ℕ, ◌+◌, ◌<◌, ◌≤◌, [], IfSome, IfNone, IfOk, IsOk, OnOk, OnErr, option_map};
+ghost use Rattle.std.specs.Prelude.{◌≡◌, ℕ, ◌+◌, ◌<◌, ◌≤◌, [], ◌∷◌, ◌++◌, IfSome, IfNone, IfOk, IsOk, OnOk, OnErr, option_map};
 ghost use Rattle.mpm_base.specs.Store.{bytes_of};
 ghost use Rattle.stand_ins.specs.Files.{files_in, with_file, without_file};
-ghost use Rattle.stand_ins.specs.FilesInside.{FindsSlots, HasNone, HaveTexts, IsOnlyAt};
+ghost use Rattle.stand_ins.specs.FilesInside.{AreFound, FindsSlots, HasNone, HaveTexts, IsEntry, IsOnlyAt, room_in};
 
 use crate::entry::Entry;
 use crate::slot::Slot;
@@ -20,7 +20,6 @@ pub(crate) struct Shelf {
 }
 
 impl Model for Shelf {
-    ghost use Rattle.std.specs.Prelude.{length, vec_capacity};
     ghost use Rattle.stand_ins.specs.Files.{files_in};
     ghost use Rattle.stand_ins.specs.FilesInside.{AreFound, SeenShelf, room_in};
 
@@ -28,7 +27,7 @@ impl Model for Shelf {
 
     ghost view = { λ s. record {
       files = files_in s.slots.items;
-      room = room_in (length s.slots.items) (vec_capacity s.slots) s.places;
+      room = room_in s.slots s.places;
     } };
 
     ghost invariant = { λ s. AreFound s.places s.slots.items };
@@ -67,17 +66,14 @@ impl Shelf {
     {
         let Entry { key, name, bytes } = entry;
         if let Some(place) = place_of(&self.slots, &self.places, name.as_slice()) {
-            self.slots[place].bytes = Some(bytes);
+            self.slots[place].fill(bytes);
             return Ok(());
         }
-        self.slots.reserve(1)?;
-        let place = self.slots.len();
-        self.places.insert(key, place)?;
-        self.slots.push_reserved(Slot {
+        let slot = Slot {
             name,
             bytes: Some(bytes),
-        });
-        Ok(())
+        };
+        put(&mut self.slots, &mut self.places, key, slot)
     }
 
     /// Removes the file of that name, where there is one.
@@ -86,7 +82,7 @@ impl Shelf {
         ensures room { self.old.room ≤ self.new.room }
     {
         if let Some(place) = place_of(&self.slots, &self.places, name) {
-            self.slots[place].bytes = None;
+            self.slots[place].empty();
         }
     }
 
@@ -123,4 +119,27 @@ fn place_of(slots: &[Slot], places: &HashMap<Vec<u8>, usize>, name: &[u8]) -> Op
     } else {
         None
     }
+}
+
+/// Puts the file at the end, where there is none of its name. Where memory lacks nothing changes. Where there is room it doesn't.
+fn put(
+    slots: &mut Vec<Slot>,
+    places: &mut HashMap<Vec<u8>, usize>,
+    key: Vec<u8>,
+    slot: Slot,
+) -> Result<(), NoMemory>
+    requires entry { IsEntry key.items slot.name }
+    requires none { HasNone slot.name slots.old.items }
+    requires found { AreFound places.old slots.old.items }
+    ensures ok { OnOk result (slots.new.items ≡ slots.old.items ++ slot ∷ []) }
+    ensures err { OnErr result (slots.new.items ≡ slots.old.items) }
+    ensures found { AreFound places.new slots.new.items }
+    ensures succeeds { 0 < room_in slots.old places.old → IsOk result }
+    ensures room { room_in slots.old places.old ≤ room_in slots.new places.new + 1 }
+{
+    let place = slots.len();
+    slots.reserve(1)?;
+    places.insert(key, place)?;
+    slots.push_reserved(slot);
+    Ok(())
 }

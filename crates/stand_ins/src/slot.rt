@@ -1,5 +1,5 @@
 //! A place at which a file is, or was.
-ghost use Rattle.std.specs.Prelude.{◌≡◌, option_map};
+ghost use Rattle.std.specs.Prelude.{◌≡◌, Some, None, option_map};
 ghost use Rattle.mpm_base.specs.Store.{lies_under};
 ghost use Rattle.stand_ins.specs.FilesInside.{has_name, is_listed};
 
@@ -25,6 +25,20 @@ impl Slot {
         ensures { result ≡ is_listed folder.now self.now }
     {
         self.bytes.is_some() && is_under(self.name.as_slice(), folder)
+    }
+
+    /// The file has these bytes.
+    pub(crate) fn fill(&mut self, bytes: Octets)
+        ensures { self.new ≡ record self.old { bytes = Some bytes } }
+    {
+        self.bytes = Some(bytes);
+    }
+
+    /// There is no file any more.
+    pub(crate) fn empty(&mut self)
+        ensures { self.new ≡ record self.old { bytes = None } }
+    {
+        self.bytes = None;
     }
 
     /// The bytes of the file, where there is one.

@@ -13,11 +13,11 @@ returns-in-Ok-clause-answer c =
 
 pub returns-in-Ok-clause-utf8 : goal.returns-in-Ok-clause-utf8
 returns-in-Ok-clause-utf8 c =
-    rw c.in-Ok.ensures (utf8-listed c.args.folder.now _ c.slots-slots.ensures.texts)
+    rw c.in-Ok.ensures (utf8-listed c.args.folder.now c.slots-slots.result.now c.slots-slots.ensures.texts)
 
 pub returns-in-Ok-clause-below : goal.returns-in-Ok-clause-below
 returns-in-Ok-clause-below c =
-    rw c.in-Ok.ensures (below-listed c.args.folder.now _)
+    rw c.in-Ok.ensures (below-listed c.args.folder.now c.slots-slots.result.now)
 
 pub returns-in-Err-clause-answer : goal.returns-in-Err-clause-answer
 returns-in-Err-clause-answer c =
