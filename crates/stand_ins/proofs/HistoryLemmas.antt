@@ -60,6 +60,16 @@ pub some-step : (files : List File) (steps : List Step) → 0 < length (ended fi
 some-step files [] some = some
 some-step files (s ∷ steps) some = omega arith
 
+-- the first of the steps is passed, or an edition ends with it
+pub ended-passed : (files : List File) (s : Step) (steps all : List Step) → all ≡ s ∷ steps → is_end s ≡ false → ended (after_step files s) steps ≡ ended files all
+ended-passed files s steps all is not =
+    ap (λ (b : Bool). cond b (after_step files s ∷ []) [] ++ ended (after_step files s) steps) (sym not) ∙ ap (ended files) (sym is)
+
+pub ended-here : (files : List File) (s : Step) (steps all : List Step) → all ≡ s ∷ steps → is_end s ≡ true
+    → after_step files s ∷ ended (after_step files s) steps ≡ ended files all
+ended-here files s steps all is last =
+    ap (λ (b : Bool). cond b (after_step files s ∷ []) [] ++ ended (after_step files s) steps) (sym last) ∙ ap (ended files) (sym is)
+
 -- ## A store that goes through editions
 
 -- as many end whatever the files are before
