@@ -1,7 +1,8 @@
 //! The editions of a script's site while its lines are read.
-ghost use Rattle.std.specs.Prelude.{◌≡◌, [], ◌∷◌, ◌++◌, IsUtf8, IfOk, OnOk, if◌then◌else◌};
+ghost use Rattle.std.specs.Prelude.{◌≡◌, [], ◌∷◌, ◌++◌, drop, IsUtf8, IfOk, OnOk, OnErr, if◌then◌else◌};
 ghost use Rattle.mpm_script.specs.FileNames.{NamesText};
 ghost use Rattle.stand_ins.specs.Files.{with_file, without_file};
+ghost use Rattle.script_front.specs.DraftInside.{IsDraft};
 ghost use Rattle.script_front.specs.Editions.{conf_after, conf_file, files_after, is_conf_name};
 
 use mpm_base::{NoMemory, Octets, SiteLine};
@@ -72,11 +73,10 @@ impl Draft {
           past = self.old.past ++ (conf_file self.old.conf ∷ self.old.others) ∷ [];
         }) }
     {
-        if self.changed {
-            self.history.set(CONF_NAME, self.conf.as_slice())?;
-            self.changed = false;
-        }
-        self.history.end()
+        settle(&mut self.history, self.conf.as_slice(), self.changed)?;
+        self.changed = false;
+        self.history.end()?;
+        Ok(())
     }
 
     /// What ended.
@@ -122,7 +122,8 @@ impl Draft {
         if is_conf_name(name) {
             return self.set_conf(bytes);
         }
-        self.history.set(text_of(name.as_slice()), bytes)
+        self.history.set(text_of(name.as_slice()), bytes)?;
+        Ok(())
     }
 
     /// There is no such file any more; that of the configuration is empty.
@@ -137,8 +138,22 @@ impl Draft {
         if is_conf_name(name) {
             return self.set_conf(b"");
         }
-        self.history.unset(text_of(name.as_slice()))
+        self.history.unset(text_of(name.as_slice()))?;
+        Ok(())
     }
+}
+
+/// The configuration's file has these bytes, which is so where they didn't change. Where memory lacks nothing changes.
+fn settle(history: &mut History, conf: &[u8], changed: bool) -> Result<(), NoMemory>
+    requires { IsDraft history.old.files conf.now changed }
+    ensures ok { OnOk result
+        (history.new ≡ record history.old { files = conf_file conf.now ∷ drop 1 history.old.files }) }
+    ensures err { OnErr result (history.new ≡ history.old) }
+{
+    if !changed {
+        return Ok(());
+    }
+    history.set(CONF_NAME, conf)
 }
 
 fn is_conf_name(name: &Octets) -> bool

@@ -8,7 +8,7 @@ invariant_of-self c = record {
   room = c.make_edition.ensures.room;
 }
 
-pub returns-then-self-count-gt0 : goal.returns-then-self-count-gt0
-returns-then-self-count-gt0 c =
+pub returns-then-self-gt0 : goal.returns-then-self-gt0
+returns-then-self-gt0 c =
     let e = c.self.inside in
     rw (← c.self.view_is) (next-told e.shelf.files c.make_edition.new.shelf.files e.coming.items c.make_edition.new.coming.items e.wholes.items c.make_edition.ensures.editions)

@@ -1,5 +1,6 @@
-use Rattle.std.proofs.Common.{refl, ◌∙◌}
-use Rattle.std.proofs.lemmas.Result.{on_err_weaker, on_ok_weaker}
+use Rattle.std.proofs.Common.{◌≡◌, List, [], ◌∷◌, ◌++◌, Some, refl, ap, ◌∙◌}
+use Rattle.std.proofs.lemmas.Result.{on_ok_weaker}
+use Rattle.stand_ins.specs.Files.{files_in}
 use Rattle.stand_ins.specs.FilesInside.{HasNone, IsOnlyAt}
 use Rattle.stand_ins.proofs.PlaceLemmas.{found-set, kept-set}
 use Rattle.stand_ins.proofs.SlotLemmas.{has-bytes, only-name, put-last, set-only}
@@ -33,4 +34,6 @@ returns-clause-ok c =
     let name = c.entry.inside.name in
     let slots = c.self.inside.slots.items in
     let none : HasNone name slots = rw (c.deref.ensures.value, c.as_slice.ensures) at c.in_default.ensures.none in
-    on_ok_weaker c.put.result (λ e. rw (← c.self.view_is, ← c.entry.view_is, e) (put-last name c.entry.inside.bytes slots none)) c.put.ensures.ok
+    on_ok_weaker c.put.result (λ e.
+    let more : c.put.new.slots.items ≡ slots ++ record { name = name; bytes = Some c.entry.inside.bytes } ∷ [] = e in
+    rw (← c.self.view_is, ← c.entry.view_is) (ap files_in more ∙ put-last name c.entry.inside.bytes slots none)) c.put.ensures.ok
