@@ -1,9 +1,9 @@
 -- The editions of a script, line by line.
-use Rattle.std.proofs.Common.{◌≡◌, ℕ, suc, ◌+◌, ◌<◌, Bool, true, false, cond, List, [], ◌∷◌, ◌++◌, length, get_or, take, drop, refl, sym, ap, ◌∙◌, append_assoc, add-one, arith}
+use Rattle.std.proofs.Common.{◌≡◌, ℕ, suc, ◌+◌, ◌<◌, ◌≤◌, Bool, true, false, cond, List, [], ◌∷◌, ◌++◌, length, get_or, take, drop, refl, sym, ap, ◌∙◌, append_assoc, add-one, arith}
 use Rattle.std.specs.Prelude.{IsSome}
 use Rattle.std.specs.List.{All, AllByRecursion, fold, prefix_len}
 use Rattle.std.proofs.Math.Seq.{drop-cons}
-use Rattle.std.proofs.lemmas.List.{append-nil, take_more}
+use Rattle.std.proofs.lemmas.List.{append-nil, take_all, take_more}
 use Rattle.std.proofs.lemmas.List.Concat.{flat_map-append}
 use Rattle.std.proofs.lemmas.List.Elements.{All-from_recursion}
 use Rattle.std.proofs.lemmas.List.Sums.{fold-append}
@@ -13,6 +13,7 @@ use Rattle.mpm_base.specs.declared.script_line.ScriptLine.{ScriptLine}
 use Rattle.mpm_base.specs.declared.script_line.ScriptLine.TheVariants as line
 use Rattle.mpm_base.specs.declared.script_line.SiteLine.{SiteLine}
 use Rattle.stand_ins.specs.History.{told_past}
+use Rattle.script_front.specs.DraftInside.{SeenDraft}
 use Rattle.script_front.specs.Editions.{conf_after, conf_file, conf_name, conf_of, edition_of, editions_behind, editions_of, files_after, files_of, is_graceful, is_site, opening_lines, site_in, site_lines}
 
 -- ## A further line
@@ -65,6 +66,14 @@ graceful-no_site (line.Command word) is = refl
 graceful-no_site (line.Site site) is = absurd (cc is)
 
 -- ## The lines of the opening
+
+-- all happened, and their edition ended
+pub opening-ended : (lines : List ScriptLine) (i : ℕ) (draft : SeenDraft) → length lines ≤ i
+    → draft ≡ record { past = []; conf = conf_of (take i lines); others = files_of (take i lines) }
+    → record draft { past = draft.past ++ (conf_file draft.conf ∷ draft.others) ∷ [] } ≡ record { past = edition_of lines ∷ []; conf = conf_of lines; others = files_of lines }
+opening-ended lines i draft past is =
+    ap (λ (d : SeenDraft). let ended : SeenDraft = record d { past = d.past ++ (conf_file d.conf ∷ d.others) ∷ [] } in ended) is
+    ∙ ap (λ xs. let ended : SeenDraft = record { past = edition_of xs ∷ []; conf = conf_of xs; others = files_of xs } in ended) (take_all i lines past)
 
 opening-from : (before lines : List ScriptLine)
     → editions_behind before lines ≡ editions_behind (before ++ take (prefix_len is_site lines) lines) (drop (prefix_len is_site lines) lines)

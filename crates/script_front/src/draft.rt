@@ -97,8 +97,7 @@ impl Draft {
             (self.new ≡ record self.old { conf = self.old.conf ++ (text.now ++ 10 ∷ []) }) }
     {
         self.changed = true;
-        self.conf.add(text)?;
-        self.conf.add(b"\n")
+        self.conf.add_pair(text, b"\n")
     }
 
     /// The configuration is this one.
