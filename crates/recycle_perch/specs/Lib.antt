@@ -1,4 +1,5 @@
 pub mod Looking
+pub mod LookingInside
 pub mod Resting
 pub mod StepsInside
 pub mod Words

@@ -1,0 +1,14 @@
+use Rattle.std.proofs.Common.{arith}
+use Rattle.recycle_perch.specs.Looking.{steps_of}
+use Rattle.recycle_perch.proofs.LookLemmas.{taken_at, tried_more, tried_none}
+use Rattle.recycle_perch.proofs.perch.Perch.take_between.Goals as goal
+
+pub loop-i-init : goal.loop-i-init
+loop-i-init g c = (c.requires.looks, omega arith, tried_none c.args.from (steps_of c.args.looks.now))
+
+pub loop-i-preserved : goal.loop-i-preserved
+loop-i-preserved g c = (
+  c.in_default.ensures.looks,
+  omega (arith, c.loop-i.invariant.1),
+  tried_more c.args.from c.loop-i.i (steps_of c.args.looks.now) (steps_of c.loop-i.looks) _ c.loop-i.invariant.1 c.loop-i.invariant.2 c.in_default.ensures.step,
+)
