@@ -1,2 +1,3 @@
+mod CarrierLemmas
 mod LookLemmas
 mod StepLemmas

@@ -8,6 +8,7 @@
 //! `specs/Resting.antt`, and of what steps found in `specs/Words.antt` and `specs/Looking.antt`.
 #![tactic(auto)]
 
+pub mod laws;
 mod looks;
 mod perch;
 mod place;
