@@ -1,3 +1,4 @@
 mod CarrierLemmas
 mod LookLemmas
 mod StepLemmas
+mod WakeLemmas

@@ -8,7 +8,7 @@ use Rattle.atomic_table.specs.declared.ruled.Mark.{Mark}
 use Rattle.recycle_perch.specs.declared.looks.Looks.{Looks}
 use Rattle.recycle_perch.specs.declared.place.RestPlace.{RestPlace}
 use Rattle.table_rule.specs.declared.trail.Step.{Step}
-use Rattle.recycle_perch.specs.Looking.{AllLookAt, AreInOrder, FoundNone, LookAt, MayHaveTried, WasTaken, with_step_at}
+use Rattle.recycle_perch.specs.Looking.{AllLookAt, AreInOrder, CameBack, FoundNone, LookAt, MayHaveTried, WasLaidDown, WasTaken, steps_of, with_step_at, word_names_of}
 use Rattle.recycle_perch.specs.LookingInside.{TakenBetween, TriedBetween}
 use Rattle.recycle_perch.specs.Words.{deeds, laid_none, laid_one, took_none, took_one}
 
@@ -68,7 +68,7 @@ step_long (x ∷ xs) zero step = refl
 step_long (x ∷ xs) (suc i) step = ap suc (step_long xs i step)
 
 -- no step where there is no place
-step_beyond : (all : List (List (ℕ × ℕ))) (i : ℕ) (step : ℕ × ℕ) → length all ≤ i → with_step_at i step all ≡ all
+pub step_beyond : (all : List (List (ℕ × ℕ))) (i : ℕ) (step : ℕ × ℕ) → length all ≤ i → with_step_at i step all ≡ all
 step_beyond [] i step le = refl
 step_beyond (x ∷ xs) zero step le = absurd (omega arith)
 step_beyond (x ∷ xs) (suc i) step le = ap (λ l. x ∷ l) (step_beyond xs i step (omega arith))
@@ -202,6 +202,27 @@ taken_then first places carrier before now after long le one t = record {
       (may_have first places before now one place known at))
       (below_or place first);
 }
+
+-- what came of both goes
+pub taken_all : {C : Type 0} (o : Option C) (number : C → ℕ) (first places : ℕ) (before now after : List (List (ℕ × ℕ))) → length before ≡ places → first ≤ places
+    → TriedBetween first places before now → MatchOption o (TriedBetween 0 first now after) (λ c. TakenBetween 0 first (number c) now after)
+    → MatchOption o (FoundNone before after) (λ c. WasTaken (number c) before after)
+taken_all None number first places before now after long le one two = all_tried first places before now after long one two
+taken_all (Some x) number first places before now after long le one two = taken_then first places (number x) before now after long le one two
+
+-- what came of a step at the place of a carrier
+pub laid_down : {C E : Type 0} (r : Result C E) (carrier i : ℕ) (before after : List (List (ℕ × ℕ))) → i ≡ carrier - 1 → carrier ≤ length before
+    → MatchResult r (λ _. after ≡ with_step_at i laid_one before) (λ _. after ≡ with_step_at i laid_none before)
+    → MatchResult r (λ _. WasLaidDown carrier before after) (λ _. CameBack carrier before after)
+laid_down (Ok x) carrier i before after its within told = record { within = within; steps = told ∙ ap (λ k. with_step_at k laid_one before) its }
+laid_down (Err x) carrier i before after its within told = told ∙ ap (λ k. with_step_at k laid_none before) its
+
+-- there are as many lists of steps as places
+pub steps_long : {K : Type 0} (places : List (RestPlace K)) (looks : Looks) → map (λ (m : Mark (List Step)). m.perch) looks.marks.items ≡ word_names_of places
+    → length (steps_of looks) ≡ length places
+steps_long places looks words =
+    length-map looks.marks.items (λ (m : Mark (List Step)). deeds m.view)
+    ∙ same_length (λ (m : Mark (List Step)). m.perch) (λ place. place.perch.name) looks.marks.items places words
 
 -- ## Elements of changed lists
 

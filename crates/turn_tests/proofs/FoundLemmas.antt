@@ -1,13 +1,11 @@
 -- What a pass finds of the board when it takes the turn.
-use Rattle.std.proofs.Common.{◌≡◌, ◌==◌, ℕ, zero, suc, ◌<◌, Bool, true, false, ◌&&◌, not, List, [], ◌∷◌, Option, Some, None, IfSome, if◌then◌else◌, nat_lt, slice_get, length, refl, sym, ap, subst, ◌∙◌, arith}
+use Rattle.std.proofs.Common.{◌≡◌, ◌==◌, ℕ, zero, suc, ◌<◌, Bool, true, false, ◌&&◌, not, List, [], ◌∷◌, Option, Some, IfSome, nat_lt, slice_get, length, refl, sym, ap, subst, ◌∙◌, arith}
 use Rattle.std.proofs.lemmas.Bool.{and_parts}
 use Rattle.std.proofs.lemmas.Bool.Decides.{nat_tests}
-use Rattle.std.specs.Option.{option_map_or}
 use Rattle.atomic_table.specs.Table.{Me}
 use Rattle.mpm_base.specs.declared.conn.ConnName.{ConnName}
 use Rattle.mpm_base.specs.declared.conn.Cause.{Cause}
 use Rattle.mpm_base.specs.declared.conn.Cause.TheVariants as cause
-use Rattle.mpm_base.specs.declared.conn.Tail.{Tail}
 use Rattle.mpm_base.specs.declared.conn.Tail.TheVariants.{Direct}
 use Rattle.http_read.specs.declared.request.Limits.{Limits}
 use Rattle.file_table.specs.Site.{SeenSite}
@@ -21,7 +19,7 @@ use Rattle.conn_machine.specs.Rows.{carried_count, is_lingering, is_live_as, is_
 use Rattle.conn_machine.specs.Runs.{after, row_of}
 use Rattle.conn_machine.specs.Sound.{IsSound}
 use Rattle.conn_machine.specs.States.{is_halted, is_signalled}
-use Rattle.conn_machine.specs.Table.{direct_cause_fits, end_fits, is_allowed, is_direct, linger_cause_fits, linger_tail_fits, may_be_queued}
+use Rattle.conn_machine.specs.Table.{direct_cause_fits, end_fits, is_allowed, linger_cause_fits, may_be_queued}
 use Rattle.conn_state.specs.Conn.{SeenConn}
 use Rattle.conn_state.specs.Known.{KnownOutside}
 use Rattle.table_rule.specs.declared.view.Hand.{Hand}
@@ -32,7 +30,7 @@ use Rattle.board_lock.specs.Passes.{TookTurn}
 use Rattle.board.specs.declared.faults.BoardFault.{BoardFault}
 use Rattle.board.specs.declared.faults.BoardFault.TheVariants as fault
 use Rattle.board.specs.Board.{SeenBoard}
-use Rattle.board.specs.Book.{SeenBook, row_in}
+use Rattle.board.specs.Book.{row_in}
 use Rattle.board.specs.Editions.{IsOfGeneration, UsedHaveEditions}
 use Rattle.board.specs.Finds.{is_due_of}
 use Rattle.board.specs.Ledger.{ledger_of}

@@ -15,7 +15,7 @@ use Rattle.conn_state.specs.Answered.{SeenEnded}
 use Rattle.conn_state.specs.Conn.{SeenConn}
 use Rattle.table_rule.specs.declared.view.View.{View}
 use Rattle.table_rule.specs.Histories.{ArePermitted, IsPermitted}
-use Rattle.table_rule.specs.Ledgers.{EndsTurn, FoldsOn, KeepsOn, MayGiveBack, MayLeaveLedger}
+use Rattle.table_rule.specs.Ledgers.{EndsTurn, FoldsOn, KeepsOn, MayGiveBack}
 use Rattle.board_lock.specs.Passes.{GaveBack, HasNoTurn, TookTurn}
 use Rattle.board.specs.declared.board.Taken.{Taken}
 use Rattle.board.specs.Board.{SeenBoard, folded_board}

@@ -1,7 +1,7 @@
 -- What a worker may do at its next turn with the connection that it serves.
-use Rattle.std.proofs.Common.{◌≡◌, ◌≢◌, ◌==◌, inl, inr, ℕ, ◌<◌, Bool, true, false, ◌&&◌, ◌||◌, not, List, [], length, Option, Some, None, if◌then◌else◌, is_some, refl, sym, ap, subst, ◌∙◌, arith}
+use Rattle.std.proofs.Common.{◌≡◌, ◌==◌, inl, inr, ℕ, ◌<◌, Bool, true, false, ◌&&◌, ◌||◌, not, [], length, Option, Some, None, if◌then◌else◌, is_some, refl, sym, ap, subst, ◌∙◌, arith}
 use Rattle.std.proofs.lemmas.Bool.Decides.{nat_tests}
-use Rattle.std.specs.Prelude.{Result, OnOk, IfErr, OnErr, IfSome, is_ok, option_map}
+use Rattle.std.specs.Prelude.{Result, OnOk, IfErr, OnErr, IfSome, option_map}
 use Rattle.std.specs.declared.result.Result.TheVariants.{Ok, Err}
 use Rattle.atomic_table.specs.Table.{Me}
 use Rattle.mpm_base.specs.Notes.{says_last}
@@ -18,12 +18,12 @@ use Rattle.mpm_base.specs.declared.note.Snapshot.{Snapshot}
 use Rattle.conn_machine.specs.declared.event.Event.TheVariants as event
 use Rattle.conn_machine.specs.declared.row.Row.{Row}
 use Rattle.conn_machine.specs.declared.state.State.{State}
-use Rattle.conn_machine.specs.Rows.{is_held, is_working, live_row}
+use Rattle.conn_machine.specs.Rows.{is_held, is_working}
 use Rattle.conn_machine.specs.Runs.{after}
 use Rattle.conn_machine.specs.Shown.{snapshot_of}
 use Rattle.conn_machine.specs.Sound.{IsSound}
 use Rattle.conn_machine.specs.States.{is_halted}
-use Rattle.conn_machine.specs.Table.{end_fits, is_allowed, is_last_for, next, when_sending}
+use Rattle.conn_machine.specs.Table.{end_fits, is_allowed, is_last_for, when_sending}
 use Rattle.conn_state.specs.declared.turn.LastTurn.{LastTurn}
 use Rattle.conn_state.specs.declared.turn.LastTurn.TheVariants as last_turn
 use Rattle.conn_state.specs.declared.turn.ReadTurn.{ReadTurn}
@@ -34,7 +34,7 @@ use Rattle.conn_state.specs.Answered.{IsEndOf, SeenEnded}
 use Rattle.mpm_base.specs.Link.{LinkTold, after_close}
 use Rattle.conn_state.specs.Conn.{IsConn, SeenConn, is_usable}
 use Rattle.conn_state.specs.Known.{KnownOutside}
-use Rattle.conn_state.specs.Reader.{SeenReader, keeps_none}
+use Rattle.conn_state.specs.Reader.{keeps_none}
 use Rattle.conn_state.specs.Replies.{IsNoteFor}
 use Rattle.conn_state.specs.Turns.{IsNoteOf, ReadsOn, ShutsOn, TakesNote, WritesOn, after_reading}
 use Rattle.table_rule.specs.declared.view.View.{View}
@@ -47,14 +47,13 @@ use Rattle.board.specs.Editions.{IsOfGeneration}
 use Rattle.board.specs.Events.{IsAdded, IsDecided}
 use Rattle.board.specs.Faults.{IsRefusedFor}
 use Rattle.board.specs.Finds.{cause_of}
-use Rattle.board.specs.Fits.{IsClosing, IsOf, IsSettled, NotesEnd, WaitsAs}
+use Rattle.board.specs.Fits.{IsClosing, IsOf, IsSettled, NotesEnd}
 use Rattle.board.specs.Ledger.{ledger_of}
 use Rattle.worker_group.specs.declared.service.Exit.{Exit}
 use Rattle.worker_group.specs.declared.service.Exit.TheVariants as exit
 use Rattle.worker_group.specs.InHand.{IsClosable}
-use Rattle.worker_group.specs.InHandInside.{IsLingerable, IsServed}
+use Rattle.worker_group.specs.InHandInside.{IsServed}
 use Rattle.worker_group.specs.Service.{given_up_cause}
-use Rattle.worker_group.specs.ServiceInside.{MayWaitFor}
 use Rattle.worker_group.proofs.AnswerLemmas.{asked-open, closes-unanswered, may-answer, served-answered}
 use Rattle.worker_group.proofs.EditionLemmas.{edition-answered, edition-shut, edition-written}
 use Rattle.worker_group.proofs.LingerLemmas.{last-lingers, last-shows, shut-failed, shut-lingers}
@@ -63,7 +62,7 @@ use Rattle.turn_tests.specs.Books.{book_of, state_of}
 use Rattle.turn_tests.specs.Carries.{Carries, HasPermitOnly, Lasts, LeavesBy, MayGo, Serves}
 use Rattle.turn_tests.specs.GoesOn.{MadeEvent}
 use Rattle.turn_tests.specs.Rests.{TurnsRestOn}
-use Rattle.turn_tests.proofs.FoundLemmas.{may_go_here, own_edition, same_live, served_on}
+use Rattle.turn_tests.proofs.FoundLemmas.{may_go_here, same_live, served_on}
 use Rattle.turn_tests.proofs.GoesOnLemmas.{made_added}
 use Rattle.turn_tests.proofs.ThenLemmas.{carries_still, carries_then, left_then, nothing_state, state_then}
 

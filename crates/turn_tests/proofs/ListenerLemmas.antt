@@ -1,6 +1,6 @@
 -- What pass 0 knows once it gave its turn back.
-use Rattle.std.proofs.Common.{◌≡◌, ℕ, ◌≤◌, Bool, true, false, List, [], Option, Some, None, refl, sym, ap, subst, ◌∙◌}
-use Rattle.std.specs.Prelude.{Result, IfOk, IfSome, OnErr, OnOk, is_ok, slice_index}
+use Rattle.std.proofs.Common.{◌≡◌, ℕ, ◌≤◌, Bool, true, false, Option, Some, None, sym, ap, ◌∙◌}
+use Rattle.std.specs.Prelude.{Result, is_ok, slice_index}
 use Rattle.std.specs.declared.result.Result.TheVariants.{Ok, Err}
 use Rattle.atomic_table.specs.Table.{Me}
 use Rattle.mpm_base.specs.declared.conn.ConnName.{ConnName}
@@ -10,7 +10,6 @@ use Rattle.conn_machine.specs.declared.event.Event.TheVariants as event
 use Rattle.conn_machine.specs.declared.state.State.{State}
 use Rattle.conn_machine.specs.Children.{child_at}
 use Rattle.conn_machine.specs.Runs.{after, has_after, row_of, taken_name}
-use Rattle.table_rule.specs.declared.view.Origin.{Origin}
 use Rattle.table_rule.specs.declared.view.View.{View}
 use Rattle.table_rule.specs.Histories.{threads_of}
 use Rattle.table_rule.specs.Views.{credited_view}

@@ -1,5 +1,5 @@
 -- A lock with a board, and its passes.
-use Rattle.std.proofs.Common.{◌≡◌, ◌≢◌, ℕ, zero, suc, ◌≤◌, true, List, [], ◌∷◌, ◌++◌, length, Option, Some, None, refl, sym, ap, subst, ◌∙◌, arith}
+use Rattle.std.proofs.Common.{◌≡◌, ℕ, zero, suc, ◌≤◌, true, List, [], ◌∷◌, ◌++◌, length, Option, Some, None, refl, sym, ap, subst, ◌∙◌, arith}
 use Rattle.std.specs.Prelude.{map, slice_get, slice_index, option_to_list, IfSome}
 use Rattle.atomic_table.specs.Table.{Me}
 use Rattle.mpm_base.specs.declared.shape.Shape.{Shape}
@@ -9,8 +9,7 @@ use Rattle.conn_machine.specs.States.{opening_state}
 use Rattle.table_rule.specs.declared.view.Origin.{Origin}
 use Rattle.table_rule.specs.declared.view.View.{View}
 use Rattle.table_rule.specs.Tie.{IsNew}
-use Rattle.table_rule.specs.Views.{IsIdle}
-use Rattle.board_lock.specs.Passes.{HasNoTurn, fresh_view}
+use Rattle.board_lock.specs.Passes.{fresh_view}
 use Rattle.board.specs.Board.{SeenBoard}
 use Rattle.board.specs.Ledger.{ledger_of}
 use Rattle.board.specs.ReportLine.{line_of}

@@ -1,9 +1,8 @@
 -- A carrier that reserves a worker, and gives it back.
-use Rattle.std.proofs.Common.{◌≡◌, ◌≢◌, ℕ, Bool, true, false, [], Option, Some, None, refl, sym, ap, subst, ◌∙◌}
+use Rattle.std.proofs.Common.{◌≡◌, ℕ, Bool, true, false, [], Some, None, sym, ap, subst, ◌∙◌}
 use Rattle.atomic_table.specs.Table.{Me}
 use Rattle.table_rule.specs.declared.view.Hand.{Hand}
 use Rattle.table_rule.specs.declared.view.View.{View}
-use Rattle.board_lock.specs.Passes.{IsFree}
 use Rattle.idle_workers.specs.Found.{ReleasesPermit, ReservesPermit}
 use Rattle.recycle_perch.specs.Resting.{IsFreeCarrier}
 use Rattle.turn_tests.specs.Carries.{HasPermitOnly}

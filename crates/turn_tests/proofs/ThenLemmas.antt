@@ -1,32 +1,28 @@
 -- What a pass knows once it gave its turn back.
-use Rattle.std.proofs.Common.{◌≡◌, ◌≢◌, ℕ, ◌<◌, ◌==◌, Bool, true, false, ◌&&◌, not, List, [], ◌∷◌, ◌++◌, Option, Some, None, slice_get, is_some, refl, sym, ap, subst, ◌∙◌, append-nil, append_assoc, eq-eqb}
-use Rattle.std.proofs.lemmas.Bool.{and_parts}
+use Rattle.std.proofs.Common.{◌≡◌, ◌≢◌, ℕ, ◌<◌, true, [], ◌∷◌, ◌++◌, Option, Some, None, refl, sym, ap, subst, ◌∙◌, append-nil, append_assoc, eq-eqb}
 use Rattle.atomic_table.specs.Table.{Me}
 use Rattle.mpm_base.specs.declared.conn.ConnName.{ConnName}
 use Rattle.http_read.specs.declared.request.Limits.{Limits}
 use Rattle.file_table.specs.Site.{SeenSite}
-use Rattle.conn_machine.specs.declared.event.Entry.{Entry}
 use Rattle.conn_machine.specs.declared.event.Event.{Event}
 use Rattle.conn_machine.specs.declared.event.Event.TheVariants as event
 use Rattle.conn_machine.specs.declared.kept.Ledger.{Ledger}
 use Rattle.conn_machine.specs.declared.row.Row.{Row}
 use Rattle.conn_machine.specs.declared.state.State.{State}
 use Rattle.conn_machine.specs.Folds.{opening_record}
-use Rattle.conn_machine.specs.Lists.{update}
-use Rattle.conn_machine.specs.Rows.{is_live, is_live_as, is_queued, is_working, live_row, lives_and}
+use Rattle.conn_machine.specs.Rows.{is_queued, is_working, live_row, lives_and}
 use Rattle.conn_machine.specs.Runs.{after, has_after, row_of}
 use Rattle.conn_machine.specs.Sound.{IsSound}
 use Rattle.conn_machine.specs.Table.{next, queued_row, served_row}
 use Rattle.conn_state.specs.declared.turn.LastLinger.TheVariants as linger
 use Rattle.conn_state.specs.Conn.{SeenConn}
 use Rattle.conn_state.specs.Known.{KnownOutside}
-use Rattle.table_rule.specs.declared.view.Hand.{Hand}
 use Rattle.table_rule.specs.declared.view.Origin.{Origin}
 use Rattle.table_rule.specs.declared.view.View.{View}
 use Rattle.table_rule.specs.declared.view.Who.{Who}
 use Rattle.board_lock.specs.Passes.{GaveBack, TookTurn}
 use Rattle.board.specs.Board.{SeenBoard}
-use Rattle.board.specs.Book.{SeenBook, book_with_entry, entry_of}
+use Rattle.board.specs.Book.{SeenBook, entry_of}
 use Rattle.board.specs.Editions.{IsOfGeneration}
 use Rattle.board.specs.Fits.{IsTakenUp}
 use Rattle.board.specs.Ledger.{ledger_of}
@@ -40,7 +36,7 @@ use Rattle.turn_tests.specs.Carries.{Carries, HasPermitOnly, IsCarried, Serves}
 use Rattle.turn_tests.specs.GoesOn.{IsListener, MadeEvent}
 use Rattle.turn_tests.specs.Rests.{TurnsRestOn}
 use Rattle.turn_tests.proofs.FoundLemmas.{left_of, own_row, same_live, same_state}
-use Rattle.turn_tests.proofs.GoesOnLemmas.{Changes, free_then, same_seen, seen_then}
+use Rattle.turn_tests.proofs.GoesOnLemmas.{free_then, same_seen, seen_then}
 
 -- ## Of each turn
 

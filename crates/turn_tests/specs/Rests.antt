@@ -1,13 +1,11 @@
 -- What the proofs of turns with a board take from the crates below, as one fact.
-use Rattle.std.specs.Prelude.{◌≡◌, ◌<◌, ℕ, true, List, [], ◌∷◌, ◌++◌, Some, slice_get}
+use Rattle.std.specs.Prelude.{◌≡◌, ◌<◌, ℕ, true, List, [], ◌∷◌, ◌++◌}
 use Rattle.conn_machine.specs.declared.event.Entry.{Entry}
 use Rattle.conn_machine.specs.declared.folded.Folded.{Folded}
 use Rattle.conn_machine.specs.declared.kept.Ledger.{Ledger}
-use Rattle.conn_machine.specs.declared.row.Row.{Row}
 use Rattle.conn_machine.specs.declared.state.State.{State}
 use Rattle.conn_machine.specs.BetweenTurns.{StoppedServersStayStopped}
 use Rattle.conn_machine.specs.Folds.{HaveBegun, opening_record}
-use Rattle.conn_machine.specs.Lists.{update}
 use Rattle.conn_machine.specs.Made.{HasSeen}
 use Rattle.conn_machine.specs.Runs.{AreEntriesOf, after, has_after, is_of_pass, row_from, row_of}
 use Rattle.conn_machine.specs.Table.{next}

@@ -1,4 +1,4 @@
-use Rattle.std.proofs.Common.{◌≡◌, sym, is_ok}
+use Rattle.std.proofs.Common.{sym}
 use Rattle.turn_tests.proofs.FoundLemmas.{pass_as, row_as}
 use Rattle.turn_tests.proofs.GoesOnLemmas.{made_added, may_accept}
 use Rattle.turn_tests.proofs.ListenerLemmas.{accepted_row}

@@ -1,4 +1,4 @@
-use Rattle.std.proofs.Common.{◌≡◌, ap, refl, ◌∙◌, arith, rules}
+use Rattle.std.proofs.Common.{ap, refl, ◌∙◌, rules}
 use Rattle.table_rule.specs.declared.view.View.{View}
 use Rattle.turn_tests.proofs.GoesOnLemmas.{may_stay}
 use Rattle.turn_tests.proofs.ListenerLemmas.{credited_listener, credited_row, may_credit}

@@ -1,4 +1,4 @@
-use Rattle.std.proofs.Common.{◌≡◌, ap, refl, sym, subst, ◌∙◌, Some, is_ok}
+use Rattle.std.proofs.Common.{ap, refl, sym, ◌∙◌, Some, is_ok}
 use Rattle.mpm_base.specs.declared.conn.ConnName.{ConnName}
 use Rattle.mpm_base.specs.declared.conn.Kind.TheVariants.{Reading}
 use Rattle.conn_machine.specs.declared.event.Event.TheVariants as event

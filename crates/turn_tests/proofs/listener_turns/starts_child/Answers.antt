@@ -1,4 +1,4 @@
-use Rattle.std.proofs.Common.{◌≡◌, ap, refl, sym, is_ok}
+use Rattle.std.proofs.Common.{ap, refl, sym, is_ok}
 use Rattle.conn_machine.specs.declared.event.Event.TheVariants as event
 use Rattle.table_rule.specs.declared.view.View.{View}
 use Rattle.turn_tests.proofs.FoundLemmas.{pass_as}

@@ -1,6 +1,5 @@
-use Rattle.std.proofs.Common.{◌≡◌, ap, sym, subst, ◌∙◌}
+use Rattle.std.proofs.Common.{ap, subst}
 use Rattle.conn_state.specs.Conn.{SeenConn}
-use Rattle.worker_group.specs.declared.service.Exit.{Exit}
 use Rattle.turn_tests.specs.Carries.{LeavesBy}
 use Rattle.turn_tests.proofs.LeavesLemmas.{closes_as, lingers_as}
 use Rattle.turn_tests.proofs.ServiceLemmas.{has_permit_as}

@@ -1,5 +1,5 @@
-use Rattle.std.proofs.Common.{◌≡◌, true, false}
-use Rattle.turn_tests.proofs.ServiceLemmas.{has_permit_as, released, reserved, unreserved}
+use Rattle.std.proofs.Common.{true, false}
+use Rattle.turn_tests.proofs.ServiceLemmas.{reserved, unreserved}
 use Rattle.turn_tests.proofs.service.serves_one.Goals as goal
 
 pub returns-then-not-reserve-clause-free : goal.returns-then-not-reserve-clause-free

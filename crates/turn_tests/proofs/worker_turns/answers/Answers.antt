@@ -1,7 +1,6 @@
-use Rattle.std.proofs.Common.{◌≡◌, ap, refl, sym, ◌∙◌, Some, is_ok}
+use Rattle.std.proofs.Common.{ap, sym, ◌∙◌, Some, is_ok}
 use Rattle.mpm_base.specs.declared.conn.ConnName.{ConnName}
 use Rattle.conn_machine.specs.declared.event.Event.TheVariants as event
-use Rattle.board.specs.Board.{SeenBoard}
 use Rattle.turn_tests.proofs.FoundLemmas.{pass_as, row_as}
 use Rattle.turn_tests.proofs.GoesOnLemmas.{changed, made_added, may_change}
 use Rattle.turn_tests.proofs.LeavesLemmas.{answer_here, answered, refused, taken_by, unanswered}

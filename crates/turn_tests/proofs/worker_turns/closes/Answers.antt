@@ -1,4 +1,4 @@
-use Rattle.std.proofs.Common.{◌≡◌, ap, refl, sym, ◌∙◌, Some}
+use Rattle.std.proofs.Common.{ap, refl, sym, ◌∙◌, Some}
 use Rattle.mpm_base.specs.declared.conn.ConnName.{ConnName}
 use Rattle.mpm_base.specs.declared.conn.Tail.TheVariants.{Direct}
 use Rattle.conn_machine.specs.declared.event.Event.TheVariants as event

@@ -1,4 +1,4 @@
-use Rattle.std.proofs.Common.{◌≡◌, refl, sym}
+use Rattle.std.proofs.Common.{refl, sym}
 use Rattle.mpm_base.specs.declared.conn.Cause.TheVariants as cause
 use Rattle.conn_machine.specs.declared.event.Event.TheVariants as event
 use Rattle.worker_group.specs.declared.service.Exit.TheVariants as exit

@@ -1,9 +1,8 @@
-use Rattle.std.proofs.Common.{◌≡◌, ap, refl, sym, subst, ◌∙◌, true, is_ok}
+use Rattle.std.proofs.Common.{sym, is_ok}
 use Rattle.conn_machine.specs.declared.event.Event.TheVariants as event
-use Rattle.board.specs.Board.{SeenBoard}
 use Rattle.worker_group.proofs.ServeLemmas.{turned-open}
-use Rattle.turn_tests.proofs.FoundLemmas.{may_go_here, own_edition, pass_as, row_as}
-use Rattle.turn_tests.proofs.GoesOnLemmas.{Changes, changed, may_change, on_ok}
+use Rattle.turn_tests.proofs.FoundLemmas.{own_edition, pass_as, row_as}
+use Rattle.turn_tests.proofs.GoesOnLemmas.{changed, may_change}
 use Rattle.turn_tests.proofs.LeavesLemmas.{park_allowed, park_fits, park_settled, parks_left, parks_refused}
 use Rattle.turn_tests.proofs.worker_turns.parks.Goals as goal
 

@@ -1,4 +1,4 @@
-use Rattle.std.proofs.Common.{◌≡◌, ap, refl, sym, subst, is_ok}
+use Rattle.std.proofs.Common.{ap, sym, subst, is_ok}
 use Rattle.conn_machine.specs.declared.event.Event.TheVariants as event
 use Rattle.board.specs.Board.{SeenBoard}
 use Rattle.board.specs.Ledger.{ledger_of}

@@ -1,9 +1,7 @@
-use Rattle.std.proofs.Common.{◌≡◌, refl, sym, ap, ◌∙◌, subst, true, Some}
+use Rattle.std.proofs.Common.{◌≡◌, sym, ap, ◌∙◌, subst, true, Some}
 use Rattle.mpm_base.specs.declared.conn.ConnName.{ConnName}
 use Rattle.conn_machine.specs.declared.event.Event.TheVariants as event
 use Rattle.conn_machine.specs.Table.{is_allowed}
-use Rattle.board.specs.Board.{SeenBoard}
-use Rattle.turn_tests.specs.GoesOn.{MadeEvent}
 use Rattle.turn_tests.proofs.FoundLemmas.{pass_as, row_as}
 use Rattle.turn_tests.proofs.GoesOnLemmas.{made, may_leave}
 use Rattle.turn_tests.proofs.ThenLemmas.{queued_here, started_then, taken_here}

@@ -12,3 +12,8 @@ loop-i-preserved g c = (
   omega (arith, c.loop-i.invariant.1),
   tried_more c.args.from c.loop-i.i (steps_of c.args.looks.now) (steps_of c.loop-i.looks) _ c.loop-i.invariant.1 c.loop-i.invariant.2 c.in_default.ensures.step,
 )
+
+pub returns-in-Some-clause-steps : goal.returns-in-Some-clause-steps
+returns-in-Some-clause-steps g c =
+    taken_at c.args.from c.args.to c.loop-i.i _ (steps_of c.args.looks.now) (steps_of c.loop-i.looks) _ c.loop-i.invariant.1 (omega arith) c.in-Some.ensures.number
+    c.loop-i.invariant.2 c.in-Some.ensures.step
