@@ -9,4 +9,4 @@ load-requires g c = (c.requires.own, search rules, c.pass_wakes_up.ensures _ _ _
 pub returns-clause-woken : goal.returns-clause-woken
 returns-clause-woken g c =
     let told = c.load.ensures.2 in
-    subst (λ seat. IsWokenCarrier seat.me) (sym c.of.ensures) (woken_by _ told.1 _ told.2 told.3 _ told.4 told.5 told.6 told.7)
+    subst (λ seat. IsWokenCarrier seat.me) (sym c.of.ensures) (woken_by _ told.1.0 _ told.1.1 told.1.2 _ told.1.3 told.1.4 told.1.5 told.1.6)
