@@ -280,8 +280,8 @@ due_here s child name due room =
       found = is.found;
       of_child = may.2;
       allowed = λ going.
-      let passes = test-at s.rows name is.row (may_be_queued s) is.found ∙ may.1 in
-      rw (going, may.0, passes) refl;
+          let passes = test-at s.rows name is.row (may_be_queued s) is.found ∙ may.1 in
+          rw (going, may.0, passes) refl;
     }
 
 -- and its pass may queue it

@@ -326,7 +326,7 @@ pub close_allowed : (s : State) (why : Cause) (c : SeenConn) (e : SeenEnded) →
     → is_allowed s (event.Close e.name e.cause e.tail) ≡ true
 close_allowed s why c e may ends =
     let test : (row : Row) → (is_held row.place || is_working row.place) ≡ true → end_fits s why Direct row ≡ true
-        → ((is_held row.place || is_working row.place) && end_fits s why Direct row) ≡ true =
+    → ((is_held row.place || is_working row.place) && end_fits s why Direct row) ≡ true =
     λ row hand fits. rw (hand, fits) refl in
     rw (ends.name, ends.cause, ends.tail)
     (test-at s.rows c.name may.row (λ (r : Row). (is_held r.place || is_working r.place) && end_fits s why Direct r) may.found

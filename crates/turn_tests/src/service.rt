@@ -32,12 +32,17 @@ pub fn serves_one<R: Wait, L: Link, N: Known>(
     if !reserve(shared, carrier, child) {
         return None;
     }
-    let way = match queues(rt, shared, carrier, child) {
-        Some(conn) => Some(serves(rt, shared, carrier, conn, folds)),
-        None => None,
-    };
-    release(shared, carrier, child);
-    way
+    match queues(rt, shared, carrier, child) {
+        Some(conn) => {
+            let way = serves(rt, shared, carrier, conn, folds);
+            release(shared, carrier, child);
+            Some(way)
+        }
+        None => {
+            release(shared, carrier, child);
+            None
+        }
+    }
 }
 
 /// Serves the connection, which is on its way to a worker: how it was left.

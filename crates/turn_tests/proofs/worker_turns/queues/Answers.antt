@@ -4,7 +4,7 @@ use Rattle.board.specs.Board.{SeenBoard}
 use Rattle.board.specs.Ledger.{ledger_of}
 use Rattle.board_lock.specs.Passes.{GaveBack}
 use Rattle.table_rule.specs.declared.view.View.{View}
-use Rattle.turn_tests.proofs.FoundLemmas.{ due_here, has_child, has_room, pass_as, queue_permitted, row_as}
+use Rattle.turn_tests.proofs.FoundLemmas.{due_here, has_child, has_room, pass_as, queue_permitted, row_as}
 use Rattle.turn_tests.proofs.GoesOnLemmas.{changed, made_added, may_change, may_stay}
 use Rattle.turn_tests.proofs.ThenLemmas.{carried_then, permit_still}
 use Rattle.turn_tests.proofs.worker_turns.queues.Goals as goal

@@ -25,14 +25,14 @@ pub done-requires-clause-left : goal.done-requires-clause-left
 done-requires-clause-left g c =
     let b = c.start-cell in
     may_leave _ _ c.number-who.result (event.Start c.name-name.result) c.turn-turn.result.kept b.new.self c.turns_rest_on_these.ensures c.turn-turn.ensures.turn
-    (sym c.number-who.ensures) (made _ _ c.turn-turn.result.kept b.new.self _ b.ensures.is b.ensures.entries) tt
+    (sym c.number-who.ensures) (made _ _ c.turn-turn.result.kept b.new.self c.turn-turn.result.kept.conns b.ensures.is b.ensures.entries) tt
 
 pub returns-clause-served : goal.returns-clause-served
 returns-clause-served g c =
     let b = c.start-cell in
     started_then g.N.Known.known _ _ _ c.number-who.result c.turn-turn.result.kept b.new.self c.args.conn.now c.name-name.result c.turns_rest_on_these.ensures
     c.turn-turn.ensures.turn c.done.ensures.given (sym c.number-who.ensures) c.name-name.ensures
-    (made _ _ c.turn-turn.result.kept b.new.self _ b.ensures.is b.ensures.entries) c.show.ensures.state c.show-2.ensures.sound
+    (made _ _ c.turn-turn.result.kept b.new.self c.turn-turn.result.kept.conns b.ensures.is b.ensures.entries) c.show.ensures.state c.show-2.ensures.sound
     (b.ensures.handed c.args.conn.now
     (taken_here g.N.Known.known _ _ c.turn-turn.result.kept c.args.conn.now c.turns_rest_on_these.ensures c.turn-turn.ensures.turn c.show.ensures.state
     c.requires.carried)) c.requires.carried
