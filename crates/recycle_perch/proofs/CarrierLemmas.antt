@@ -37,7 +37,7 @@ counted n [] word is rests on = omega (arith, on)
 counted n (step ∷ steps) word is rests on =
     let more = counted step.leaves steps word rests.0 rests.1 on.1 in
     let by : (f l : ℕ) → n ≡ f → step.leaves ≡ l → (count_of laid_one (step ∷ steps) ≡ hit laid_one f l + count_of laid_one steps)
-        × (count_of took_one (step ∷ steps) ≡ hit took_one f l + count_of took_one steps) =
+    × (count_of took_one (step ∷ steps) ≡ hit took_one f l + count_of took_one steps) =
     λ f l e1 e2. (count_more laid_one step steps f l (on.0 ∙ e1) e2, count_more took_one step steps f l (on.0 ∙ e1) e2) in
     ⊎_elim
     (λ (n0 : n ≡ 0). ⊎_elim

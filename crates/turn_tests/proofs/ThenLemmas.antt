@@ -203,7 +203,7 @@ pub carried_then : {K : Type 0} (known : Option KnownOutside) (v w u : Me (Optio
     → MadeEvent who (event.Queue name) old new → after old.book.base old.book.history ≡ old.book.state → IsSound new.book.state
     → live_row old.book.state.rows name ≡ Some row → row.child ≡ child → c.name ≡ name → IsTakenUp new.book.state c → c.linger ≡ linger.Open
     → IsOfGeneration known new.book c.generation c.reader.limits c.site → IsCarried known u.0 c × (c.child ≡ child)
-carried_then known v w u who child old new c name row rests took gave number few has m state sound found of_child named taken open edition =
+carried_then known v w u who child old new c name row rests took gave number few has m state sound found of_child named taken opened edition =
     let stays = stays_as v w u (ledger_of old) (ledger_of new) took gave in
     let behind = state_then v w u who (event.Queue name) old new rests took gave number m state in
     let now : live_row new.book.state.rows name ≡ Some (queued_row row) =
@@ -226,7 +226,7 @@ carried_then known v w u who child old new c name row rests took gave number few
         queued = ap (λ (s : State). lives_and (λ r. is_queued r.place) s.rows c.name) behind
             ∙ test-at new.book.state.rows c.name (queued_row row) (λ r. is_queued r.place) (by_name c.name named);
         taken = subst (λ s. IsTakenUp s c) (sym behind) taken;
-        stays_open = open;
+        stays_open = opened;
       },
       its_child,
     )
@@ -241,7 +241,7 @@ started_found s name row found =
 
 served_start : (s t : State) (c : SeenConn) (name : ConnName) (row : Row) → t ≡ next s (event.Start name) → name ≡ c.name → live_row s.rows name ≡ Some row → IsTakenUp t c
     → c.linger ≡ linger.Open → IsServed t c
-served_start s t c name row is named found taken open =
+served_start s t c name row is named found taken opened =
     let now : live_row t.rows name ≡ Some (served_row s row) = ap (λ (x : State). live_row x.rows name) is ∙ started_found s name row found in
     let here : live_row t.rows name ≡ Some taken.row = subst (λ n. live_row t.rows n ≡ Some taken.row) (sym named) taken.found in
     let same : taken.row ≡ served_row s row = cc (here, now) in record {
@@ -250,7 +250,7 @@ served_start s t c name row is named found taken open =
       working = ap (λ (r : Row). is_working r.place) same;
       fits = taken.fits;
       usable = settled-usable taken.row.from taken.row.cause c taken.settled;
-      open_side = open;
+      open_side = opened;
     }
 
 pub started_then : {K : Type 0} (known : Option KnownOutside) (v w u : Me (Option K) View) (who : ℕ) (old new : SeenBoard) (c : SeenConn) (name : ConnName) → TurnsRestOn
