@@ -145,7 +145,8 @@ fn conn_for(
 ) -> Option<Conn<ScriptLink, Nothing>>
     ensures name { IfSome result (λ conn. conn.name ≡ name) }
     ensures fits { IfSome result (IsOf board.now.book.state) }
-    ensures settled { IfSome result (λ conn. IsSettled Reading (cause_of board.now.book.state name) conn) }
+    ensures settled { IfSome result
+        (λ conn. IsSettled Reading (cause_of board.now.book.state name) conn) }
 {
     if board.cause(name).is_some() {
         return None;

@@ -31,8 +31,14 @@ pub fn opened(
     passes: u32,
 ) -> Result<(Shared<ScriptBoard>, Vec<Pass<ScriptBoard>>), NoMemory>
     requires passes { (1 ≤ passes) × (passes ≤ 4099) }
-    ensures own { IfOk result (λ made. (p : ℕ) (pass : _) → slice_get made.1.items p ≡ Some pass → pass.seat.table_id ≡ made.0.table.shared.table_id) }
-    ensures fresh { IfOk result (λ made. (p : ℕ) (pass : _) → slice_get made.1.items p ≡ Some pass → IsFresh pass.seat.me) }
+    ensures own { IfOk result
+        (λ made. (p : ℕ) (pass : _)
+        → slice_get made.1.items p ≡ Some pass
+        → pass.seat.table_id ≡ made.0.table.shared.table_id) }
+    ensures fresh { IfOk result
+        (λ made. (p : ℕ) (pass : _)
+        → slice_get made.1.items p ≡ Some pass
+        → IsFresh pass.seat.me) }
 {
     let board = Board::make(alloc, CLIENTS + 1, 1, passes, SHAPE)?;
     match Shared::make(alloc, board, passes) {
@@ -46,10 +52,18 @@ pub fn last_of(
     shared: &Shared<ScriptBoard>,
     passes: &mut Vec<Pass<ScriptBoard>>,
 ) -> Option<Pass<ScriptBoard>>
-    requires own { (p : ℕ) (pass : _) → slice_get passes.old.items p ≡ Some pass → pass.seat.table_id ≡ shared.now.table.shared.table_id }
-    requires fresh { (p : ℕ) (pass : _) → slice_get passes.old.items p ≡ Some pass → IsFresh pass.seat.me }
-    ensures own { (p : ℕ) (pass : _) → slice_get passes.new.items p ≡ Some pass → pass.seat.table_id ≡ shared.now.table.shared.table_id }
-    ensures fresh { (p : ℕ) (pass : _) → slice_get passes.new.items p ≡ Some pass → IsFresh pass.seat.me }
+    requires own { (p : ℕ) (pass : _)
+        → slice_get passes.old.items p ≡ Some pass
+        → pass.seat.table_id ≡ shared.now.table.shared.table_id }
+    requires fresh { (p : ℕ) (pass : _)
+        → slice_get passes.old.items p ≡ Some pass
+        → IsFresh pass.seat.me }
+    ensures own { (p : ℕ) (pass : _)
+        → slice_get passes.new.items p ≡ Some pass
+        → pass.seat.table_id ≡ shared.now.table.shared.table_id }
+    ensures fresh { (p : ℕ) (pass : _)
+        → slice_get passes.new.items p ≡ Some pass
+        → IsFresh pass.seat.me }
     ensures last { IfSome result (λ pass. pass.seat.table_id ≡ shared.now.table.shared.table_id) }
     ensures last_fresh { IfSome result (λ pass. IsFresh pass.seat.me) }
 {
@@ -72,10 +86,18 @@ pub fn players<'a>(
     passes: &mut Vec<Pass<ScriptBoard>>,
     count: u32,
 ) -> Result<Vec<Player<'a>>, NoMemory>
-    requires own { (p : ℕ) (pass : _) → slice_get passes.old.items p ≡ Some pass → pass.seat.table_id ≡ shared.now.table.shared.table_id }
-    requires fresh { (p : ℕ) (pass : _) → slice_get passes.old.items p ≡ Some pass → IsFresh pass.seat.me }
-    ensures own { (p : ℕ) (pass : _) → slice_get passes.new.items p ≡ Some pass → pass.seat.table_id ≡ shared.now.table.shared.table_id }
-    ensures fresh { (p : ℕ) (pass : _) → slice_get passes.new.items p ≡ Some pass → IsFresh pass.seat.me }
+    requires own { (p : ℕ) (pass : _)
+        → slice_get passes.old.items p ≡ Some pass
+        → pass.seat.table_id ≡ shared.now.table.shared.table_id }
+    requires fresh { (p : ℕ) (pass : _)
+        → slice_get passes.old.items p ≡ Some pass
+        → IsFresh pass.seat.me }
+    ensures own { (p : ℕ) (pass : _)
+        → slice_get passes.new.items p ≡ Some pass
+        → pass.seat.table_id ≡ shared.now.table.shared.table_id }
+    ensures fresh { (p : ℕ) (pass : _)
+        → slice_get passes.new.items p ≡ Some pass
+        → IsFresh pass.seat.me }
 {
     let mut made = Vec::new(alloc);
     for _ in 0..count {
