@@ -111,7 +111,7 @@ fn show_served(rt: &impl Print, served: Served) -> io::Result<()> {
         "taken => {}, closed => {}, responses => {}",
         served.accepted, served.closed, served.responses
     )?;
-    println!(rt; "ten folds or more => {}", 10 <= served.folds)
+    println!(rt; "seven folds or more => {}", 7 <= served.folds)
 }
 
 /// One thread listens, and each other one serves.
@@ -210,8 +210,9 @@ fn listens<R: Wait>(rt: &R, player: Player, stage: &Stage) -> Left {
     let mut signalled: u32 = 0;
     for _ in rt.forever() {
         let over = stage.to_serve.load(Ordering::SeqCst) == 0;
+        let turn = stage.folds.begins();
         if goes_on(rt, shared, &mut pass, signalled.min(CLIENTS)) {
-            stage.folds.add();
+            stage.folds.made(turn);
             if over {
                 return Left::none();
             }

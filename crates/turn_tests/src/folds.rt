@@ -3,8 +3,13 @@ use std::sync::Wait;
 use std::sync::atomic::{AtomicU64, Ordering};
 use std::thread;
 
-/// How many folds were made.
+/// The turns that the listener began, and those of them in which it folded.
 pub struct Folds {
+    /// How many turns it began.
+    turns: AtomicU64,
+    /// How many it had begun when the one began in which it folded last, that one among them.
+    last: AtomicU64,
+    /// How often it folded.
     count: AtomicU64,
 }
 
@@ -12,25 +17,33 @@ impl Folds {
     /// None yet.
     pub fn make() -> Folds {
         Folds {
+            turns: AtomicU64::new(0),
+            last: AtomicU64::new(0),
             count: AtomicU64::new(0),
         }
     }
 
-    /// One more was made.
-    pub fn add(&self) {
+    /// The listener begins a turn: how many it began before.
+    pub fn begins(&self) -> u64 {
+        self.turns.fetch_add(1, Ordering::SeqCst)
+    }
+
+    /// It folded in that turn.
+    pub fn made(&self, turn: u64) {
+        self.last.store(turn.saturating_add(1), Ordering::SeqCst);
         self.count.fetch_add(1, Ordering::SeqCst);
     }
 
-    /// How many were made.
+    /// How often it folded.
     pub fn count(&self) -> u64 {
         self.count.load(Ordering::SeqCst)
     }
 
-    /// Waits until a fold was made that began behind this call: of two that are counted from here on the second one.
+    /// Waits until the listener folded in a turn that it began behind this call.
     pub fn wait<R: Wait>(&self, rt: &R) {
-        let before = self.count();
+        let before = self.turns.load(Ordering::SeqCst);
         for _ in rt.forever() {
-            if before.saturating_add(2) <= self.count() {
+            if before < self.last.load(Ordering::SeqCst) {
                 return;
             }
             thread::yield_now();
