@@ -259,9 +259,9 @@ due_may s slot child r due room =
     let one = and_parts (r.child == child && is_signalled s slot && is_parked r.place) (not (is_lingering r)) due in
     let two = and_parts (r.child == child && is_signalled s slot) (is_parked r.place) one.0 in
     let three = and_parts (r.child == child) (is_signalled s slot) two.0 in
-    let same : r.child ≡ child = grind (nat_tests, three.0) in
+    let same : r.child ≡ child = grind (arith, nat_tests, three.0) in
     let room' : nat_lt (carried_count s.rows r.child) (threads_of s r.child) ≡ true =
-    subst (λ k. nat_lt (carried_count s.rows k) (threads_of s k) ≡ true) (sym same) (grind (nat_tests, room)) in
+    subst (λ k. nat_lt (carried_count s.rows k) (threads_of s k) ≡ true) (sym same) (grind (arith, nat_tests, room)) in
     (three.1, rw (two.1, one.1) room', same)
 
 -- the connection that was found may be queued, and is of the child
