@@ -131,7 +131,10 @@ known_between d first steps (view ∷ views) known =
 -- all marks know each step of the trail
 known_all : (d : ℕ × ℕ) (steps : List Step) (views : List (List Step)) → AreOfMakers (length views) steps
     → ((i : ℕ) (view : List Step) → get_elem? views i ≡ some view → view ≡ steps_by i steps) → known_of d views ≡ count_of d steps
-known_all d steps views of_makers known = known_between d 0 steps views known ∙ between_all d (length views) steps of_makers
+known_all d steps views of_makers known =
+    known_between d 0 steps views (λ i view at. known i view at ∙ ap (λ m. steps_by m steps) (let z : i ≡ 0 + i = omega arith in z))
+    ∙ ap (λ last. between d 0 last steps) (let z : 0 + length views ≡ length views = omega arith in z)
+    ∙ between_all d (length views) steps of_makers
 
 -- ## Each carrier
 
