@@ -143,4 +143,4 @@ rest_or_taken word views is =
     let laid = known_all laid_one is.trail views is.of_marks is.known in
     let took = known_all took_one is.trail views is.of_marks is.known in
     let all = counted 0 is.trail word (inl refl) is.rests is.goes_on in
-    ap (λ n. 2 * n) laid ∙ all ∙ ap (λ n. word + 2 * n) (sym took)
+    omega (arith, laid, took, all)
