@@ -7,6 +7,7 @@
 #![tactic(auto)]
 
 mod code;
+mod location;
 mod plan;
 mod planning;
 mod range;

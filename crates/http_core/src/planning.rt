@@ -9,6 +9,7 @@ ghost use Rattle.http_core.specs.RangeInside.{HasSmallBound, IsPartWithin};
 ghost use Rattle.http_core.specs.Served.{is_disallowed, is_get, is_head, is_options, options_of, range_for, served_range, resource_at, resource_of_target, served_at, served_of, served_to, size_at};
 
 use crate::code::Code;
+use crate::location::location_of;
 use crate::plan::{FilePart, Plan, Served};
 use crate::range::{Range, Selection, range_of, selection_of};
 use crate::status_page::{asks_for_text, is_status_path};
@@ -76,19 +77,26 @@ fn size_at(site: &Site, place: u32) -> u64
     bytes(site, place).len() as u64
 }
 
-/// What the resource serves to GET, or else to HEAD.
-fn served_of(site: &Site, get: bool, range: Option<&[u8]>, found: Found) -> Served
+/// What the resource of the target serves to GET, or else to HEAD.
+fn served_of(
+    site: &Site,
+    get: bool,
+    range: Option<&[u8]>,
+    target: &[u8],
+    found: Found,
+) -> Result<Served, NoMemory>
     requires { IsFoundIn site.now found }
-    ensures value { result ≡ served_of site.now get (option_map (λ t. t.now) range.entry) found }
-    ensures of { IsServedOf site.now result }
+    ensures value { IfOk result (λ served. served
+        ≡ served_of site.now get (option_map (λ t. t.now) range.entry) target.now found) }
+    ensures of { IfOk result (IsServedOf site.now) }
 {
     match found {
-        Found::BadPath => Served::Refused(Code::BadRequest),
-        Found::Redirect(path) => Served::Moved(path),
-        Found::Missing => Served::Refused(Code::NotFound),
+        Found::BadPath => Ok(Served::Refused(Code::BadRequest)),
+        Found::Redirect(path) => Ok(Served::Moved(location_of(target, path)?)),
+        Found::Missing => Ok(Served::Refused(Code::NotFound)),
         Found::File(place) => {
             let size = size_at(site, place);
-            ranged(place, size, range_for(get, size, range))
+            Ok(ranged(place, size, range_for(get, size, range)))
         }
     }
 }
@@ -125,7 +133,7 @@ fn served_at(alloc: Global, site: &Site, request: &Request, get: bool) -> Result
         return Ok(Served::Page(asks_for_text(target)));
     }
     let found = resource_at(alloc, site, path)?;
-    Ok(served_of(site, get, request.range(), found))
+    served_of(site, get, request.range(), target, found)
 }
 
 /// What is served to OPTIONS.

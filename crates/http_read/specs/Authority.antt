@@ -1,6 +1,6 @@
 -- A host, and a host with a port (RFC 9110, sections 4.2.1 and 7.2; RFC 3986, sections 3.2.2 and 3.2.3).
-use Rattle.std.specs.Prelude.{ℕ, ◌-◌, ◌==◌, ◌&&◌, ◌||◌, nat_lt, Bool, true, List, [], ◌∷◌, length, take, drop, slice_index, codes, if◌then◌else◌}
-use Rattle.std.specs.List.{before_first, list_all, list_any}
+use Rattle.std.specs.Prelude.{ℕ, ◌==◌, ◌&&◌, ◌||◌, nat_lt, Bool, true, List, [], ◌∷◌, length, drop, slice_index, codes, if◌then◌else◌}
+use Rattle.std.specs.List.{after_first, before_first, list_all, list_any, position_or_len}
 use Rattle.std.specs.Char.{is_ascii_alphanumeric, is_ascii_digit, is_ascii_hexdigit}
 
 -- a byte of a name or of an address with points, other than the percent sign
@@ -43,14 +43,16 @@ is_address text = nat_lt 0 (length text) && list_all is_address_byte text
 -- an address behind its opening bracket: the closing one stands behind it, and behind that perhaps a port
 abbrev pub ends_address : List ℕ → Bool
 ends_address text =
-    is_address (before_first closes_bracket text) && closes_bracket (slice_index text (length (before_first closes_bracket text)))
-    && is_port (drop (length (before_first closes_bracket text) + 1) text)
+    nat_lt (position_or_len closes_bracket text) (length text)
+    && is_address (before_first closes_bracket text) && is_port (after_first closes_bracket text)
+
+-- a name, and behind it perhaps a port
+abbrev pub is_named : List ℕ → Bool
+is_named text = is_name (before_first begins_port text) && is_port (drop (position_or_len begins_port text) text)
 
 -- a host, and behind it perhaps a port: the host is an address in brackets ([ is 91), or a name
 abbrev pub is_authority : List ℕ → Bool
-is_authority text =
-    if slice_index text 0 == 91 then ends_address (drop 1 text)
-    else is_name (before_first begins_port text) && is_port (drop (length (before_first begins_port text)) text)
+is_authority text = if slice_index text 0 == 91 then ends_address (drop 1 text) else is_named text
 
 -- the value of a Host: nothing, or a host with or without a port
 abbrev pub is_host_value : List ℕ → Bool

@@ -1,5 +1,5 @@
 -- The version in the first line of a head (RFC 9112, section 2.3), and how it is read (RFC 9110, section 2.5).
-use Rattle.std.specs.Prelude.{ℕ, ◌-◌, ◌==◌, ◌&&◌, nat_lt, Bool, not, List, [], ◌∷◌, ◌++◌, length, take, drop, slice_index, codes, if◌then◌else◌}
+use Rattle.std.specs.Prelude.{ℕ, ◌-◌, ◌==◌, ◌&&◌, nat_lt, Bool, not, List, [], ◌∷◌, ◌++◌, take, drop, slice_index, slice_set, codes, if◌then◌else◌}
 use Rattle.std.specs.Char.{is_ascii_digit}
 use Rattle.std.specs.Str.{bytes_eq}
 use Rattle.http_read.specs.declared.request.Limits.{Limits}
@@ -24,9 +24,9 @@ abbrev pub names_later_minor : List ℕ → Bool
 names_later_minor line =
     is_version (line_tail line) && slice_index (line_tail line) 6 == 49 && nat_lt 49 (slice_index (line_tail line) 8)
 
--- the line with 1 in place of its last byte but a CR
+-- the line with 1 as its last byte, a CR not counted
 abbrev pub with_minor_one : List ℕ → List ℕ
-with_minor_one line = take (line_len line - 1) line ++ 49 ∷ drop (line_len line) line
+with_minor_one line = slice_set line (line_len line - 1) 49
 
 -- the first line as it is read: the versions 1.2 to 1.9 as 1.1
 abbrev pub line_as_read : List ℕ → List ℕ

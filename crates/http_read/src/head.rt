@@ -57,14 +57,16 @@ impl HeadReader {
             Extent::LongLine => HeadAnswer::Refused(URI_TOO_LONG),
             Extent::TooLarge => HeadAnswer::Refused(BAD_REQUEST),
             Extent::Unended => HeadAnswer::More,
-            Extent::Ends(end, long) => read_head(alloc, &bytes[..end], &self.limits, long),
+            Extent::Ends(end, noted) => read_head(alloc, &bytes[..end], &self.limits, noted),
         }
     }
 }
 
-/// No bytes have two answers.
+/// Bytes have an answer beside want of memory, and no two.
 pub fn one_answer()
-    ensures { (limits : Limits) (bytes : List ℕ) (answer other : HeadAnswer)
+    ensures some { (limits : Limits) (bytes : List ℕ)
+        → (answer : HeadAnswer) × HeadIs limits bytes answer × (answer ≢ HeadAnswer.NoMemory) }
+    ensures one { (limits : Limits) (bytes : List ℕ) (answer other : HeadAnswer)
         → HeadIs limits bytes answer → HeadIs limits bytes other
         → answer ≢ HeadAnswer.NoMemory → other ≢ HeadAnswer.NoMemory → answer ≡ other }
 {}

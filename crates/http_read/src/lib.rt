@@ -16,6 +16,7 @@
 //! `one_spelling` and `keeps_spelling` are the laws above it.
 #![tactic(auto)]
 
+mod authority;
 mod body;
 mod chunk_line;
 mod chunked;
@@ -23,16 +24,22 @@ mod codes;
 mod head;
 mod head_reader;
 mod head_rules;
+mod lines;
+mod places;
 mod request;
 mod request_fields;
 mod requests;
 mod sizes;
+mod trailer_line;
+mod version;
 mod whole_head;
 mod words;
 
+pub use authority::is_authority;
 pub use body::{BodyAnswer, BodyReader, cuts_never_matter, keeps_form, one_form};
 pub use head::{HeadAnswer, keeps_answer, next_head, one_answer};
 pub use head_reader::HeadReader;
+pub use places::place_of_byte;
 pub use request::{BodyKind, Limits, Request};
 pub use requests::{keeps_spelling, one_spelling};
 pub use sizes::GREATEST_HEAD;

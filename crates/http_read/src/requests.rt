@@ -9,6 +9,9 @@ use crate::head::{keeps_answer, one_answer};
 
 /// Bytes spell one list of requests, at most one refusal behind them, and leave one rest.
 pub fn one_spelling()
+    ensures some { (limits : Limits) (bytes : List ℕ)
+        → (requests : List (RequestParts × ℕ)) × (refusal : Option ReadRefusal)
+        × (rest : List ℕ) × AreItems limits bytes requests refusal rest }
     ensures requests { (limits : Limits) (bytes : List ℕ)
         (requests others : List (RequestParts × ℕ)) (refusal other : Option ReadRefusal)
         (rest left : List ℕ)

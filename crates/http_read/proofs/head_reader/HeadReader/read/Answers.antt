@@ -11,5 +11,5 @@ returns-in-TooLarge-clause-head c =
 
 pub returns-in-Ends-clause-head : goal.returns-in-Ends-clause-head
 returns-in-Ends-clause-head c =
-    end_says c.args.self.now.limits c.look.new.self.limits c.args.bytes.now c.min.result c.in-Ends.end c.in-Ends.long c.read_head.result
+    end_says c.args.self.now.limits c.look.new.self.limits c.args.bytes.now c.min.result c.in-Ends.end c.in-Ends.noted c.read_head.result
     c.in-Ends.ensures.limits c.min.ensures c.in-Ends.ensures.looks c.read_head.ensures
