@@ -195,9 +195,6 @@ decide_text [] = inr (λ h. no_text h.0.0 h.0.1 h.1 h.2.1)
     no_text (b ∷ raw) end rest e = cc
 decide_text (b ∷ text) = by_newline (decide_newline (b ∷ text))
   where
-    abbrev Raw : List ℕ → Type 0
-    Raw xs = Found Text xs
-
     no_more : ¬ (Begins Newline (b ∷ text)) → ¬ (Begins Text text) → (raw : List ℕ) (end : LineEnd) (rest : List ℕ) → AllPass is_value_byte raw → b ∷ text ≡ raw ++ (print_end end ++ rest) → ⊥
     no_more none further [] end rest all e = none (end, rest, e)
     no_more none further (w ∷ raw) end rest all e = further ((raw, end), rest, (All-tail (λ c. is_value_byte c ≡ true) w raw all, cc))
@@ -227,10 +224,14 @@ decide_field text = by_parts (decide_then (Word is_token_byte 58) Text Name_dete
     by_parts : Found (Then (Word is_token_byte 58) Text) text → Found FieldLine text
     by_parts (inl ((name, (raw, end)), rest, (middle, word, value))) =
         let f : Field = record { name = name; raw = raw; end = end } in
-        inl (f, rest, (
-          record { name = (word.0, word.1); raw = value.0 },
-          word.2 ∙ ap (λ t. name ++ 58 ∷ t) value.1 ∙ sym (print_field-append f rest),
-        ))
+        inl (
+          f,
+          rest,
+          (
+            record { name = (word.0, word.1); raw = value.0 },
+            word.2 ∙ ap (λ t. name ++ 58 ∷ t) value.1 ∙ sym (print_field-append f rest),
+          ),
+        )
     by_parts (inr none) = inr (λ h. none ((h.0.name, (h.0.raw, h.0.end)), h.1, FieldLine_parts h.0 text h.1 h.2))
 
 field_shorter : (f : Field) (text rest : List ℕ) → FieldLine f text rest → length rest < length text
@@ -248,11 +249,15 @@ decide_section_within (suc n) text small = by_newline (decide_newline text)
   where
     by_rest : (f : Field) (middle : List ℕ) → ¬ (Begins Newline text) → FieldLine f text middle → Found Section middle → Found Section text
     by_rest f middle none x (inl ((fields, last), rest, (all, e))) =
-        inl ((f ∷ fields, last), rest, (
-          All-cons _ f fields x.0 all,
-          x.1 ∙ ap (λ t. print_field f ++ t) e ∙ sym (append_assoc (print_field f) (print_section fields last) rest)
-              ∙ ap (λ t. t ++ rest) (sym (append_assoc (print_field f) _ (print_end last))),
-        ))
+        inl (
+          (f ∷ fields, last),
+          rest,
+          (
+            All-cons _ f fields x.0 all,
+            x.1 ∙ ap (λ t. print_field f ++ t) e ∙ sym (append_assoc (print_field f) (print_section fields last) rest)
+                ∙ ap (λ t. t ++ rest) (sym (append_assoc (print_field f) _ (print_end last))),
+          ),
+        )
     by_rest f middle none x (inr further) = inr (λ h.
         let skipped = Section_skip (f ∷ []) h.0.0 h.0.1 text middle h.1
         (All-cons _ f [] x.0 (All-nil _), x.1 ∙ ap (λ t. t ++ middle) (sym (append-nil (print_field f)))) h.2 in

@@ -90,7 +90,7 @@ end_says limits other bytes m n noted given e is h t =
     text_says limits bytes n noted ends given (subst (λ l. ReadsText l.fields noted (take n bytes) given) e t)
 
 -- the digit that is read as 1 stands in the text
-pub version_within : (limits : Limits) (window : List ℕ) (n : ℕ) (noted : Noted) → EndsIn limits window n noted → IsWithinText noted.version (take n window)
+version_within : (limits : Limits) (window : List ℕ) (n : ℕ) (noted : Noted) → EndsIn limits window n noted → IsWithinText noted.version (take n window)
 version_within limits window n noted h =
     subst (λ v. IsWithinText v (take n window)) (sym h.version_is) (by_version (names_other_major h.text.head_lines.first) (names_later_minor h.text.head_lines.first))
   where
@@ -98,3 +98,7 @@ version_within limits window n noted h =
     by_version true later = tt
     by_version false true = digit_within limits (take n window) h.fields h.text
     by_version false false = tt
+
+pub end_within : (limits : Limits) (bytes : List ℕ) (m n : ℕ) (noted : Noted) → LooksForEnd limits (take m bytes) (extent.Ends n noted) → IsWithinText noted.version (take n bytes)
+end_within limits bytes m n noted h =
+    subst (IsWithinText noted.version) (take-take n m bytes (omega (arith, h.within, length-take m bytes))) (version_within limits (take m bytes) n noted h)

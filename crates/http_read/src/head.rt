@@ -62,11 +62,15 @@ impl HeadReader {
     }
 }
 
-/// Bytes have an answer beside want of memory, and no two.
-pub fn one_answer()
-    ensures some { (limits : Limits) (bytes : List ℕ)
+/// All bytes have an answer beside want of memory.
+pub fn some_answer()
+    ensures { (limits : Limits) (bytes : List ℕ)
         → (answer : HeadAnswer) × HeadIs limits bytes answer × (answer ≢ HeadAnswer.NoMemory) }
-    ensures one { (limits : Limits) (bytes : List ℕ) (answer other : HeadAnswer)
+{}
+
+/// No bytes have two answers.
+pub fn one_answer()
+    ensures { (limits : Limits) (bytes : List ℕ) (answer other : HeadAnswer)
         → HeadIs limits bytes answer → HeadIs limits bytes other
         → answer ≢ HeadAnswer.NoMemory → other ≢ HeadAnswer.NoMemory → answer ≡ other }
 {}

@@ -1,18 +1,14 @@
 use Rattle.http_read.proofs.RequestLemmas.{same_items}
-use Rattle.http_read.proofs.SomeItemsLemmas.{some_items}
 use Rattle.http_read.proofs.requests.one_spelling.Goals as goal
-
-pub returns-clause-some : goal.returns-clause-some
-returns-clause-some c = λ limits bytes. let items = some_items limits bytes in (items.requests, items.refusal, items.rest, items.are)
 
 pub returns-clause-requests : goal.returns-clause-requests
 returns-clause-requests c limits bytes requests others refusal other rest left h k =
-    (same_items c.one_answer.ensures.one c.one_form.ensures.one limits bytes requests others refusal other rest left h.spelled h.left k.spelled k.left).same_requests
+    (same_items c.one_answer.ensures c.one_form.ensures.one limits bytes requests others refusal other rest left h.spelled h.left k.spelled k.left).same_requests
 
 pub returns-clause-refusal : goal.returns-clause-refusal
 returns-clause-refusal c limits bytes requests others refusal other rest left h k =
-    (same_items c.one_answer.ensures.one c.one_form.ensures.one limits bytes requests others refusal other rest left h.spelled h.left k.spelled k.left).same_refusal
+    (same_items c.one_answer.ensures c.one_form.ensures.one limits bytes requests others refusal other rest left h.spelled h.left k.spelled k.left).same_refusal
 
 pub returns-clause-rest : goal.returns-clause-rest
 returns-clause-rest c limits bytes requests others refusal other rest left h k =
-    (same_items c.one_answer.ensures.one c.one_form.ensures.one limits bytes requests others refusal other rest left h.spelled h.left k.spelled k.left).same_rest
+    (same_items c.one_answer.ensures c.one_form.ensures.one limits bytes requests others refusal other rest left h.spelled h.left k.spelled k.left).same_rest
