@@ -21,7 +21,7 @@ use Rattle.http_read.specs.BodyPlaces.{IsTrailerFront}
 use Rattle.http_read.specs.ChunkStepsInside.{Breaks, Ended, first_front, first_place, first_trailer, no_totals, behind_whole, behind_trailer, trailer_step, run, run_on}
 use Rattle.http_read.proofs.ChunkStepLemmas.{run_data}
 use Rattle.http_read.proofs.ChunkLineRuns.{body_of_line, run_line, found_line}
-use Rattle.http_read.proofs.TrailerLemmas.{trailer_means, first_is_trailer, GoesOn, goes_on, full_step, text_of_field, field_move, empty_move, broken_move, cr_begun}
+use Rattle.http_read.proofs.TrailerLemmas.{trailer_means, first_is_trailer, goes_on, full_step, text_of_field, field_move, empty_move, broken_move, cr_begun}
 
 -- ---- chunks
 

@@ -1,12 +1,13 @@
 -- A text begins with a head of the grammar, or it doesn't: each piece of the grammar is found or there is none.
-use Rattle.std.proofs.Common.{◌≡◌, ℕ, zero, suc, ◌+◌, ◌<◌, ◌≤◌, ◌⊎◌, inl, inr, Bool, true, false, List, [], ◌∷◌, ◌++◌, length, refl, sym, ap, ◌∙◌, subst, arith, append_assoc, length-append}
+use Rattle.std.proofs.Common.{◌≡◌, ℕ, zero, suc, ◌<◌, ◌≤◌, ◌⊎◌, inl, inr, Bool, true, false, List, [], ◌∷◌, ◌++◌, length, refl, sym, ap, ◌∙◌, subst, arith, append_assoc, length-append}
 use Rattle.std.proofs.lemmas.Bool.{cases_eq, cases_lt, cases_Bool, both_ways}
 use Rattle.std.proofs.lemmas.List.{append-nil}
 use Rattle.std.proofs.lemmas.List.Elements.{All-nil, All-cons, All-head, All-tail}
 use Rattle.std.proofs.lemmas.Str.{IsUtf8-from_is_utf8, is_utf8-from_IsUtf8}
 use Rattle.std.specs.Prelude.{IsUtf8}
+use Rattle.std.specs.List.{flat_map}
 use Rattle.std.specs.Str.{is_utf8}
-use Rattle.httparse.specs.Grammar.{AllPass, is_token_byte, is_uri_byte, is_value_byte, LineEnd, crlf, lf, print_end, print_blank, print_version, Field, print_field, print_section, RequestHead, ReadsRequest}
+use Rattle.httparse.specs.Grammar.{AllPass, is_token_byte, is_uri_byte, is_value_byte, LineEnd, crlf, lf, print_end, print_blank, print_version, Field, IsField, print_field, print_section, RequestHead, ReadsRequest}
 use Rattle.httparse.specs.Pieces.{Piece, Begins, Then, Stops, is_newline, Newline, Blank, Word, Target, Version, Text, FieldLine, Section, RequestStart}
 use Rattle.httparse.proofs.RunLemmas.{run_unique}
 use Rattle.httparse.proofs.PieceLemmas.{IsDeterministic, Word_deterministic, Method_deterministic, Target_deterministic, Version_deterministic, Blank_deterministic, RequestStart_deterministic, Name_deterministic, FieldLine_parts, Section_line, Section_skip, print_end_unique, newline_not_stopped, print_field-append, space_ends_token, colon_ends_token}
@@ -86,7 +87,7 @@ stops_here (b ∷ text) none = by_byte (cases_Bool (is_newline b))
 decide_blank_within : (n : ℕ) (text : List ℕ) → length text ≤ n → Found Blank text
 decide_blank_within zero [] small = stops_here [] (λ h. absurd (omega (arith, shorter h.0 [] h.1 h.2)))
 decide_blank_within zero (b ∷ text) small = absurd (omega arith)
-decide_blank_within (suc n) text small = by_newline (decide_newline text)
+decide_blank_within (suc n) text small = by_newline (decide_blank_within n) (decide_newline text)
   where
     by_rest : (end : LineEnd) (rest : List ℕ) → text ≡ print_end end ++ rest → Found Blank rest → Found Blank text
     by_rest end rest e (inl (ends, behind, (more, stops))) =
@@ -99,9 +100,9 @@ decide_blank_within (suc n) text small = by_newline (decide_newline text)
             let same = print_end_unique end first rest (print_blank ends ++ behind) (sym e ∙ other ∙ append_assoc (print_end first) (print_blank ends) behind) in
             none (ends, behind, (same.1, stops))
 
-    by_newline : Found Newline text → Found Blank text
-    by_newline (inl (end, rest, e)) = by_rest end rest e (decide_blank_within n rest (omega (arith, shorter end text rest e, small)))
-    by_newline (inr none) = stops_here text none
+    by_newline : ((rest : List ℕ) → length rest ≤ n → Found Blank rest) → Found Newline text → Found Blank text
+    by_newline further (inl (end, rest, e)) = by_rest end rest e (further rest (omega (arith, shorter end text rest e, small)))
+    by_newline further (inr none) = stops_here text none
 
 decide_blank : Decided Blank
 decide_blank text = decide_blank_within (length text) text (omega arith)
@@ -114,7 +115,7 @@ UpTo test stop text = (word : List ℕ) × (rest : List ℕ) × AllPass test wor
 
 decide_run : (test : ℕ → Bool) (stop : ℕ) (text : List ℕ) → UpTo test stop text ⊎ (¬ (UpTo test stop text))
 decide_run test stop [] = inr (λ h. absurd (omega (arith, ap length h.3, length-append h.0 (stop ∷ h.1))))
-decide_run test stop (b ∷ text) = by_stop (cases_eq b stop)
+decide_run test stop (b ∷ text) = by_stop (decide_run test stop text) (cases_eq b stop)
   where
     no_more : (b ≡ stop → ⊥) → ¬ (UpTo test stop text) → (word rest : List ℕ) → AllPass test word → b ∷ text ≡ word ++ stop ∷ rest → ⊥
     no_more other none [] rest all e = other (cc)
@@ -130,13 +131,13 @@ decide_run test stop (b ∷ text) = by_stop (cases_eq b stop)
     by_rest other passes (inl (word, rest, all, e)) = inl (b ∷ word, rest, All-cons (λ c. test c ≡ true) b word passes all, ap (λ t. b ∷ t) e)
     by_rest other passes (inr none) = inr (λ h. no_more other none h.0 h.1 h.2 h.3)
 
-    by_test : (b ≡ stop → ⊥) → (test b ≡ true) ⊎ (test b ≡ false) → UpTo test stop (b ∷ text) ⊎ (¬ (UpTo test stop (b ∷ text)))
-    by_test other (inl passes) = by_rest other passes (decide_run test stop text)
-    by_test other (inr fails) = inr (λ h. fails_here other fails h.0 h.1 h.2 h.3)
+    by_test : UpTo test stop text ⊎ (¬ (UpTo test stop text)) → (b ≡ stop → ⊥) → (test b ≡ true) ⊎ (test b ≡ false) → UpTo test stop (b ∷ text) ⊎ (¬ (UpTo test stop (b ∷ text)))
+    by_test further other (inl passes) = by_rest other passes further
+    by_test further other (inr fails) = inr (λ h. fails_here other fails h.0 h.1 h.2 h.3)
 
-    by_stop : (b ≡ stop) ⊎ (b ≡ stop → ⊥) → UpTo test stop (b ∷ text) ⊎ (¬ (UpTo test stop (b ∷ text)))
-    by_stop (inl is) = inl ([], text, All-nil (λ c. test c ≡ true), ap (λ c. c ∷ text) is)
-    by_stop (inr other) = by_test other (cases_Bool (test b))
+    by_stop : UpTo test stop text ⊎ (¬ (UpTo test stop text)) → (b ≡ stop) ⊎ (b ≡ stop → ⊥) → UpTo test stop (b ∷ text) ⊎ (¬ (UpTo test stop (b ∷ text)))
+    by_stop further (inl is) = inl ([], text, All-nil (λ c. test c ≡ true), ap (λ c. c ∷ text) is)
+    by_stop further (inr other) = by_test further other (cases_Bool (test b))
 
 decide_word : (test : ℕ → Bool) (stop : ℕ) → test stop ≡ false → Decided (Word test stop)
 decide_word test stop fails text = by_run (decide_run test stop text)
@@ -177,12 +178,18 @@ decide_version text = by_fronts (has_front (print_version 0) text) (has_front (p
         no_version (suc zero) rest small e = neither rest e
         no_version (suc (suc n)) rest small e = absurd (omega arith)
 
+decide_version_end : Decided (Then Version Newline)
+decide_version_end = decide_then Version Newline Version_deterministic decide_version decide_newline
+
+decide_target_end : Decided (Then Target (Then Version Newline))
+decide_target_end = decide_then Target (Then Version Newline) Target_deterministic decide_target decide_version_end
+
+decide_first_line : Decided (Then (Word is_token_byte 32) (Then Target (Then Version Newline)))
+decide_first_line =
+    decide_then (Word is_token_byte 32) (Then Target (Then Version Newline)) Method_deterministic (decide_word is_token_byte 32 space_ends_token) decide_target_end
+
 decide_start : Decided RequestStart
-decide_start =
-    decide_then Blank _ Blank_deterministic decide_blank
-    (decide_then (Word is_token_byte 32) _ Method_deterministic (decide_word is_token_byte 32 space_ends_token)
-    (decide_then Target _ Target_deterministic decide_target
-    (decide_then Version Newline Version_deterministic decide_version decide_newline)))
+decide_start = decide_then Blank (Then (Word is_token_byte 32) (Then Target (Then Version Newline))) Blank_deterministic decide_blank decide_first_line
 
 -- ## Field lines
 
@@ -193,7 +200,7 @@ decide_text [] = inr (λ h. no_text h.0.0 h.0.1 h.1 h.2.1)
     no_text [] crlf rest e = cc
     no_text [] lf rest e = cc
     no_text (b ∷ raw) end rest e = cc
-decide_text (b ∷ text) = by_newline (decide_newline (b ∷ text))
+decide_text (b ∷ text) = by_newline (decide_text text) (decide_newline (b ∷ text))
   where
     no_more : ¬ (Begins Newline (b ∷ text)) → ¬ (Begins Text text) → (raw : List ℕ) (end : LineEnd) (rest : List ℕ) → AllPass is_value_byte raw → b ∷ text ≡ raw ++ (print_end end ++ rest) → ⊥
     no_more none further [] end rest all e = none (end, rest, e)
@@ -210,13 +217,13 @@ decide_text (b ∷ text) = by_newline (decide_newline (b ∷ text))
         inl ((b ∷ raw, end), rest, (All-cons (λ c. is_value_byte c ≡ true) b raw passes all, ap (λ t. b ∷ t) e))
     by_rest none passes (inr further) = inr (λ h. no_more none further h.0.0 h.0.1 h.1 h.2.0 h.2.1)
 
-    by_byte : ¬ (Begins Newline (b ∷ text)) → (is_value_byte b ≡ true) ⊎ (is_value_byte b ≡ false) → Found Text (b ∷ text)
-    by_byte none (inl passes) = by_rest none passes (decide_text text)
-    by_byte none (inr fails) = inr (λ h. fails_here none fails h.0.0 h.0.1 h.1 h.2.0 h.2.1)
+    by_byte : Found Text text → ¬ (Begins Newline (b ∷ text)) → (is_value_byte b ≡ true) ⊎ (is_value_byte b ≡ false) → Found Text (b ∷ text)
+    by_byte further none (inl passes) = by_rest none passes further
+    by_byte further none (inr fails) = inr (λ h. fails_here none fails h.0.0 h.0.1 h.1 h.2.0 h.2.1)
 
-    by_newline : Found Newline (b ∷ text) → Found Text (b ∷ text)
-    by_newline (inl (end, rest, e)) = inl (([], end), rest, (All-nil (λ c. is_value_byte c ≡ true), e))
-    by_newline (inr none) = by_byte none (cases_Bool (is_value_byte b))
+    by_newline : Found Text text → Found Newline (b ∷ text) → Found Text (b ∷ text)
+    by_newline further (inl (end, rest, e)) = inl (([], end), rest, (All-nil (λ c. is_value_byte c ≡ true), e))
+    by_newline further (inr none) = by_byte further none (cases_Bool (is_value_byte b))
 
 decide_field : Decided FieldLine
 decide_field text = by_parts (decide_then (Word is_token_byte 58) Text Name_deterministic (decide_word is_token_byte 58 colon_ends_token) decide_text text)
@@ -245,7 +252,7 @@ decide_section_within zero [] small = inr (λ h. no_section (Section_line h.0 []
     no_section (inl (end, rest, e)) = absurd (omega (arith, shorter end [] rest e))
     no_section (inr (f, rest, x)) = absurd (omega (arith, field_shorter f [] rest x))
 decide_section_within zero (b ∷ text) small = absurd (omega arith)
-decide_section_within (suc n) text small = by_newline (decide_newline text)
+decide_section_within (suc n) text small = by_newline (decide_section_within n) (decide_newline text)
   where
     by_rest : (f : Field) (middle : List ℕ) → ¬ (Begins Newline text) → FieldLine f text middle → Found Section middle → Found Section text
     by_rest f middle none x (inl ((fields, last), rest, (all, e))) =
@@ -253,27 +260,27 @@ decide_section_within (suc n) text small = by_newline (decide_newline text)
           (f ∷ fields, last),
           rest,
           (
-            All-cons _ f fields x.0 all,
+            All-cons IsField f fields x.0 all,
             x.1 ∙ ap (λ t. print_field f ++ t) e ∙ sym (append_assoc (print_field f) (print_section fields last) rest)
-                ∙ ap (λ t. t ++ rest) (sym (append_assoc (print_field f) _ (print_end last))),
+                ∙ ap (λ t. t ++ rest) (sym (append_assoc (print_field f) (flat_map print_field fields) (print_end last))),
           ),
         )
     by_rest f middle none x (inr further) = inr (λ h.
         let skipped = Section_skip (f ∷ []) h.0.0 h.0.1 text middle h.1
-        (All-cons _ f [] x.0 (All-nil _), x.1 ∙ ap (λ t. t ++ middle) (sym (append-nil (print_field f)))) h.2 in
+        (All-cons IsField f [] x.0 (All-nil IsField), x.1 ∙ ap (λ t. t ++ middle) (sym (append-nil (print_field f)))) h.2 in
         further ((skipped.0, h.0.1), h.1, skipped.2))
 
-    by_field : ¬ (Begins Newline text) → Found FieldLine text → Found Section text
-    by_field none (inl (f, middle, x)) = by_rest f middle none x (decide_section_within n middle (omega (arith, field_shorter f text middle x, small)))
-    by_field none (inr no_field) = inr (λ h. neither (Section_line h.0 text h.1 h.2))
+    by_field : ((middle : List ℕ) → length middle ≤ n → Found Section middle) → ¬ (Begins Newline text) → Found FieldLine text → Found Section text
+    by_field further none (inl (f, middle, x)) = by_rest f middle none x (further middle (omega (arith, field_shorter f text middle x, small)))
+    by_field further none (inr no_field) = inr (λ h. neither (Section_line h.0 text h.1 h.2))
       where
         neither : Begins Newline text ⊎ Begins FieldLine text → ⊥
         neither (inl newline) = none newline
         neither (inr field) = no_field field
 
-    by_newline : Found Newline text → Found Section text
-    by_newline (inl (end, rest, e)) = inl (([], end), rest, (All-nil _, e))
-    by_newline (inr none) = by_field none (decide_field text)
+    by_newline : ((middle : List ℕ) → length middle ≤ n → Found Section middle) → Found Newline text → Found Section text
+    by_newline further (inl (end, rest, e)) = inl (([], end), rest, (All-nil IsField, e))
+    by_newline further (inr none) = by_field further none (decide_field text)
 
 decide_section : Decided Section
 decide_section text = decide_section_within (length text) text (omega arith)

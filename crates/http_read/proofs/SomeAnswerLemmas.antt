@@ -2,7 +2,7 @@
 use Rattle.std.proofs.Common.{◌≡◌, ◌≢◌, ℕ, ◌+◌, ◌<◌, ◌≤◌, ◌⊎◌, inl, inr, Bool, true, false, List, [], ◌∷◌, ◌++◌, length, take, refl, sym, ap, ◌∙◌, subst, arith}
 use Rattle.std.specs.Prelude.{All, IsFalse, Result, Ok, Err, ◌==◌}
 use Rattle.std.proofs.lemmas.Bool.{eqb-true, cases_eq, cases_lt, cases_Bool}
-use Rattle.std.proofs.lemmas.List.{append-nil, append_assoc, length-append, take_all, take_at, take-take, length-take, length-take-le}
+use Rattle.std.proofs.lemmas.List.{append_assoc, length-append, take_all, take_at, take-take, length-take}
 use Rattle.std.proofs.lemmas.List.Elements.{All-nil, All-cons, All-push, All-head, All-tail}
 use Rattle.httparse.specs.Grammar.{RequestHead}
 use Rattle.http_read.specs.declared.request.Limits.{Limits}
@@ -53,7 +53,7 @@ split_lines (b ∷ bytes) = by_feed (cases_Bool (b == 10)) (split_lines bytes)
       last = s.last;
       each = All-cons IsHeadLine [] s.lines no_bytes s.each;
       last_line = s.last_line;
-      bytes_are = (λ i. eqb-true b 10 feed i ∷ bytes) ∙ ap (λ t. 10 ∷ t) s.bytes_are;
+      bytes_are = ap (λ c. c ∷ bytes) (eqb-true b 10 feed) ∙ ap (λ t. 10 ∷ t) s.bytes_are;
     }
     by_feed (inr no_feed) s = onto no_feed s.lines s.last s.each s.last_line s.bytes_are
 
@@ -82,14 +82,15 @@ some_len : (line : List ℕ) → (line_len line ≡ 0 → ⊥) → 0 < line_len 
 some_len line filled = omega arith
 
 -- behind the first line
-read_fields : (limits : Limits) (read fields lines : List (List ℕ)) (last : List ℕ) → AreHeadLines limits read fields → All IsHeadLine lines → IsHeadLine last
+read_fields : (lines : List (List ℕ)) (limits : Limits) (read fields : List (List ℕ)) (last : List ℕ) → AreHeadLines limits read fields → All IsHeadLine lines → IsHeadLine last
     → Reading limits (print_lines read ++ (print_lines lines ++ last))
-read_fields limits read fields [] last h each last_line =
+read_fields [] limits read fields last h each last_line =
     inr (inl (inr (record { lines = read; fields = fields; front = last; head_lines = h; front_line = last_line; bytes_are = refl })))
-read_fields limits read fields (line ∷ lines) last h each last_line = by_len (cases_eq (line_len line) 0)
+read_fields (line ∷ lines) limits read fields last h each last_line = by_len (read_fields lines limits) (cases_eq (line_len line) 0)
   where
-    by_len : (line_len line ≡ 0) ⊎ (line_len line ≡ 0 → ⊥) → Reading limits (print_lines read ++ (print_lines (line ∷ lines) ++ last))
-    by_len (inl empty) =
+    by_len : ((more names : List (List ℕ)) (end : List ℕ) → AreHeadLines limits more names → All IsHeadLine lines → IsHeadLine end → Reading limits (print_lines more ++ (print_lines lines ++ end)))
+        → (line_len line ≡ 0) ⊎ (line_len line ≡ 0 → ⊥) → Reading limits (print_lines read ++ (print_lines (line ∷ lines) ++ last))
+    by_len further (inl empty) =
         let text : List ℕ = print_lines read ++ (line ++ 10 ∷ []) in
         let behind : List ℕ = print_lines lines ++ last in
         let split : print_lines read ++ (print_lines (line ∷ lines) ++ last) ≡ text ++ behind =
@@ -109,7 +110,7 @@ read_fields limits read fields (line ∷ lines) last h each last_line = by_len (
             text_is = front;
           };
         }))
-    by_len (inr filled) =
+    by_len further (inr filled) =
         let more : AreHeadLines limits (read ++ line ∷ []) (fields ++ line ∷ []) = record {
           blank = h.blank;
           first = h.first;
@@ -120,17 +121,17 @@ read_fields limits read fields (line ∷ lines) last h each last_line = by_len (
           lines_are = ap (λ ls. ls ++ line ∷ []) h.lines_are ∙ append_assoc h.blank (h.first ∷ fields) (line ∷ []);
         } in
         subst (Reading limits) (one_more read line lines last)
-        (read_fields limits (read ++ line ∷ []) (fields ++ line ∷ []) lines last more (All-tail IsHeadLine line lines each) last_line)
+        (further (read ++ line ∷ []) (fields ++ line ∷ []) last more (All-tail IsHeadLine line lines each) last_line)
 
 -- before it
-read_first : (limits : Limits) (blank lines : List (List ℕ)) (last : List ℕ) → All IsEmptyLine blank → All IsHeadLine lines → IsHeadLine last
+read_first : (lines : List (List ℕ)) (limits : Limits) (blank : List (List ℕ)) (last : List ℕ) → All IsEmptyLine blank → All IsHeadLine lines → IsHeadLine last
     → Reading limits (print_lines blank ++ (print_lines lines ++ last))
-read_first limits blank [] last empty each last_line = by_limit (cases_lt (length last) (limits.line + 2))
+read_first [] limits blank last empty each last_line = by_limit (cases_lt (length last) (limits.line + 2))
   where
     by_limit : (length last < limits.line + 2) ⊎ (limits.line + 2 ≤ length last) → Reading limits (print_lines blank ++ last)
     by_limit (inl short) = inr (inl (inl (record { blank = blank; front = last; blank_lines = empty; front_line = last_line; short = short; bytes_are = refl })))
     by_limit (inr long) = inl (inr (record { blank = blank; front = last; blank_lines = empty; front_line = last_line; long = long; bytes_are = refl }))
-read_first limits blank (line ∷ lines) last empty each last_line = by_len (cases_eq (line_len line) 0)
+read_first (line ∷ lines) limits blank last empty each last_line = by_len (read_first lines limits) (cases_eq (line_len line) 0)
   where
     is_line : IsHeadLine line
     is_line = All-head IsHeadLine line lines each
@@ -156,18 +157,19 @@ read_first limits blank (line ∷ lines) last empty each last_line = by_len (cas
           lines_are = refl;
         } in
         subst (Reading limits) (one_more blank line lines last)
-        (read_fields limits (blank ++ line ∷ []) [] lines last head (All-tail IsHeadLine line lines each) last_line)
+        (read_fields lines limits (blank ++ line ∷ []) [] last head (All-tail IsHeadLine line lines each) last_line)
 
-    by_len : (line_len line ≡ 0) ⊎ (line_len line ≡ 0 → ⊥) → Reading limits (print_lines blank ++ (print_lines (line ∷ lines) ++ last))
-    by_len (inl none) =
+    by_len : ((more : List (List ℕ)) (end : List ℕ) → All IsEmptyLine more → All IsHeadLine lines → IsHeadLine end → Reading limits (print_lines more ++ (print_lines lines ++ end)))
+        → (line_len line ≡ 0) ⊎ (line_len line ≡ 0 → ⊥) → Reading limits (print_lines blank ++ (print_lines (line ∷ lines) ++ last))
+    by_len further (inl none) =
         subst (Reading limits) (one_more blank line lines last)
-        (read_first limits (blank ++ line ∷ []) lines last (All-push IsEmptyLine blank line empty (record { is_line = is_line; empty = none })) (All-tail IsHeadLine line lines each) last_line)
-    by_len (inr filled) = by_limit (some_len line filled) (cases_lt limits.line (line_len line))
+        (further (blank ++ line ∷ []) last (All-push IsEmptyLine blank line empty (record { is_line = is_line; empty = none })) (All-tail IsHeadLine line lines each) last_line)
+    by_len further (inr filled) = by_limit (some_len line filled) (cases_lt limits.line (line_len line))
 
 reading_of : (limits : Limits) (bytes : List ℕ) → Reading limits bytes
 reading_of limits bytes =
     let s = split_lines bytes in
-    subst (Reading limits) (sym s.bytes_are) (read_first limits [] s.lines s.last (All-nil IsEmptyLine) s.each s.last_line)
+    subst (Reading limits) (sym s.bytes_are) (read_first s.lines limits [] s.last (All-nil IsEmptyLine) s.each s.last_line)
 
 -- ## Some answer
 

@@ -1,5 +1,5 @@
 -- Bytes have a list of items: requests, read one behind the other, and what is left behind them.
-use Rattle.std.proofs.Common.{◌≡◌, ℕ, zero, suc, ◌+◌, ◌<◌, ◌≤◌, inl, inr, Bool, false, List, [], ◌∷◌, ◌++◌, length, take, drop, refl, sym, ap, ◌∙◌, arith}
+use Rattle.std.proofs.Common.{◌≡◌, ℕ, zero, suc, ◌+◌, ◌<◌, inl, inr, false, List, [], ◌∷◌, ◌++◌, length, drop, refl, ap, arith}
 use Rattle.std.specs.Prelude.{Option, Some, None}
 use Rattle.std.proofs.lemmas.List.{length-append, length-drop, length-take-le}
 use Rattle.http_read.specs.declared.request.Limits.{Limits}
@@ -45,39 +45,39 @@ items_within : (n : ℕ) (limits : Limits) (bytes : List ℕ) → length bytes <
 items_within zero limits bytes few = absurd (omega arith)
 items_within (suc n) limits bytes few =
     let some = some_answer limits bytes in
-    by_answer some.given some.is some.known
+    by_answer (items_within n limits) some.given some.is some.known
   where
-    by_form : (request : RequestParts) (head_len : ℕ) → BeginsHead limits bytes request head_len → (form : BodyForm) → HasForm request.body (drop head_len bytes) form → SomeItems limits bytes
-    by_form request head_len head (WholeBody m) body =
+    by_form : ((behind : List ℕ) → length behind < n → SomeItems limits behind) → (request : RequestParts) (head_len : ℕ) → BeginsHead limits bytes request head_len → (form : BodyForm) → HasForm request.body (drop head_len bytes) form → SomeItems limits bytes
+    by_form further request head_len head (WholeBody m) body =
         let size : ℕ = head_len + m in
         let fewer : length (drop size bytes) < n = omega (arith, few, length-drop size bytes, head.ends.within, some_bytes limits bytes request head_len head) in
         in_front limits bytes request size (record { head_len = head_len; body_len = m; head = head; body = body; size_is = refl })
-        (items_within n limits (drop size bytes) fewer)
-    by_form request head_len head (BodyFront line) front = record {
+        (further (drop size bytes) fewer)
+    by_form further request head_len head (BodyFront line) front = record {
       requests = [];
       refusal = None;
       rest = bytes;
       are = record { spelled = refl; left = inr (record { request = request; head_len = head_len; line = line; head = head; front = front }) };
     }
-    by_form request head_len head (BrokenBody code) broken = record {
+    by_form further request head_len head (BrokenBody code) broken = record {
       requests = [];
       refusal = Some (record { code = code; expected = request.expects });
       rest = bytes;
       are = record { spelled = refl; left = inr (record { request = request; head_len = head_len; head = head; broken = broken; expected_is = refl }) };
     }
 
-    by_answer : (given : HeadAnswer) → HeadIs limits bytes given → (given ≡ answer.NoMemory → ⊥) → SomeItems limits bytes
-    by_answer (answer.Whole request head_len) head known =
+    by_answer : ((behind : List ℕ) → length behind < n → SomeItems limits behind) → (given : HeadAnswer) → HeadIs limits bytes given → (given ≡ answer.NoMemory → ⊥) → SomeItems limits bytes
+    by_answer further (answer.Whole request head_len) head known =
         let form = some_form request.body (drop head_len bytes) in
-        by_form request head_len head form.0 form.1
-    by_answer answer.More front known = record { requests = []; refusal = None; rest = bytes; are = record { spelled = refl; left = inl front } }
-    by_answer (answer.Refused code) refused known = record {
+        by_form further request head_len head form.0 form.1
+    by_answer further answer.More front known = record { requests = []; refusal = None; rest = bytes; are = record { spelled = refl; left = inl front } }
+    by_answer further (answer.Refused code) refused known = record {
       requests = [];
       refusal = Some (record { code = code; expected = false });
       rest = bytes;
       are = record { spelled = refl; left = inl (refused, refl) };
     }
-    by_answer answer.NoMemory any known = absurd (known refl)
+    by_answer further answer.NoMemory any known = absurd (known refl)
 
 pub some_items : (limits : Limits) (bytes : List ℕ) → SomeItems limits bytes
 some_items limits bytes = items_within (length bytes + 1) limits bytes (omega arith)

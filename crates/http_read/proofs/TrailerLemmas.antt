@@ -1,11 +1,11 @@
 -- What the bytes of a line behind the last chunk make of it is what the grammar says of the line.
-use Rattle.std.proofs.Common.{◌≡◌, ◌≢◌, ℕ, ◌+◌, ◌<◌, ◌≤◌, ◌⊎◌, inl, inr, Bool, true, false, List, [], ◌∷◌, ◌++◌, length, take, refl, sym, ap, ◌∙◌, subst, arith, append_assoc, length-append}
+use Rattle.std.proofs.Common.{◌≡◌, ◌≢◌, ℕ, ◌+◌, ◌<◌, ◌≤◌, ◌⊎◌, inl, inr, true, false, List, [], ◌∷◌, ◌++◌, length, refl, sym, ap, ◌∙◌, subst, arith, append_assoc, length-append}
 use Rattle.std.specs.Prelude.{All, if◌then◌else◌, ◌==◌, ◌&&◌, nat_lt}
 use Rattle.std.proofs.lemmas.Bool.{both_ways, false≢true}
 use Rattle.std.proofs.lemmas.Bool.Decides.{nat_tests}
 use Rattle.std.proofs.lemmas.List.{append-nil, take_all, same_from_push}
 use Rattle.std.proofs.lemmas.List.Elements.{All-nil, All-cons, All-push, All-append, All-head, All-tail, All-weaker}
-use Rattle.httparse.specs.Grammar.{AllPass, is_token_byte, is_value_byte, IsToken, LineEnd, crlf, lf, print_end, Field, print_field, IsField}
+use Rattle.httparse.specs.Grammar.{AllPass, is_token_byte, is_value_byte, LineEnd, crlf, lf, print_end, Field, print_field, IsField}
 use Rattle.httparse.specs.Pieces.{Stops}
 use Rattle.httparse.proofs.RunLemmas.{run_unique}
 use Rattle.httparse.proofs.PieceLemmas.{colon_ends_token}
@@ -53,7 +53,7 @@ unfolding is_token_byte
 not_token_lf = refl
 
 other_than_token : (v b : ℕ) → is_token_byte v ≡ false → is_token_byte b ≡ true → b ≢ v
-other_than_token v b no token e = both_ways (is_token_byte v) no (subst (λ c. is_token_byte c ≡ true) e token)
+other_than_token v b fails token e = both_ways (is_token_byte v) fails (subst (λ c. is_token_byte c ≡ true) e token)
 
 value_is_no_feed : (b : ℕ) → is_value_byte b ≡ true → b ≢ 10
 value_is_no_feed b passes e =
@@ -135,6 +135,10 @@ TrailerMeans t Broken = IsTrailerTooLong t ⊎ HasNoTrailer t
 behind_byte : (s : List ℕ) (b : ℕ) (more : List ℕ) → (s ++ b ∷ []) ++ more ≡ s ++ b ∷ more
 behind_byte s b more = append_assoc s (b ∷ []) more
 
+no_bytes : (xs : List ℕ) → length xs ≡ 0 → xs ≡ []
+no_bytes [] e = refl
+no_bytes (x ∷ xs) e = absurd (omega arith)
+
 some_bytes : (s : List ℕ) (b : ℕ) → s ++ b ∷ [] ≢ []
 some_bytes s b e = absurd (omega (arith, ap length e, length-append s (b ∷ [])))
 
@@ -169,7 +173,7 @@ no_end_of b rest lf no_lf no_cr same = no_lf (cc)
 
 no_end_behind_cr : (b : ℕ) (rest : List ℕ) (e : LineEnd) → b ≢ 10 → 13 ∷ b ∷ rest ≡ print_end e → ⊥
 no_end_behind_cr b rest crlf no_lf same = no_lf (cc)
-no_end_behind_cr b rest lf no_lf same = let wrong : 13 ≡ 10 = cc in absurd (omega arith)
+no_end_behind_cr b rest lf no_lf same = let wrong : ◌≡◌ {A = ℕ} 13 10 = cc in absurd (omega arith)
 
 module _ (s : List ℕ) (b : ℕ) (no_lf : b ≢ 10) where
   -- no name can come of a name, or of nothing, and this byte
@@ -196,10 +200,6 @@ module _ (s : List ℕ) (b : ℕ) (no_lf : b ≢ 10) where
       let none : length s ≡ 0 = grind (arith, nat_tests) in
       ap (λ t. t ++ b ∷ []) (no_bytes s none) ∙ ap (λ c. c ∷ []) is)
       (λ no_cr. no_name each no_token (λ some. grind (arith, nat_tests)) (λ none. grind (arith, nat_tests)))))
-    where
-      no_bytes : (xs : List ℕ) → length xs ≡ 0 → xs ≡ []
-      no_bytes [] e = refl
-      no_bytes (x ∷ xs) e = absurd (omega arith)
 
   value_goes : IsFieldBefore s [] → EndsInTrailerPart (trailer_part Value (length s) b) (s ++ b ∷ [])
   value_goes h =
@@ -284,12 +284,18 @@ no_empty s crlf some no_cr same = no_cr (before_end s crlf same)
 no_empty s lf some no_cr same = some (before_end s lf same)
 
 name_ends : (s : List ℕ) → IsTrailerBegun s → AllPass is_token_byte s → TrailerMeans (s ++ 10 ∷ []) (trailer_end Name (length s))
-name_ends [] begun each = (lf, refl)
-name_ends (b ∷ s) begun each =
-    no_trailer (b ∷ s) begun
-    (λ f is e. let colon : 10 ≡ 58 = let first = (name_first f (b ∷ s) 10 [] is each not_token_lf e).1 in cc in absurd (omega arith))
-    (λ e same. no_empty (b ∷ s) e (λ none. absurd (omega (arith, ap length none)))
-    (λ cr. let is : b ≡ 13 = cc in other_than_token 13 b not_token_cr (All-head (λ c. is_token_byte c ≡ true) b s each) is) same)
+name_ends s begun each =
+    on_test (TrailerMeans (s ++ 10 ∷ [])) (length s == 0) _ _
+    (λ none. (lf, ap (λ t. t ++ 10 ∷ []) (no_bytes s (grind (arith, nat_tests)))))
+    (λ some. let filled : length s ≢ 0 = grind (arith, nat_tests) in
+    no_trailer s begun
+    (λ f is e. let first = (name_first f s 10 [] is each not_token_lf e).1 in
+    let colon : ◌≡◌ {A = ℕ} 10 58 = cc in absurd (omega arith))
+    (λ e same. no_empty s e (λ none. filled (ap length none)) (λ cr. cr_token cr each) same))
+  where
+    cr_token : s ≡ 13 ∷ [] → AllPass is_token_byte s → ⊥
+    cr_token cr passes =
+        both_ways (is_token_byte 13) not_token_cr (All-head (λ c. is_token_byte c ≡ true) 13 [] (subst (AllPass is_token_byte) cr passes))
 
 part_ends : (part : TrailerPart) (s : List ℕ) → IsTrailerBegun s → EndsInTrailerPart part s → TrailerMeans (s ++ 10 ∷ []) (trailer_end part (length s))
 part_ends Name s begun h = name_ends s begun h

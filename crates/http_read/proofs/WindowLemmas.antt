@@ -36,7 +36,7 @@ too_large_says limits other bytes m e is h =
     let large : IsTooLarge limits bytes = record { some = omega (arith, full.some, length-take 65537 bytes); unended = full.unended } in
     inr (inl (large, refl))
 
-ends_at : (limits : Limits) (bytes : List ℕ) (n : ℕ) (noted : Noted) (h : EndsIn limits (head_window bytes) n noted) → EndsAt limits bytes n h.fields
+abbrev ends_at : (limits : Limits) (bytes : List ℕ) (n : ℕ) (noted : Noted) (h : EndsIn limits (head_window bytes) n noted) → EndsAt limits bytes n h.fields
 ends_at limits bytes n noted h = record {
   within = omega (arith, h.within, length-take 65537 bytes);
   fits = h.fits;

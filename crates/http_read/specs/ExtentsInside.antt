@@ -1,5 +1,5 @@
 -- What a reader of heads finds in the bytes that it looks at: at most one more than a head may have.
-use Rattle.std.specs.Prelude.{◌≡◌, ℕ, ◌+◌, ◌-◌, ◌<◌, ◌≤◌, ◌⊎◌, Bool, true, false, ◌||◌, List, ◌∷◌, ◌++◌, take, drop, length, nat_lt, Option, Some, None}
+use Rattle.std.specs.Prelude.{◌≡◌, ℕ, ◌+◌, ◌-◌, ◌<◌, ◌≤◌, ◌⊎◌, true, false, ◌||◌, List, ◌∷◌, ◌++◌, take, drop, length, nat_lt, Option, Some, None}
 use Rattle.http_read.specs.declared.request.Limits.{Limits}
 use Rattle.http_read.specs.declared.head_reader.HeadReader.{HeadReader}
 use Rattle.http_read.specs.declared.head_reader.Extent.{Extent}

@@ -1,5 +1,5 @@
 //! A chunk line (RFC 9112, section 7.1), byte by byte: each byte is looked at once.
-ghost use Rattle.std.specs.Prelude.{◌≡◌, ◌+◌, ◌<◌};
+ghost use Rattle.std.specs.Prelude.{◌≡◌, ◌+◌, ◌<◌, ◌≤◌};
 ghost use Rattle.http_read.specs.ChunkStepsInside.{first_front, line_step, digit_step, pad_step, extension_step, longer, IsSmallLineMove};
 ghost use Rattle.http_read.specs.BodyPlacesInside.{IsSmallFront, IsSmallSize};
 ghost use Rattle.http_read.specs.Sizes.{greatest_chunk_line};
