@@ -159,7 +159,7 @@ in_trailer t count f h = record {
 
 in_data : (t : List ℕ) (totals : ChunkTotals) (left : ℕ) → StandsInData t totals left → IsChunkedFront t []
 in_data t totals left h =
-    let filler = replicate left 0 in
+    let filler : List ℕ = replicate left 0 in
     let len : length (h.here ++ filler) ≡ length h.here + left = length-append h.here filler ∙ ap (λ n. length h.here + n) (length-replicate left 0) in
     let c : Chunk = record { line = h.line; content = h.here ++ filler } in
     let is_chunk : IsChunk c = record { line = h.is_line; size = omega (arith, len, h.size); some = omega (arith, len, h.size, h.some) } in
