@@ -111,6 +111,27 @@ fn options_of(found: Found) -> Served
     }
 }
 
+/// Whether the method is GET.
+fn is_get(method: &[u8]) -> bool
+    ensures { result ≡ is_get method.now }
+{
+    method == b"GET".as_slice()
+}
+
+/// Whether the method is HEAD.
+fn is_head(method: &[u8]) -> bool
+    ensures { result ≡ is_head method.now }
+{
+    method == b"HEAD".as_slice()
+}
+
+/// Whether the method is OPTIONS.
+fn is_options(method: &[u8]) -> bool
+    ensures { result ≡ is_options method.now }
+{
+    method == b"OPTIONS".as_slice()
+}
+
 /// Whether the method is known and not allowed.
 fn is_disallowed(method: &[u8]) -> bool
     ensures { result ≡ is_disallowed method.now }
@@ -155,20 +176,17 @@ fn served_to(alloc: Global, site: &Site, request: &Request) -> Result<Served, No
     ensures value { IfOk result (λ served. served ≡ served_to site.now request.now) }
     ensures of { IfOk result (IsServedOf site.now) }
 {
-    match request.method() {
-        b"GET" => served_at(alloc, site, request, true),
-        b"HEAD" => served_at(alloc, site, request, false),
-        b"OPTIONS" => serve_options(alloc, site, request.target()),
-        method if is_disallowed(method) => Ok(Served::Refused(Code::MethodNotAllowed)),
-        _ => Ok(Served::Refused(Code::NotImplemented)),
+    let method = request.method();
+    let get = is_get(method);
+    if get || is_head(method) {
+        served_at(alloc, site, request, get)
+    } else if is_options(method) {
+        serve_options(alloc, site, request.target())
+    } else if is_disallowed(method) {
+        Ok(Served::Refused(Code::MethodNotAllowed))
+    } else {
+        Ok(Served::Refused(Code::NotImplemented))
     }
-}
-
-/// Whether the method is HEAD.
-fn is_head(method: &[u8]) -> bool
-    ensures { result ≡ is_head method.now }
-{
-    matches!(method, b"HEAD")
 }
 
 /// What a request asks for, and the plan of its response. NoMemory where memory lacks for its path.
