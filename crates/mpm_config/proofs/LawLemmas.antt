@@ -44,6 +44,7 @@ replaced s v w (sets.Listen a) (sets.Listen b) h = refl
 replaced s v w (sets.ControlListen p) (sets.ControlListen q) h = refl
 replaced s v w sets.DocumentRoot sets.DocumentRoot h = refl
 replaced s v w sets.DirectoryIndex sets.DirectoryIndex h = refl
+replaced s v w (sets.ServerStatus b) (sets.ServerStatus c) h = refl
 replaced s v w sets.ServerName sets.ServerName h = refl
 replaced s v w a b h = absurd h
 

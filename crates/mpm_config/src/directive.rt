@@ -36,6 +36,7 @@ pub enum Directive {
     ControlListen,
     DocumentRoot,
     DirectoryIndex,
+    ServerStatus,
     ServerName,
 }
 
@@ -47,7 +48,7 @@ pub struct Spelling {
 }
 
 /// Every name of the language, the first spelling of a directive before the others.
-pub const SPELLINGS: [Spelling; 24] = [
+pub const SPELLINGS: [Spelling; 25] = [
     Spelling {
         name: "ServerLimit",
         directive: Directive::Number(Quantity::ServerLimit),
@@ -139,6 +140,10 @@ pub const SPELLINGS: [Spelling; 24] = [
     Spelling {
         name: "DirectoryIndex",
         directive: Directive::DirectoryIndex,
+    },
+    Spelling {
+        name: "ServerStatus",
+        directive: Directive::ServerStatus,
     },
     Spelling {
         name: "ServerName",
