@@ -20,6 +20,7 @@ impl Row {
               place = Held;
               from = None;
               deadline = self.old.deadline;
+              began = None;
               mid = false;
               last = false;
               short = false;
@@ -32,6 +33,7 @@ impl Row {
         self.generation = generation;
         self.place = Place::Held;
         self.from = None;
+        self.began = None;
         self.mid = false;
         self.last = false;
         self.short = false;
@@ -39,19 +41,21 @@ impl Row {
         self.notes.clear();
     }
 
-    /// It waits for this until the deadline.
-    pub fn park(&mut self, kind: Kind, deadline: Moment)
+    /// It waits for this until the deadline, and has waited for its request since then.
+    pub fn park(&mut self, kind: Kind, deadline: Moment, began: Option<Moment>)
         ensures { self.new
             ≡ record self.old {
               place = Parked kind;
               from = Some kind;
               deadline = deadline;
+              began = began;
               mid = mid_after kind self.old;
             } }
     {
         self.place = Place::Parked(kind);
         self.from = Some(kind);
         self.deadline = deadline;
+        self.began = began;
         self.mid = match kind {
             Kind::Reading | Kind::KeepAlive => false,
             Kind::Writing | Kind::Linger | Kind::ShortLinger => self.mid,
@@ -123,6 +127,7 @@ impl Row {
     {
         self.notes.add(note);
         self.go_on(phase_after(note.last));
+        self.began = None;
         self.mid = true;
         self.last = note.last;
         self.short = short;

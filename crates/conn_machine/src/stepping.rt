@@ -9,8 +9,8 @@ ghost use Rattle.conn_machine.specs.declared.event.Reply.TheVariants.{Done, Cell
 
 use crate::event::{Commanded, Event, Reply};
 use crate::row::{Phase, Row};
-use crate::state::{Going, State};
-use mpm_base::{Ask, Cause, ConnName, Kind, Moment, NoMemory};
+use crate::state::{Going, State, later};
+use mpm_base::{Ask, Cause, ConnName, Kind, Moment, NoMemory, Shape};
 use std::alloc::Global;
 
 /// Does what the event table says of the event, and gives its reply. Only a response that is the status page
@@ -69,12 +69,42 @@ fn accept(state: &mut State, slot: u32) -> Reply
     Reply::Took(ConnName { slot, life }, child, generation)
 }
 
+/// Since when the row has waited for its request, where it waits for the rest of it from now on.
+fn began_at(state: &State, row: &Row) -> Moment
+    ensures { result ≡ table.began_at state.now.moment row.now }
+{
+    row.began.unwrap_or(state.moment)
+}
+
+/// Since when the row has waited for its request, where it waits for this from now on.
+fn began_after(state: &State, kind: Kind, row: &Row) -> Option<Moment>
+    ensures { result ≡ table.began_after state.now.moment kind row.now }
+{
+    match kind {
+        Kind::Reading => Some(began_at(state, row)),
+        Kind::KeepAlive | Kind::Writing | Kind::Linger | Kind::ShortLinger => row.began,
+    }
+}
+
+/// Until when the rest of a request is waited for, which has been waited for since then.
+fn read_until(state: &State, shape: &Shape, began: Moment) -> Moment
+    ensures { result ≡ table.read_until state.now.moment shape.now began }
+{
+    let rest = state.later(shape.read_ms);
+    if shape.whole_ms == 0 {
+        rest
+    } else {
+        rest.min(later(began, shape.whole_ms))
+    }
+}
+
 /// When the wait of the row for this is over.
 fn wait_until(state: &State, kind: Kind, row: &Row) -> Moment
     ensures { result ≡ table.wait_until state.now kind row.now }
 {
     match kind {
-        Kind::Reading | Kind::Writing => state.later(state.child_of(row).shape.read_ms),
+        Kind::Reading => read_until(state, &state.child_of(row).shape, began_at(state, row)),
+        Kind::Writing => state.later(state.child_of(row).shape.read_ms),
         Kind::KeepAlive => state.later(state.child_of(row).shape.keep_ms),
         Kind::Linger | Kind::ShortLinger => row.deadline,
     }
@@ -90,7 +120,8 @@ fn park(state: &mut State, name: ConnName, kind: Kind) -> Reply
         unreachable!()
     };
     let deadline = wait_until(state, kind, row);
-    state.rows.park(name.slot, kind, deadline);
+    let began = began_after(state, kind, row);
+    state.rows.park(name.slot, kind, deadline, began);
     Reply::Done
 }
 

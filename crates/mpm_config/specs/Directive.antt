@@ -18,6 +18,7 @@ quantity_name number.MaxRequestWorkers = codes "MaxRequestWorkers"
 quantity_name number.MaxConnectionsPerChild = codes "MaxConnectionsPerChild"
 quantity_name number.AsyncRequestWorkerFactor = codes "AsyncRequestWorkerFactor"
 quantity_name number.Timeout = codes "Timeout"
+quantity_name number.RequestReadTimeout = codes "RequestReadTimeout"
 quantity_name number.KeepAliveTimeout = codes "KeepAliveTimeout"
 quantity_name number.MaxKeepAliveRequests = codes "MaxKeepAliveRequests"
 quantity_name number.GracefulShutdownTimeout = codes "GracefulShutdownTimeout"
@@ -49,6 +50,7 @@ names =
     record { text = codes "MaxRequestsPerChild"; directive = Number number.MaxConnectionsPerChild } ∷
     first_name number.AsyncRequestWorkerFactor ∷
     first_name number.Timeout ∷
+    first_name number.RequestReadTimeout ∷
     record { text = codes "KeepAlive"; directive = KeepAlive } ∷
     first_name number.KeepAliveTimeout ∷
     first_name number.MaxKeepAliveRequests ∷

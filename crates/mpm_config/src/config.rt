@@ -82,6 +82,7 @@ fn shape_by(now: &Numbers) -> Shape
         most: now.most,
         target: now.start_servers,
         children: now.max_workers / now.threads,
+        whole_ms: now.whole_ms,
     }
 }
 

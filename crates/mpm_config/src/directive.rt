@@ -19,6 +19,7 @@ pub enum Quantity {
     MaxConnectionsPerChild,
     AsyncRequestWorkerFactor,
     Timeout,
+    RequestReadTimeout,
     KeepAliveTimeout,
     MaxKeepAliveRequests,
     GracefulShutdownTimeout,
@@ -48,7 +49,7 @@ pub struct Spelling {
 }
 
 /// Every name of the language, the first spelling of a directive before the others.
-pub const SPELLINGS: [Spelling; 25] = [
+pub const SPELLINGS: [Spelling; 26] = [
     Spelling {
         name: "ServerLimit",
         directive: Directive::Number(Quantity::ServerLimit),
@@ -96,6 +97,10 @@ pub const SPELLINGS: [Spelling; 25] = [
     Spelling {
         name: "Timeout",
         directive: Directive::Number(Quantity::Timeout),
+    },
+    Spelling {
+        name: "RequestReadTimeout",
+        directive: Directive::Number(Quantity::RequestReadTimeout),
     },
     Spelling {
         name: "KeepAlive",
@@ -194,6 +199,7 @@ impl Quantity {
             Quantity::MaxConnectionsPerChild => "MaxConnectionsPerChild",
             Quantity::AsyncRequestWorkerFactor => "AsyncRequestWorkerFactor",
             Quantity::Timeout => "Timeout",
+            Quantity::RequestReadTimeout => "RequestReadTimeout",
             Quantity::KeepAliveTimeout => "KeepAliveTimeout",
             Quantity::MaxKeepAliveRequests => "MaxKeepAliveRequests",
             Quantity::GracefulShutdownTimeout => "GracefulShutdownTimeout",
