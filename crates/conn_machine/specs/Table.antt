@@ -1,6 +1,6 @@
 -- The event table: which events a state allows, and what each does and replies. Where nothing else is said, all else
 -- stays and the reply is Done. An event that names a connection needs its row live with that life.
-use Rattle.std.specs.Prelude.{◌==◌, ℕ, ◌+◌, ◌/◌, Bool, true, false, not, ◌&&◌, ◌||◌, List, [], ◌∷◌, ◌++◌, length, nat_lt, nat_le, min, if◌then◌else◌, Option, None, Some, is_some, is_none, slice_get, slice_set}
+use Rattle.std.specs.Prelude.{◌==◌, ℕ, ◌+◌, ◌/◌, Bool, true, false, not, ◌&&◌, ◌||◌, List, [], ◌∷◌, ◌++◌, length, nat_lt, nat_le, min, if◌then◌else◌, Option, None, Some, is_some, is_none, option_map, slice_get, slice_set}
 use Rattle.std.specs.Option.{option_map_or, unwrap_or}
 use Rattle.std.specs.List.{list_any}
 use Rattle.mpm_base.specs.Cause.{cause_number}
@@ -556,6 +556,11 @@ reply s (event.Tick m) = Done
 reply s (event.StartChild k) = Done
 reply s (event.Command c) = Done
 reply s (event.Retire k) = Done
+
+-- the note of the response that the event decides, where it decides one
+abbrev pub note_made : State → Event → Option Note
+note_made s (event.Answer name ask) = option_map (note_for s name.slot ask) (slice_get s.rows name.slot)
+note_made s other = None
 
 -- doing the event may take memory: a response is noted that is the status page
 abbrev pub takes_memory : Event → Bool

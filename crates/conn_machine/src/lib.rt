@@ -36,4 +36,4 @@ pub use row::{Owner, Phase, Place, Row};
 pub use row_notes::RowNotes;
 pub use rows::Rows;
 pub use state::{Going, Signals, State};
-pub use stepping::step;
+pub use stepping::{Stepped, step, step_and_note};

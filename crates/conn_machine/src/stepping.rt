@@ -1,5 +1,5 @@
 //! What each event does, and replies: the event table's effects as a plain program.
-ghost use Rattle.std.specs.Prelude.{◌≡◌, ◌≤◌, ◌<◌, true, false, length, IsOk, IfOk, OnOk, OnErr};
+ghost use Rattle.std.specs.Prelude.{◌≡◌, ◌≤◌, ◌<◌, true, false, None, length, option_map, slice_get, IsOk, IfOk, OnOk, OnErr};
 ghost use Rattle.conn_machine.specs.Rows as rows;
 ghost use Rattle.conn_machine.specs.States as states;
 ghost use Rattle.conn_machine.specs.Table as table;
@@ -10,13 +10,30 @@ ghost use Rattle.conn_machine.specs.declared.event.Reply.TheVariants.{Done, Cell
 use crate::event::{Commanded, Event, Reply};
 use crate::row::{Phase, Row};
 use crate::state::{Going, State, later};
-use mpm_base::{Ask, Cause, ConnName, Kind, Moment, NoMemory, Shape};
+use mpm_base::{Ask, Cause, ConnName, Kind, Moment, NoMemory, Note, Shape};
 use std::alloc::Global;
+
+/// What a step replies, and the note of the response that it decided, where it decided one.
+#[derive(Debug, Drop)]
+pub struct Stepped {
+    /// The reply.
+    pub reply: Reply,
+    /// The note.
+    pub note: Option<Note>,
+}
+
+impl Stepped {
+    /// A reply alone.
+    fn of(reply: Reply) -> Stepped
+        ensures { result ≡ record { reply = reply; note = None } }
+    {
+        Stepped { reply, note: None }
+    }
+}
 
 /// Does what the event table says of the event, and gives its reply. Only a response that is the status page
 /// takes memory; where it lacks the state stays as it was. The state has at most 8,192 rows and 32 children, and as many
 /// signals as rows.
-#[tactic(auto, using(crate::proofs::SoundRuns::sound_step, crate::proofs::SizeLemmas::sizes_step, crate::proofs::SizeLemmas::sized_step))]
 pub fn step(alloc: Global, state: &mut State, event: &Event) -> Result<Reply, NoMemory>
     requires allowed { table.is_allowed state.old event.now ≡ true }
     requires few_rows { length state.old.rows ≤ 8192 }
@@ -30,20 +47,40 @@ pub fn step(alloc: Global, state: &mut State, event: &Event) -> Result<Reply, No
     ensures sizes { HasSizesOf state.old state.new }
     ensures sized { IsSized state.old → IsSized state.new }
 {
+    let stepped = step_and_note(alloc, state, event)?;
+    Ok(stepped.reply)
+}
+
+/// Does the same, and gives the note of the response that was decided too: so one that is the status page is made once.
+#[tactic(auto, using(crate::proofs::SoundRuns::sound_step, crate::proofs::SizeLemmas::sizes_step, crate::proofs::SizeLemmas::sized_step))]
+pub fn step_and_note(alloc: Global, state: &mut State, event: &Event) -> Result<Stepped, NoMemory>
+    requires allowed { table.is_allowed state.old event.now ≡ true }
+    requires few_rows { length state.old.rows ≤ 8192 }
+    requires few_children { length state.old.children ≤ 32 }
+    requires signals { length state.old.signals ≡ length state.old.rows }
+    ensures state { OnOk result (state.new ≡ table.next state.old event.now) }
+    ensures reply { IfOk result (λ stepped. stepped.reply ≡ table.reply state.old event.now) }
+    ensures note { IfOk result (λ stepped. stepped.note ≡ table.note_made state.old event.now) }
+    ensures err { OnErr result (state.new ≡ state.old) }
+    ensures sure { table.takes_memory event.now ≡ false → IsOk result }
+    ensures sound { IsSound state.old → IsSound state.new }
+    ensures sizes { HasSizesOf state.old state.new }
+    ensures sized { IsSized state.old → IsSized state.new }
+{
     match *event {
-        Event::Accept(slot) => Ok(accept(state, slot)),
-        Event::Park(name, kind) => Ok(park(state, name, kind)),
-        Event::Hold(name) => Ok(hold(state, name)),
-        Event::Queue(name) => Ok(queue(state, name)),
-        Event::Start(name) => Ok(start(state, name)),
+        Event::Accept(slot) => Ok(Stepped::of(accept(state, slot))),
+        Event::Park(name, kind) => Ok(Stepped::of(park(state, name, kind))),
+        Event::Hold(name) => Ok(Stepped::of(hold(state, name))),
+        Event::Queue(name) => Ok(Stepped::of(queue(state, name))),
+        Event::Start(name) => Ok(Stepped::of(start(state, name))),
         Event::Answer(name, ask) => answer(alloc, state, name, &ask),
-        Event::Linger(name, cause) => Ok(linger(state, name, cause)),
-        Event::Close(name, _, _) => Ok(close(state, name)),
-        Event::Ready(slot) => Ok(ready(state, slot)),
-        Event::Tick(moment) => Ok(tick(state, moment)),
-        Event::StartChild(child) => Ok(start_child(state, child)),
-        Event::Command(ref commanded) => Ok(command(state, commanded)),
-        Event::Retire(child) => Ok(retire(state, child)),
+        Event::Linger(name, cause) => Ok(Stepped::of(linger(state, name, cause))),
+        Event::Close(name, _, _) => Ok(Stepped::of(close(state, name))),
+        Event::Ready(slot) => Ok(Stepped::of(ready(state, slot))),
+        Event::Tick(moment) => Ok(Stepped::of(tick(state, moment))),
+        Event::StartChild(child) => Ok(Stepped::of(start_child(state, child))),
+        Event::Command(ref commanded) => Ok(Stepped::of(command(state, commanded))),
+        Event::Retire(child) => Ok(Stepped::of(retire(state, child))),
     }
 }
 
@@ -194,13 +231,16 @@ pub(crate) fn is_last_for(state: &State, ask: &Ask, row: &Row) -> bool
 }
 
 #[tactic(auto, using(crate::proofs::ListLemmas::update_as))]
-fn answer(alloc: Global, state: &mut State, name: ConnName, ask: &Ask) -> Result<Reply, NoMemory>
+fn answer(alloc: Global, state: &mut State, name: ConnName, ask: &Ask) -> Result<Stepped, NoMemory>
     requires may { table.may_answer state.old name ≡ true }
     requires few_rows { length state.old.rows ≤ 8192 }
     requires few_children { length state.old.children ≤ 32 }
     ensures state { OnOk result (state.new ≡ table.next_answer state.old name ask.now) }
     ensures reply { IfOk result
-        (λ answer. answer ≡ Noted (table.noted_at state.old name.slot ask.now)) }
+        (λ stepped. stepped.reply ≡ Noted (table.noted_at state.old name.slot ask.now)) }
+    ensures note { IfOk result (λ stepped. stepped.note
+        ≡ option_map (table.note_for state.old name.slot ask.now)
+        (slice_get state.old.rows name.slot)) }
     ensures err { OnErr result (state.new ≡ state.old) }
     ensures sure { ask.now.page ≡ false → IsOk result }
 {
@@ -209,7 +249,10 @@ fn answer(alloc: Global, state: &mut State, name: ConnName, ask: &Ask) -> Result
     };
     let note = state.note_for(alloc, name, ask)?;
     state.rows.answer(name.slot, &note, ask.refused);
-    Ok(Reply::Noted(note.last))
+    Ok(Stepped {
+        reply: Reply::Noted(note.last),
+        note: Some(note),
+    })
 }
 
 #[tactic(auto, using(crate::proofs::ListLemmas::update_as))]
