@@ -140,7 +140,10 @@ fn wait_until(state: &State, kind: Kind, row: &Row) -> Moment
     ensures { result ≡ table.wait_until state.now kind row.now }
 {
     match kind {
-        Kind::Reading => read_until(state, &state.child_of(row).shape, began_at(state, row)),
+        Kind::Reading => {
+            let shape = state.child_of(row).shape;
+            read_until(state, &shape, began_at(state, row))
+        }
         Kind::Writing => state.later(state.child_of(row).shape.read_ms),
         Kind::KeepAlive => state.later(state.child_of(row).shape.keep_ms),
         Kind::Linger | Kind::ShortLinger => row.deadline,

@@ -1,7 +1,7 @@
 use Rattle.std.proofs.Common.{◌≡◌, List, ◌∷◌, [], ◌+◌, ◌<◌, ◌≤◌, ◌^◌, true, false, length, vec_capacity, subst, sym, refl, ◌∙◌, ap, rules, arith}
 use Rattle.conn_machine.specs.States.{is_halted}
 use Rattle.conn_machine.specs.declared.state.State.{State}
-use Rattle.conn_machine.specs.Table.{is_allowed, reply}
+use Rattle.conn_machine.specs.Table.{is_allowed, note_made, reply}
 use Rattle.conn_machine.specs.declared.event.Entry.{Entry}
 use Rattle.conn_machine.specs.Events.{count_events, is_order}
 use Rattle.conn_machine.specs.Runs.{Adds, after}
@@ -65,6 +65,10 @@ returns-clause-ok c =
 pub returns-clause-reply : goal.returns-clause-reply
 returns-clause-reply c =
     c.in-Ok.ensures.reply ∙ ap (λ (v : SeenBook). reply v.state c.args.event) c.self.view_is
+
+pub returns-clause-note : goal.returns-clause-note
+returns-clause-note c =
+    c.in-Ok.ensures.note ∙ ap (λ (v : SeenBook). note_made v.state c.args.event) c.self.view_is
 
 pub returns-clause-entries : goal.returns-clause-entries
 returns-clause-entries c =
