@@ -32,11 +32,11 @@ sent_count (sent.Put n) room f = f.0
 sent_count sent.NotReady room f = omega arith
 sent_count sent.Failed room f = omega arith
 
+given_by : (old : List ℕ) (x slot : ℕ) (there : Bool) → has_slot old slot ≡ true → has_slot (if there then old else old ++ x ∷ []) slot ≡ true
+given_by old x slot true has = has
+given_by old x slot false has = rw (has_more old x slot) (or_left (has_slot old slot) (x == slot) has)
+
 -- a slot that was given stays given
 pub given_stays : (old new : List ℕ) (x slot : ℕ) → new ≡ (if has_slot old x then old else old ++ x ∷ []) → has_slot old slot ≡ true
     → has_slot new slot ≡ true
 given_stays old new x slot is has = rw is (given_by old x slot (has_slot old x) has)
-
-given_by : (old : List ℕ) (x slot : ℕ) (there : Bool) → has_slot old slot ≡ true → has_slot (if there then old else old ++ x ∷ []) slot ≡ true
-given_by old x slot true has = has
-given_by old x slot false has = rw (has_more old x slot) (or_left (has_slot old slot) (x == slot) has)

@@ -65,14 +65,16 @@ impl Allowance {
 
     /// How many bytes the link may give where so many are asked for.
     pub(crate) fn may_give(&self, room: usize) -> usize
-        ensures { result ≡ min room (65536 - self.now.given) }
+        ensures is { result ≡ min room (65536 - self.now.given) }
+        ensures few { self.now.given + result ≤ 65536 }
     {
         room.min(MOST_GIVEN - self.given)
     }
 
     /// How many bytes the link may take where so many are offered.
     pub(crate) fn may_take(&self, size: usize) -> usize
-        ensures { result ≡ min size (1048576 - self.now.taken) }
+        ensures is { result ≡ min size (1048576 - self.now.taken) }
+        ensures few { self.now.taken + result ≤ 1048576 }
     {
         size.min(MOST_TAKEN - self.taken)
     }

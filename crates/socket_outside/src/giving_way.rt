@@ -1,5 +1,5 @@
 //! Which links gave way since the last wait: what a link tells the front of reads and writes that it put off.
-ghost use Rattle.std.specs.Prelude.{◌≡◌, ◌==◌, true};
+ghost use Rattle.std.specs.Prelude.{◌≡◌, ◌==◌, ◌≤◌, length, true};
 ghost use Rattle.std.specs.List.{IsDistinct};
 ghost use Rattle.socket_outside.specs.EventsInside.{has_slot};
 
@@ -78,7 +78,9 @@ impl GivenWay {
     /// next wait. It answers the group with which the next wait is to begin.
     pub(crate) fn give(&self, first: u32, ready: &mut Ready) -> u32
         requires distinct { IsDistinct (λ a b. a == b) ready.old }
+        requires few { length ready.old ≤ 256 }
         ensures distinct { IsDistinct (λ a b. a == b) ready.new }
+        ensures few { length ready.new ≤ 256 }
         ensures kept { (slot : _)
             → has_slot ready.old slot ≡ true
             → has_slot ready.new slot ≡ true }
@@ -95,7 +97,9 @@ impl GivenWay {
     /// Gives those of the groups of a span. It answers the group where no further slot fitted.
     fn give_groups(&self, first: u32, end: u32, ready: &mut Ready) -> Option<u32>
         requires distinct { IsDistinct (λ a b. a == b) ready.old }
+        requires few { length ready.old ≤ 256 }
         ensures distinct { IsDistinct (λ a b. a == b) ready.new }
+        ensures few { length ready.new ≤ 256 }
         ensures kept { (slot : _)
             → has_slot ready.old slot ≡ true
             → has_slot ready.new slot ≡ true }
@@ -128,7 +132,9 @@ impl GivenWay {
     /// Gives those of a group. Where not all fit, it answers false, and those that are left stay marked.
     fn give_group(&self, group: u32, ready: &mut Ready) -> bool
         requires distinct { IsDistinct (λ a b. a == b) ready.old }
+        requires few { length ready.old ≤ 256 }
         ensures distinct { IsDistinct (λ a b. a == b) ready.new }
+        ensures few { length ready.new ≤ 256 }
         ensures kept { (slot : _)
             → has_slot ready.old slot ≡ true
             → has_slot ready.new slot ≡ true }

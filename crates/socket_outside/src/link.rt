@@ -81,11 +81,11 @@ impl SocketLink {
         ensures counts { self.new.counters ≡ self.old.counters }
     {
         let most = self.allowance.may_give(buffer.len());
+        if most == 0 && self.socket.is_some() {
+            self.place.give_way();
+            return Got::NotReady;
+        }
         match &mut self.socket {
-            Some(_) if most == 0 => {
-                self.place.give_way();
-                Got::NotReady
-            }
             Some(socket) => read_some(socket, &mut buffer[..most]),
             None => Got::Failed,
         }
@@ -101,11 +101,11 @@ impl SocketLink {
         ensures place { self.new.place ≡ self.old.place }
     {
         let most = self.allowance.may_take(bytes.len());
+        if most == 0 && self.socket.is_some() {
+            self.place.give_way();
+            return Sent::NotReady;
+        }
         match &mut self.socket {
-            Some(_) if most == 0 => {
-                self.place.give_way();
-                Sent::NotReady
-            }
             Some(socket) => write_some(socket, &bytes[..most]),
             None => Sent::Failed,
         }
@@ -123,11 +123,11 @@ impl SocketLink {
     {
         let front = self.allowance.may_take(first.len());
         let most = self.allowance.may_take(first.len() + second.len());
+        if most == 0 && self.socket.is_some() {
+            self.place.give_way();
+            return Sent::NotReady;
+        }
         match &self.socket {
-            Some(_) if most == 0 => {
-                self.place.give_way();
-                Sent::NotReady
-            }
             Some(socket) => write_pair_some(socket, &first[..front], &second[..most - front]),
             None => Sent::Failed,
         }
