@@ -1,5 +1,5 @@
 -- What fits a part of a buffer or of a piece fits the whole of it.
-use Rattle.std.proofs.Common.{◌≡◌, ℕ, ◌==◌, ◌<◌, ◌≤◌, ◌||◌, true, false, Bool, if◌then◌else◌, List, [], ◌∷◌, ◌++◌, arith}
+use Rattle.std.proofs.Common.{◌≡◌, ℕ, ◌==◌, ◌<◌, ◌≤◌, true, false, Bool, if◌then◌else◌, List, [], ◌∷◌, ◌++◌, arith}
 use Rattle.mpm_base.specs.Link.{FitsBuffer, FitsPiece}
 use Rattle.mpm_base.specs.declared.link.Got.{Got}
 use Rattle.mpm_base.specs.declared.link.Got.TheVariants as got
