@@ -128,24 +128,19 @@ def a_call_that_is_interrupted_is_made_65_times_at_most():
 
 
 @outside_scene
-def a_wait_that_is_interrupted_is_made_65_times_at_most():
-    for count in (CALLS - 1, CALLS):
-        with serving_by() as (server, system), connect(server.port) as client:
+def a_wait_that_is_interrupted_goes_on_and_one_that_fails_ends_the_server():
+    with serving_by() as (server, system), connect(server.port) as client:
+        # The wait that stands comes back for a request, and those behind it are interrupted.
+        system.fail("epoll_wait", 1, errno.EINTR, 1_000)
+        for _ in range(2):
             client.send(GET)
             expect("a response", client.reply(), ANSWER)
-            system.fail("epoll_wait", 1, errno.EINTR, count)
-            # The wait that stands comes back for this, and those behind it are interrupted.
-            client.send(GET)
-            expect("a response", client.reply(), ANSWER)
-            if count < CALLS:
-                client.send(GET)
-                expect(f"the response behind {count} interrupted waits", client.reply(), ANSWER)
-                client.close()
-                server.stop()
-                server.expect_report("0 ClientDone Direct 200,200,200")
-            else:
-                client.expect_close()
-                server.expect_report("0 Stopped Direct 200,200", status=4)
+        expect("how many waits were interrupted", system.epoll_wait.failed, 1_000)
+        system.fail("epoll_wait", 1, errno.EBADF)
+        client.send(GET)
+        expect("the response of the wait before", client.reply(), ANSWER)
+        client.expect_close()
+        server.expect_report("0 Stopped Direct 200,200,200", status=4)
 
 
 @outside_scene
