@@ -10,6 +10,7 @@ import tempfile
 import time
 
 import real_server
+from edge_scenes import rests
 from outside import Outside
 from real_server import (
     ANSWER, CORRECTED, DEADLINE, GET, HOST, LAST_ANSWER, PAGE, SITE, WARNING, Wrong, configure, connect, end, expect, lay_out, request, response,
@@ -131,11 +132,13 @@ def a_call_that_is_interrupted_is_made_65_times_at_most():
 def a_wait_that_is_interrupted_goes_on_and_one_that_fails_ends_the_server():
     with serving_by() as (server, system), connect(server.port) as client:
         # The wait that stands comes back for a request, and those behind it are interrupted.
+        until("a server that stands in a wait", lambda: rests(server))
         system.fail("epoll_wait", 1, errno.EINTR, 1_000)
         for _ in range(2):
             client.send(GET)
             expect("a response", client.reply(), ANSWER)
         expect("how many waits were interrupted", system.epoll_wait.failed, 1_000)
+        until("a server that stands in a wait", lambda: rests(server))
         system.fail("epoll_wait", 1, errno.EBADF)
         client.send(GET)
         expect("the response of the wait before", client.reply(), ANSWER)
