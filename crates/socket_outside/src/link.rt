@@ -1,6 +1,6 @@
 //! A connection's way to its client over a socket.
 ghost use Rattle.std.specs.Prelude.{◌≡◌, ◌++◌, length, not, true, false, None};
-ghost use Rattle.mpm_base.specs.Link.{LinkSeen, OnlyFaults, Writes};
+ghost use Rattle.mpm_base.specs.Link.{Closes, LinkSeen, OnlyFaults, Reads, Shuts, Writes};
 ghost use Rattle.socket_outside.specs.Answers.{leaves_some};
 
 use crate::answers::{lacks_room, read_some, shut_for, write_pair_some, write_some};
@@ -68,7 +68,12 @@ impl Link for SocketLink {
     ghost seen = { λ l. record { told = None; counts = l.counters } };
 
     /// It answers Failed where the link was closed.
-    fn read(&mut self, buffer: &mut [u8]) -> Got {
+    fn read(&mut self, buffer: &mut [u8]) -> Got
+        ensures link { let old : LinkSeen = record { told = None; counts = self.old.counters } in
+            let new : LinkSeen = record { told = None; counts = self.new.counters } in
+            Reads old new result buffer.new }
+        ensures closed { self.old.socket ≡ None → result ≡ Got.Failed }
+    {
         let got = match &mut self.socket {
             Some(socket) => read_some(socket, buffer),
             None => Got::Failed,
@@ -82,6 +87,7 @@ impl Link for SocketLink {
         ensures link { let old : LinkSeen = record { told = None; counts = self.old.counters } in
             let new : LinkSeen = record { told = None; counts = self.new.counters } in
             Writes old new result bytes.now }
+        ensures closed { self.old.socket ≡ None → result ≡ Sent.Failed }
         ensures room { self.new.room.lacks ≡ leaves_some result (length bytes.now) }
     {
         self.room.set(true);
@@ -99,6 +105,7 @@ impl Link for SocketLink {
         ensures link { let old : LinkSeen = record { told = None; counts = self.old.counters } in
             let new : LinkSeen = record { told = None; counts = self.new.counters } in
             Writes old new result (first.now ++ second.now) }
+        ensures closed { self.old.socket ≡ None → result ≡ Sent.Failed }
         ensures room { self.new.room.lacks ≡ leaves_some result (length (first.now ++ second.now)) }
     {
         self.room.set(true);
@@ -111,7 +118,13 @@ impl Link for SocketLink {
         sent
     }
 
-    fn shut(&mut self) -> bool {
+    /// It answers false where the link was closed.
+    fn shut(&mut self) -> bool
+        ensures link { let old : LinkSeen = record { told = None; counts = self.old.counters } in
+            let new : LinkSeen = record { told = None; counts = self.new.counters } in
+            Shuts old new result }
+        ensures closed { self.old.socket ≡ None → result ≡ false }
+    {
         let shut = match &self.socket {
             Some(socket) => shut_for(socket.shutdown(Shutdown::Write)),
             None => false,
@@ -120,8 +133,13 @@ impl Link for SocketLink {
         shut
     }
 
-    /// Gives the socket back at once.
-    fn close(&mut self) {
+    /// Gives the socket back at once. The link has none from then on.
+    fn close(&mut self)
+        ensures link { let old : LinkSeen = record { told = None; counts = self.old.counters } in
+            let new : LinkSeen = record { told = None; counts = self.new.counters } in
+            Closes old new }
+        ensures gone { self.new.socket ≡ None }
+    {
         self.socket = None;
         self.room.leave();
     }
