@@ -11,7 +11,7 @@ import tempfile
 import real_server
 from edge_scenes import without_descriptors
 from real_server import (
-    ANSWER, CORRECTED, DEADLINE, GET, HOST, SITE, WARNING, Wrong, configure, connect, end, expect, free_ports, lay_out, long_scene, report,
+    ANSWER, CORRECTED, DEADLINE, FEW, FEW_DESCRIPTORS, GET, HOST, SITE, WARNING, Wrong, configure, connect, end, expect, free_ports, lay_out, long_scene, report,
     response, run, run_told, scene, serving, short, told_lines, until,
 )
 from restart_scenes import command, expect_generation, replace
@@ -88,6 +88,29 @@ def a_restart_for_which_there_is_no_descriptor_is_refused():
         client.close()
         server.stop()
         server.expect_report("0 Retiring Drained 200,200", "1 ClientDone Direct 200,200", children=6, generation=1)
+
+
+@scene
+def a_server_without_a_descriptor_is_restarted():
+    with serving(before=FEW_DESCRIPTORS) as server:
+        most = FEW - server.own_descriptors
+        clients = [connect(server.port) for _ in range(most)]
+        until("a server that has all descriptors", lambda: server.descriptors() == FEW)
+        replace(server, "index.html", b"other\n")
+        for generation in (1, 2):
+            command(server, "graceful")
+            expect_generation(clients[0] if generation == 1 else clients[1], generation)
+        # What a command took is given back.
+        until("a server that has all descriptors", lambda: server.descriptors() == FEW)
+        clients[2].close()
+        with connect(server.port) as late:
+            late.send(GET)
+            expect("the new page", late.reply(), response("200 OK", "text/html", b"other\n"))
+        for client in clients:
+            client.close()
+        until("a server without a connection", lambda: server.connections() == 0)
+        command(server, "stop")
+        expect("the status", server.process.wait(timeout=DEADLINE), 0)
 
 
 @scene

@@ -69,7 +69,8 @@ impl ControlPort {
         self.asks
     }
 
-    /// Keeps a descriptor in reserve, where there is none and the system has one to give.
+    /// Keeps a descriptor in reserve, where there is none and the system has one to give. It is done before a client is taken, and not where
+    /// a connection was closed: so what its command opens finds the descriptor that it gave back.
     pub(crate) fn restock(&mut self, registry: &Registry)
         ensures kept { is_some self.old.reserve ≡ true → self.new ≡ self.old }
         ensures others { self.new ≡ record self.old { reserve = self.new.reserve } }
@@ -86,16 +87,9 @@ impl ControlPort {
         self.lines.take()
     }
 
-    /// Something came, or may have: reads on, and takes the connections that wait. What of the reserve was given up for one of them is
-    /// taken back where it was closed.
+    /// Something came, or may have: reads on, and takes the connections that wait.
     pub(crate) fn attend(&mut self, registry: &Registry) {
         self.hear_callers();
-        self.take_callers(registry);
-        self.restock(registry);
-    }
-
-    /// Takes the connections that wait.
-    fn take_callers(&mut self, registry: &Registry) {
         self.asks = true;
         for _ in 0..MOST_TAKEN {
             let Some(caller) = self.next_caller() else {
