@@ -18,6 +18,9 @@
 //!   and closed, at each moment. `report`: nothing of the connections is shown but the report. `entries`: how many entries were folded, and
 //!   how many are kept, is shown. Behind a fold a history has what came after it, and connections are shown that ended after it.
 //!
+//! Runs that take long stand behind all others, restarts and status pages among these, so that each allocation of the others can be made to
+//! fail in turn: `.ci/allocations` does that run by run, alone and with all behind it.
+//!
 //! With `rt try --fail-alloc N` the Nth allocation fails, for each N. The program then ends with an error where the run of that
 //! moment stopped as it must. Where the output itself found no memory for its bytes, it has failed: that run has status 5 then, and
 //! a front of its text. Where the program ends well and prints something else, the run told something wrong.
