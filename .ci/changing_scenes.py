@@ -262,6 +262,29 @@ def expect_thousands(server, names, generation):
 
 
 @scene
+def a_site_has_as_many_bytes_as_one_may_and_one_more_is_too_many():
+    with tempfile.TemporaryDirectory() as folder:
+        lay_out(folder, {name: b"" for name in "abcd"})
+        for name in "abcd":
+            os.truncate(path_in(folder, name), GREATEST)
+        server = start(folder, [])
+        try:
+            with connect(server.port) as client:
+                client.send(get("d"))
+                expect("the size of the last file", len(client.reply()), len(answer(b"")) + len(str(GREATEST)) - 1 + GREATEST)
+            lay_out(folder, {"e": b"e"})
+            # It is refused, and changes nothing.
+            command(server, "graceful")
+            with connect(server.port) as client:
+                expect("the generation", generation_of(client), 0)
+                client.send(get("e"))
+                expect("the file too many", client.reply(), MISSING)
+        finally:
+            end(server.process)
+        expect("a start with one byte more", run_told(folder, "-f", "httpd.conf"), (9, b"site refused: htdocs/e\n", []))
+
+
+@scene
 def a_path_that_is_longer_than_the_system_takes_refuses_the_site():
     with tempfile.TemporaryDirectory() as folder:
         lay_out(folder, {"a": b"a"})
