@@ -314,9 +314,10 @@ def reset_at_each(places):
             until("a server that has one connection", lambda: server.connections() == 1)
             other.send(GET_LETTERS)
             expect("the whole response", other.reply(), LETTERS_ANSWER)
+            other.reset()
         server.stop()
         asked = ",".join(["200"] * (len(range(0, len(places), 50)) + 1))
-        server.expect_report(*["0 LinkFailed Direct 200"] * len(places), f"0 ClientDone Direct {asked}")
+        server.expect_report(*["0 LinkFailed Direct 200"] * len(places), f"0 LinkFailed Direct {asked}")
 
 
 @scene

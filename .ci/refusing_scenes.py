@@ -150,24 +150,26 @@ def a_wait_that_is_interrupted_goes_on_and_one_that_fails_ends_the_server():
 
 @outside_scene
 def connections_that_are_given_up_are_passed_over():
-    # Of 64 that are given up the next one is taken at once; behind 65 the server tries again after a tenth of a second.
-    for count, least in [(CALLS - 1, 0), (CALLS, 0.05)]:
-        with serving_by() as (server, system):
-            for name, error in [("accept4", errno.ECONNABORTED), ("accept4", errno.EINTR), ("setsockopt", errno.EINVAL)]:
-                fail(server, system, name, error, 1 if name == "setsockopt" else count)
-                begun = time.monotonic()
-                with connect(server.port) as client:
-                    if name == "setsockopt":
-                        # Its options can't be set, so it is closed.
-                        client.expect_close()
-                        continue
-                    client.send(GET)
-                    expect(f"the response behind {count} of {name}", client.reply(), ANSWER)
-                if time.monotonic() - begun < least:
-                    raise Wrong(f"the time behind {count} of {name}: wanted a tenth of a second, and came {time.monotonic() - begun}")
-            system.heal()
-            server.stop()
-            server.expect_report("0 ClientDone Direct 200", "0 ClientDone Direct 200")
+    with serving_by() as (server, system):
+        # Of 64 that are given up the next one is taken at once; behind 65 the server tries again after a tenth of a second. A call that is
+        # interrupted isn't one of these.
+        rows = [(CALLS - 1, errno.ECONNABORTED, 0, 2), (CALLS, errno.ECONNABORTED, 0.05, 2), (3 * CALLS, errno.EINTR, 0, 2)]
+        for count, error, least, most in rows:
+            fail(server, system, "accept4", error, count)
+            begun = time.monotonic()
+            with connect(server.port) as client:
+                client.send(GET)
+                expect(f"the response behind {count} calls that failed with {error}", client.reply(), ANSWER)
+            took = time.monotonic() - begun
+            expect(f"how many calls failed with {error}", system.accept4.failed, count)
+            if not least <= took < most:
+                raise Wrong(f"the time behind {count} calls that failed with {error}: wanted {least} to {most} seconds, and came {took}")
+        # One whose options can't be set is closed.
+        fail(server, system, "setsockopt", errno.EINVAL)
+        with connect(server.port) as client:
+            client.expect_close()
+        server.stop()
+        server.expect_report(*["0 ClientDone Direct 200"] * 3)
 
 
 @outside_scene
