@@ -204,7 +204,7 @@ def what_loses_its_rights_while_a_restart_reads_it_refuses_that():
         before, program = system.before, real_server.PROGRAM
         if os.getuid() == 0:
             os.chmod(system.path, 0o666)
-            program = shutil.copy(program, f"{folder}/program")
+            program = real_server.copy_of_program(folder)
             before = ["setpriv", f"--reuid={NOBODY}", f"--regid={NOBODY}", "--clear-groups", *before]
         server = start(folder, [], before, program=program)
         try:
