@@ -204,7 +204,7 @@ def what_loses_its_rights_while_a_restart_reads_it_refuses_that():
         before, program = system.before, real_server.PROGRAM
         if os.getuid() == 0:
             os.chmod(system.path, 0o666)
-            program = shutil.copy(program, f"{folder}/program")
+            program = real_server.copy_of_program(folder)
             before = ["setpriv", f"--reuid={NOBODY}", f"--regid={NOBODY}", "--clear-groups", *before]
         server = start(folder, [], before, program=program)
         try:
@@ -259,6 +259,29 @@ def expect_thousands(server, names, generation):
             client.send(b"".join(get(name) for name in some))
             for name in some:
                 expect(f"the file {name[-20:]}", client.reply(), answer(name.encode()))
+
+
+@scene
+def a_site_has_as_many_bytes_as_one_may_and_one_more_is_too_many():
+    with tempfile.TemporaryDirectory() as folder:
+        lay_out(folder, {name: b"" for name in "abcd"})
+        for name in "abcd":
+            os.truncate(path_in(folder, name), GREATEST)
+        server = start(folder, [])
+        try:
+            with connect(server.port) as client:
+                client.send(get("d"))
+                expect("the size of the last file", len(client.reply()), len(answer(b"")) + len(str(GREATEST)) - 1 + GREATEST)
+            lay_out(folder, {"e": b"e"})
+            # It is refused, and changes nothing.
+            command(server, "graceful")
+            with connect(server.port) as client:
+                expect("the generation", generation_of(client), 0)
+                client.send(get("e"))
+                expect("the file too many", client.reply(), MISSING)
+        finally:
+            end(server.process)
+        expect("a start with one byte more", run_told(folder, "-f", "httpd.conf"), (9, b"site refused: htdocs/e\n", []))
 
 
 @scene

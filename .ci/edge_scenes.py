@@ -5,6 +5,7 @@ import contextlib
 import ctypes
 import os
 import resource
+import signal
 import socket
 import subprocess
 import tempfile
@@ -209,6 +210,18 @@ def of_command_lines_that_come_at_once_64_wait_and_further_ones_are_lost():
                 expect_generation(client, generation)
         server.stop()
         server.expect_report("128 ClientDone Direct 200", "64 ClientDone Direct 200", children=3, generation=128)
+
+
+@scene
+def each_signal_that_ends_other_servers_or_restarts_them_ends_this_one_without_a_report():
+    for number in (signal.SIGHUP, signal.SIGINT, signal.SIGUSR1, signal.SIGUSR2):
+        with serving() as server, connect(server.port) as client:
+            client.send(GET)
+            expect("a response", client.reply(), ANSWER)
+            server.process.send_signal(number)
+            printed, _ = server.process.communicate(timeout=DEADLINE)
+            expect("the signal and what was printed", (server.process.returncode, printed), (-number, b""))
+            client.expect_close()
 
 
 def pauses(server, *ways):

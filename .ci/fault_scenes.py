@@ -35,7 +35,7 @@ ALL_BEHIND = 1_000_000_000
 NOT_ALLOWED = refusal("405 Method Not Allowed", "Allow: GET, HEAD, OPTIONS")
 # The same where a restart came before them.
 LETTERS_LAST = response("200 OK", "text/plain", LETTERS, "Connection: close")
-NOT_ALLOWED_LAST = refusal("405 Method Not Allowed", "Allow: GET, HEAD, OPTIONS", "Connection: close")
+NOT_ALLOWED_LAST = refusal("405 Method Not Allowed", "Connection: close", "Allow: GET, HEAD, OPTIONS")
 POST = request("POST", "/", "Content-Length: 5") + b"12345"
 # The pages of the two generations.
 PAGES = [PAGE, b"other\n"]

@@ -3,7 +3,6 @@ server serves of it, and why something can't be read by what it says on standard
 
 import contextlib
 import os
-import shutil
 import socket
 import subprocess
 import tempfile
@@ -71,7 +70,7 @@ def run_as_nobody(folder, *words):
     if os.getuid() != 0:
         return run_told(folder, *words)
     # Nobody may not come to where the program stands.
-    program = shutil.copy(real_server.PROGRAM, f"{folder}/program")
+    program = real_server.copy_of_program(folder)
     os.chmod(folder, 0o755)
     told = subprocess.run(
         [program, *words], cwd=folder, stdin=subprocess.DEVNULL, capture_output=True, timeout=DEADLINE,

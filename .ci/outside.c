@@ -129,6 +129,11 @@ CALL(ssize_t, write, (int fd, const void *from, size_t size), (fd, from, cut(NUM
 CALL(ssize_t, getdents64, (int fd, void *to, size_t size), (fd, to, size))
 CALL(int, statx, (int folder, const char *restrict path, int flags, unsigned int mask, struct statx *restrict to), (folder, path, flags, mask, to))
 
+/* The C library's own name of write, by which some compilers call it. */
+ssize_t __write(int fd, const void *from, size_t size) {
+    return write(fd, from, size);
+}
+
 ssize_t sendmsg(int fd, const struct msghdr *message, int flags) {
     static ssize_t (*real)(int, const struct msghdr *, int);
     if (!real) real = (ssize_t(*)(int, const struct msghdr *, int))real_of("sendmsg");

@@ -65,7 +65,7 @@ class Outside:
     def fail(self, name, number, error=errno.EIO, count=1):
         """Of the calls of that kind, counted from now on, the one of that number fails, and so many from it on."""
         kind = getattr(self, name)
-        kind.error, kind.fails, kind.made = error, count, 0
+        kind.error, kind.fails, kind.made, kind.failed = error, count, 0, 0
         kind.fails_at = number
 
     def hold(self, name, number):

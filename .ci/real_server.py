@@ -276,6 +276,14 @@ def told_lines(said):
     return [line.removeprefix(TELLS) for line in lines]
 
 
+def copy_of_program(folder):
+    """A copy of the program in the folder. Another process makes it: a file that this one had open to write could not be run while a process
+    that was begun meanwhile has it too."""
+    copy = os.path.join(os.path.abspath(folder), "program")
+    subprocess.run(["cp", PROGRAM, copy], check=True)
+    return copy
+
+
 def begin(folder, before, program=None):
     """Starts a server by the configuration of the folder, with these words before the program's, which may be a copy of it. What it says on
     standard error comes into a file of its own."""

@@ -39,6 +39,12 @@ def serving_by(*lines, files=SITE):
         yield server, system
 
 
+def fail(server, system, name, error, count=1):
+    """Has the next calls of that kind fail, so many of them, once the server stands in a wait."""
+    until("a server that stands in a wait", lambda: rests(server))
+    system.fail(name, 1, error, count)
+
+
 def dated(client):
     """The moment of the date of the next response, which has to be that of the page."""
     client.send(GET)
@@ -108,20 +114,18 @@ def a_server_has_the_time_of_its_start():
 @outside_scene
 def a_call_that_is_interrupted_is_made_65_times_at_most():
     with serving_by() as (server, system):
-        rows = [("recv", errno.EINTR), ("sendmsg", errno.EINTR)]
-        for name, error in rows:
+        for name in ("recv", "sendmsg"):
             for count in (CALLS - 1, CALLS):
                 with connect(server.port) as client:
                     client.send(GET)
                     expect("a response", client.reply(), ANSWER)
-                    system.fail(name, 1, error, count)
+                    fail(server, system, name, errno.EINTR, count)
                     client.send(GET)
                     if count < CALLS:
                         expect(f"the response behind {count} interrupted calls of {name}", client.reply(), ANSWER)
                     else:
                         client.expect_close()
                     expect(f"how many calls of {name} failed", getattr(system, name).failed, count)
-                    getattr(system, name).failed = 0
                     system.heal()
         server.stop()
         ends = ["0 ClientDone Direct 200,200", "0 LinkFailed Direct 200", "0 ClientDone Direct 200,200", "0 LinkFailed Direct 200,200"]
@@ -132,14 +136,12 @@ def a_call_that_is_interrupted_is_made_65_times_at_most():
 def a_wait_that_is_interrupted_goes_on_and_one_that_fails_ends_the_server():
     with serving_by() as (server, system), connect(server.port) as client:
         # The wait that stands comes back for a request, and those behind it are interrupted.
-        until("a server that stands in a wait", lambda: rests(server))
-        system.fail("epoll_wait", 1, errno.EINTR, 1_000)
+        fail(server, system, "epoll_wait", errno.EINTR, 1_000)
         for _ in range(2):
             client.send(GET)
             expect("a response", client.reply(), ANSWER)
         expect("how many waits were interrupted", system.epoll_wait.failed, 1_000)
-        until("a server that stands in a wait", lambda: rests(server))
-        system.fail("epoll_wait", 1, errno.EBADF)
+        fail(server, system, "epoll_wait", errno.EBADF)
         client.send(GET)
         expect("the response of the wait before", client.reply(), ANSWER)
         client.expect_close()
@@ -148,24 +150,26 @@ def a_wait_that_is_interrupted_goes_on_and_one_that_fails_ends_the_server():
 
 @outside_scene
 def connections_that_are_given_up_are_passed_over():
-    # Of 64 that are given up the next one is taken at once; behind 65 the server tries again after a tenth of a second.
-    for count, least in [(CALLS - 1, 0), (CALLS, 0.05)]:
-        with serving_by() as (server, system):
-            for name, error in [("accept4", errno.ECONNABORTED), ("accept4", errno.EINTR), ("setsockopt", errno.EINVAL)]:
-                system.fail(name, 1, error, 1 if name == "setsockopt" else count)
-                begun = time.monotonic()
-                with connect(server.port) as client:
-                    if name == "setsockopt":
-                        # Its options can't be set, so it is closed.
-                        client.expect_close()
-                        continue
-                    client.send(GET)
-                    expect(f"the response behind {count} of {name}", client.reply(), ANSWER)
-                if time.monotonic() - begun < least:
-                    raise Wrong(f"the time behind {count} of {name}: wanted a tenth of a second, and came {time.monotonic() - begun}")
-            system.heal()
-            server.stop()
-            server.expect_report("0 ClientDone Direct 200", "0 ClientDone Direct 200")
+    with serving_by() as (server, system):
+        # Of 64 that are given up the next one is taken at once; behind 65 the server tries again after a tenth of a second. A call that is
+        # interrupted isn't one of these.
+        rows = [(CALLS - 1, errno.ECONNABORTED, 0, 2), (CALLS, errno.ECONNABORTED, 0.05, 2), (3 * CALLS, errno.EINTR, 0, 2)]
+        for count, error, least, most in rows:
+            fail(server, system, "accept4", error, count)
+            begun = time.monotonic()
+            with connect(server.port) as client:
+                client.send(GET)
+                expect(f"the response behind {count} calls that failed with {error}", client.reply(), ANSWER)
+            took = time.monotonic() - begun
+            expect(f"how many calls failed with {error}", system.accept4.failed, count)
+            if not least <= took < most:
+                raise Wrong(f"the time behind {count} calls that failed with {error}: wanted {least} to {most} seconds, and came {took}")
+        # One whose options can't be set is closed.
+        fail(server, system, "setsockopt", errno.EINVAL)
+        with connect(server.port) as client:
+            client.expect_close()
+        server.stop()
+        server.expect_report(*["0 ClientDone Direct 200"] * 3)
 
 
 @outside_scene
@@ -173,10 +177,10 @@ def a_connection_that_cannot_be_watched_ends_alone():
     with serving_by() as (server, system), connect(server.port) as other:
         other.send(GET)
         expect("a response", other.reply(), ANSWER)
-        system.fail("epoll_ctl", 1, errno.ENOSPC)
+        fail(server, system, "epoll_ctl", errno.ENOSPC)
         with connect(server.port) as client:
             client.expect_close()
-        system.fail("epoll_ctl", 1, errno.ENOSPC)
+        fail(server, system, "epoll_ctl", errno.ENOSPC)
         with connect(server.control) as caller:
             caller.expect_close()
         other.send(GET)
@@ -189,7 +193,7 @@ def a_connection_that_cannot_be_watched_ends_alone():
 @outside_scene
 def a_half_close_that_fails_ends_its_connection_alone():
     with serving_by() as (server, system), connect(server.port) as other:
-        system.fail("shutdown", 1, errno.ENOTCONN)
+        fail(server, system, "shutdown", errno.ENOTCONN)
         with connect(server.port) as client:
             client.send(request("GET", "/", "Connection: close"))
             expect("the last response", client.reply(), LAST_ANSWER)
@@ -218,8 +222,8 @@ def responses_are_whole_where_the_system_moves_a_byte_at_a_time():
         server.expect_report("1 ClientDone Direct 200,200,405,200", children=6, generation=1)
 
 
-def sent_with(name, number, error, count, told=b""):
-    """What -k comes to, to a server that tells so much, where these calls of it fail: its status, and what it says on standard error."""
+def sent_with(name, number, error, count):
+    """What -k comes to where these calls of it fail: its status, and the reasons that it says on standard error."""
     with outside() as system, serving() as server:
         system.fail(name, number, error, count)
         status, printed, said = run_told(server.folder, "-k", "graceful", "-f", "httpd.conf", before=system.before)
@@ -237,7 +241,7 @@ def a_command_whose_call_fails_is_refused():
 
 
 @outside_scene
-def a_start_whose_call_fails_has_its_status_and_leaves_no_port_open():
+def a_start_whose_call_fails_has_its_status():
     with tempfile.TemporaryDirectory() as folder, outside() as system:
         lay_out(folder, SITE)
         rows = [("epoll_create1", errno.EMFILE, 6, b""), ("eventfd", errno.EMFILE, 6, b""), ("socket", errno.EMFILE, 4, b"front fault\n")]
