@@ -2,7 +2,7 @@
 ghost use Rattle.std.specs.Prelude.{◌≡◌, ◌<◌, ◌≤◌, ◌&&◌, max, nat_lt, not, true, false, None, Some, [], take, drop, length, is_some, slice_get, slice_set, IfOk, IsOk};
 ghost use Rattle.mpm_base.specs.Count.{Rises};
 ghost use Rattle.mpm_base.specs.Front.{Accepts, Binds, Commands, Dials, GoesForward, HasAllTaken, StandsStill, Waits, Watches, accept_failed, after_bind, after_command, after_dial, after_hush, after_turning_away, front_after_turning_away, hushed_front, is_handed, next_coming};
-ghost use Rattle.mpm_base.specs.Link.{telling_link};
+ghost use Rattle.mpm_base.specs.Link.{OnlyFaults, telling_link};
 ghost use Rattle.mpm_base.specs.declared.front.Woke.TheVariants as woke;
 ghost use Rattle.script_front.specs.DuePlacesInside.{AllLook};
 ghost use Rattle.script_front.specs.FailingFront.{after_failed_wait, after_failed_watch, told_watch};
@@ -96,10 +96,9 @@ impl Model for ScriptFront {
 }
 
 impl ScriptFront {
-    /// The front of the script. No line has happened. A line of the site happens with those around it and does nothing to the
-    /// front: it says what the files are, which the store of the script has (`script_store`). A command brings its word as a
-    /// command line. A line that names a client means each connection of that name; a script that was read has no two connections
-    /// of one name.
+    /// The front of the script. No line has happened. A line of the site happens with those around it and does nothing to the front: it
+    /// says what the files are, which the store of the script has (`script_store`). A command brings its word as a command line. A line that
+    /// names a client means each connection of that name; a script that was read has no two connections of one name.
     pub fn make(alloc: Global, script: Script) -> Result<ScriptFront, NoMemory>
         ensures { IfOk result (λ front. front ≡ new_front script) }
     {
@@ -340,6 +339,7 @@ impl ScriptFront {
     pub(crate) fn fail_watch(&mut self, name: ConnName, link: &mut ScriptLink)
         ensures front { self.new ≡ after_failed_watch name link.old.told.rank self.old }
         ensures link { link.new ≡ script_link_after_failed_watch link.old }
+        ensures faults { OnlyFaults true link.old.counts link.new.counts }
     {
         link.fail_watch();
         self.put_down_watch(name, link, false);

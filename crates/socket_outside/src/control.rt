@@ -1,5 +1,5 @@
 //! The control port: the connections that bring command lines, and the lines that wait.
-ghost use Rattle.std.specs.Prelude.{◌≡◌, ◌≢◌, ◌<◌, ◌++◌, ℕ, List, IfOk, IfErr, None, [], nat_lt, length, true, if◌then◌else◌, ◌∷◌, is_some};
+ghost use Rattle.std.specs.Prelude.{◌≡◌, ◌≢◌, ◌++◌, ℕ, List, IfOk, IfErr, None, [], nat_lt, length, true, if◌then◌else◌, ◌∷◌, is_some};
 ghost use Rattle.std.specs.Option.{option_to_list};
 
 use crate::accepting::{NoStream, accept_next};
@@ -109,20 +109,19 @@ impl ControlPort {
     }
 
     /// Reads on from a connection, and keeps it behind the others where more is to come.
-    fn hear(&mut self, caller: Caller)
-        requires place { length self.old.callers.queue.items < 16 }
-    {
+    fn hear(&mut self, caller: Caller) {
         let mut caller = caller;
         let heard = caller.spoken.hear(&mut caller.socket);
         self.take_in(caller, heard);
     }
 
-    /// Keeps the connection behind the others where its line isn't whole. Else it is closed, and its line, where there is one, is put
-    /// behind those that wait, unless there are as many as may.
+    /// Keeps the connection behind the others, while there are fewer than so many, where its line isn't whole. Else it is closed, and its
+    /// line, where there is one, is put behind those that wait, unless there are as many as may.
     fn take_in(&mut self, caller: Caller, heard: Heard)
-        requires place { length self.old.callers.queue.items < 16 }
-        ensures stays { heard ≡ Heard.More
-            → self.new.callers.queue.items ≡ self.old.callers.queue.items ++ caller ∷ [] }
+        ensures stays { heard ≡ Heard.More →
+            let callers = self.old.callers.queue.items in
+            let fits = nat_lt (length callers) 16 in
+            self.new.callers.queue.items ≡ (if fits then callers ++ caller ∷ [] else callers) }
         ensures goes { heard ≢ Heard.More → self.new.callers ≡ self.old.callers }
         ensures line { (line : List ℕ) → heard ≡ Heard.Line line →
             let lines = self.old.lines.queue.items in
@@ -141,9 +140,7 @@ impl ControlPort {
     }
 
     /// Closes the oldest connection where no further one may be open.
-    fn make_place(&mut self)
-        ensures { length self.new.callers.queue.items < 16 }
-    {
+    fn make_place(&mut self) {
         if self.callers.len() == MOST_CALLERS {
             let _ = self.callers.take();
         }

@@ -36,8 +36,13 @@ fn send_over<S: Read + Write + OpenStream + Drop>(
 ) -> io::Result<()>
     ensures { OnOk result (is_ok connected ≡ true) }
 {
-    let mut stream = connected?;
-    exchange(&mut stream, word)
+    match connected {
+        Ok(stream) => {
+            let mut stream = stream;
+            exchange(&mut stream, word)
+        }
+        Err(error) => Err(error),
+    }
 }
 
 /// Sends the line, without a delay between its pieces, and reads to the end. It fails where the stream wasn't read to its end.
