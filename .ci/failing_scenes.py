@@ -11,8 +11,8 @@ import tempfile
 import real_server
 from edge_scenes import without_descriptors
 from real_server import (
-    ANSWER, CORRECTED, DEADLINE, FEW, FEW_DESCRIPTORS, GET, HOST, SITE, WARNING, Wrong, configure, connect, end, expect, free_ports, lay_out, long_scene, report,
-    response, run, run_told, scene, serving, short, told_lines, until,
+    ANSWER, CORRECTED, DEADLINE, FEW, FEW_DESCRIPTORS, GET, HOST, SITE, WARNING, Wrong, configure, connect, expect, free_ports, lay_out, long_scene,
+    report, response, run_told, scene, serving, until,
 )
 from restart_scenes import command, expect_generation, replace
 

@@ -13,10 +13,10 @@ import real_server
 from edge_scenes import rests
 from outside import Outside
 from real_server import (
-    ANSWER, CORRECTED, DEADLINE, GET, HOST, LAST_ANSWER, PAGE, SITE, WARNING, Wrong, configure, connect, end, expect, lay_out, request, response,
+    ANSWER, CORRECTED, DEADLINE, GET, HOST, LAST_ANSWER, PAGE, SITE, Wrong, configure, connect, end, expect, lay_out, request, response,
     run_told, scene, serving, start, until, where_compiled,
 )
-from restart_scenes import command, expect_generation, replace
+from restart_scenes import command
 
 DAY = 86_400
 # How often a call that is interrupted is made, and how often the system is asked for a connection in a turn.
