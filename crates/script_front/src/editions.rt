@@ -2,6 +2,8 @@
 //!
 //! Which files those are stands in `specs/Editions.antt`. The file `httpd.conf` is always there, empty where no line says
 //! otherwise: it is the configuration.
+//!
+//! Why it is so stands in docs/DECISIONS.md: 15, The editions of a script.
 ghost use Rattle.std.specs.Prelude.{◌≡◌, ◌≤◌, ℕ, List, Some, ◌∷◌, length, All, IsUtf8, IsSome, IfOk, OnOk};
 ghost use Rattle.std.specs.List.{fold, prefix_len};
 ghost use Rattle.mpm_base.specs.Store.{bytes_of};

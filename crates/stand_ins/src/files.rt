@@ -1,4 +1,5 @@
 //! A list of files by name.
+//! Why it is so stands in docs/DECISIONS.md: 1, The names of a store.
 ghost use Rattle.std.specs.Prelude.{◌≡◌, ◌≢◌, ℕ, Some, None, List, [], find, position, OnOk, OnErr, option_map};
 ghost use Rattle.mpm_base.specs.Store.{bytes_of};
 ghost use Rattle.stand_ins.specs.Files.{AllNamesUtf8, is_file_named, with_file, without_file};

@@ -1,4 +1,5 @@
 //! A store in memory that never fails.
+//! Why it is so stands in docs/DECISIONS.md: 87, A script's store is the plain one.
 ghost use Rattle.std.specs.Prelude.{◌≡◌, Some, count_by, All, IsUtf8, IfOk, OnOk, OnErr, true};
 ghost use Rattle.mpm_base.specs.Store.{Renews, ListsNames, ReadsFile, after_renew, bytes_of, lies_under, names_under, is_refusal, answers_with, telling_store};
 ghost use Rattle.stand_ins.specs.PlainStore.{no_store_counts, only_files, with_edition, file_answer, names_answer, AnswersUnlessNoMemory, count_answer};
