@@ -6,4 +6,5 @@ use Rattle.http_core.specs.Target.{before_query, begins_fragment, begins_path, h
 -- a target in absolute form has the path behind its scheme
 pub absolute_path : (target : List ℕ) → list_any begins_fragment target ≡ false → begins_path (slice_index target 0) ≡ false → has_scheme target ≡ true
     → path_of target ≡ path_behind (before_query (drop 7 target))
+unfolding path_of
 absolute_path target none h k = rw (none, h, k) refl

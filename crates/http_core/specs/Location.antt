@@ -17,5 +17,5 @@ abbrev pub query_part : List ℕ → List ℕ
 query_part target = if list_any begins_query target then 63 ∷ flat_map query_byte (query_of target) else []
 
 -- where a target that names a folder is sent: the path of the folder, and the query
-abbrev pub location_of : List ℕ → List ℕ → List ℕ
+unfoldable pub location_of : List ℕ → List ℕ → List ℕ
 location_of target path = path ++ query_part target

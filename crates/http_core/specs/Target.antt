@@ -38,7 +38,7 @@ path_behind text =
     if is_authority (authority_of text) then Some (path_or_root (drop (length (authority_of text)) text)) else None
 
 -- the path of a target in origin form or in absolute form; another one, and one with a fragment, has none
-abbrev pub path_of : List ℕ → Option (List ℕ)
+unfoldable pub path_of : List ℕ → Option (List ℕ)
 path_of target =
     if list_any begins_fragment target then None
     else (if begins_path (slice_index target 0) then Some (before_query target)

@@ -29,6 +29,7 @@ fn add_query(location: &mut Octets, query: &[u8]) -> Result<(), NoMemory>
 }
 
 /// Where a target that names the folder of that path is sent: there, with the query of the target.
+#[tactic(auto, unfolding(crate::specs::Location::location_of))]
 pub fn location_of(target: &[u8], path: Octets) -> Result<Octets, NoMemory>
     ensures { IfOk result (λ location. location ≡ spec.location_of target.now path) }
 {

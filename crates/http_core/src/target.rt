@@ -66,6 +66,7 @@ fn path_behind(text: &[u8]) -> Option<&[u8]>
 
 /// The path of a target in origin form or in absolute form (RFC 9112, section 3.2), without its query. One with a fragment has
 /// none.
+#[tactic(auto, unfolding(crate::specs::Target::path_of))]
 pub fn path_of(target: &[u8]) -> Option<&[u8]>
     ensures { option_map (λ path. path.now) result ≡ path_of target.now }
 {

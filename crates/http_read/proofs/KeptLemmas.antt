@@ -7,6 +7,7 @@ use Rattle.std.proofs.lemmas.List.Elements.{All-nil, All-cons, All-append}
 use Rattle.http_read.specs.declared.request.Limits.{Limits}
 use Rattle.http_read.specs.RequestParts.{RequestParts}
 use Rattle.http_read.specs.HeadLines.{IsHeadLine, print_lines, line_len, HasLongFront, BreaksLineLimit, IsUnended, IsHeadText}
+use Rattle.http_read.specs.Versions.{text_as_read}
 use Rattle.http_read.specs.Head.{head_window, EndsAt, BeginsHead, IsRefusal}
 use Rattle.http_read.proofs.VersionLemmas.{same_lines_of}
 
@@ -91,6 +92,7 @@ ends_kept limits bytes more n fields h = record {
 }
 
 pub refusal_kept : (limits : Limits) (bytes more : List ℕ) (code : ℕ) → IsRefusal limits bytes code → IsRefusal limits (bytes ++ more) code
+unfolding text_as_read
 refusal_kept limits bytes more code (inl h) =
     inl (subst (BreaksLineLimit limits) (sym (take_of_append 65537 bytes more)) (long_kept limits (head_window bytes) (take (65537 - length bytes) more) h.0), h.1)
 refusal_kept limits bytes more code (inr (inl h)) =
@@ -132,6 +134,7 @@ refusal_kept limits bytes more code (inr (inr (inr (inr h)))) = inr (inr (inr (i
 }))))
 
 pub head_kept : (limits : Limits) (bytes more : List ℕ) (request : RequestParts) (n : ℕ) → BeginsHead limits bytes request n → BeginsHead limits (bytes ++ more) request n
+unfolding text_as_read
 head_kept limits bytes more request n h = record {
   field_lines = h.field_lines;
   head = h.head;

@@ -55,11 +55,13 @@ pub first_shape : (limits : Limits) (text : List ℕ) (fields : List (List ℕ))
 first_shape limits text fields h = printed_text limits text fields h ∙ shape h.head_lines.blank fields h.head_lines.first (h.end ++ 10 ∷ [])
 
 as_written : (limits : Limits) (text : List ℕ) (fields : List (List ℕ)) (h : IsHeadText limits text fields) → names_later_minor h.head_lines.first ≡ false → text_as_read h ≡ text
+unfolding text_as_read line_as_read
 as_written limits text fields h written =
     let same : line_as_read h.head_lines.first ≡ h.head_lines.first = cond-false (names_later_minor h.head_lines.first) _ _ written in
     ap (λ line. print_lines (h.head_lines.blank ++ line ∷ fields) ++ (h.end ++ 10 ∷ [])) same ∙ sym (printed_text limits text fields h)
 
 as_later : (limits : Limits) (text : List ℕ) (fields : List (List ℕ)) (h : IsHeadText limits text fields) → names_later_minor h.head_lines.first ≡ true → text_as_read h ≡ set text (before_first_line h + (line_len h.head_lines.first - 1)) 49
+unfolding text_as_read line_as_read
 as_later limits text fields h later =
     let first = h.head_lines.first in
     let blank = h.head_lines.blank in

@@ -51,7 +51,7 @@ abbrev pub is_named : List ℕ → Bool
 is_named text = is_name (before_first begins_port text) && is_port (drop (position_or_len begins_port text) text)
 
 -- a host, and behind it perhaps a port: the host is an address in brackets ([ is 91), or a name
-abbrev pub is_authority : List ℕ → Bool
+unfoldable pub is_authority : List ℕ → Bool
 is_authority text = if slice_index text 0 == 91 then ends_address (drop 1 text) else is_named text
 
 -- the value of a Host: nothing, or a host with or without a port

@@ -16,11 +16,11 @@ is_version tail =
     && slice_index tail 7 == 46 && is_ascii_digit (slice_index tail 8)
 
 -- the first line ends in a version whose first digit isn't 1 (49)
-abbrev pub names_other_major : List ℕ → Bool
+unfoldable pub names_other_major : List ℕ → Bool
 names_other_major line = is_version (line_tail line) && not (slice_index (line_tail line) 6 == 49)
 
 -- the first line ends in one of the versions 1.2 to 1.9
-abbrev pub names_later_minor : List ℕ → Bool
+unfoldable pub names_later_minor : List ℕ → Bool
 names_later_minor line =
     is_version (line_tail line) && slice_index (line_tail line) 6 == 49 && nat_lt 49 (slice_index (line_tail line) 8)
 
@@ -29,10 +29,10 @@ abbrev pub with_minor_one : List ℕ → List ℕ
 with_minor_one line = slice_set line (line_len line - 1) 49
 
 -- the first line as it is read: the versions 1.2 to 1.9 as 1.1
-abbrev pub line_as_read : List ℕ → List ℕ
+unfoldable pub line_as_read : List ℕ → List ℕ
 line_as_read line = if names_later_minor line then with_minor_one line else line
 
 -- the text of a head with its first line as it is read
-abbrev pub text_as_read : {limits : Limits} {text : List ℕ} {fields : List (List ℕ)} → IsHeadText limits text fields → List ℕ
+unfoldable pub text_as_read : {limits : Limits} {text : List ℕ} {fields : List (List ℕ)} → IsHeadText limits text fields → List ℕ
 text_as_read {fields = fields} h =
     print_lines (h.head_lines.blank ++ line_as_read h.head_lines.first ∷ fields) ++ (h.end ++ 10 ∷ [])

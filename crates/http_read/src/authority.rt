@@ -101,6 +101,7 @@ fn is_named(text: &[u8]) -> bool
 }
 
 /// Whether the text is a host, with or without a port.
+#[tactic(auto, unfolding(crate::specs::Authority::is_authority))]
 pub fn is_authority(text: &[u8]) -> bool
     ensures { result ≡ spec.is_authority text.now }
 {

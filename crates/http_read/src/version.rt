@@ -32,6 +32,7 @@ fn is_version(tail: &[u8]) -> bool
 }
 
 /// How the version of the first line is read, which has so many bytes before it in the head.
+#[tactic(auto, unfolding(crate::specs::Versions::names_other_major, crate::specs::Versions::names_later_minor))]
 pub(crate) fn version_at(before: usize, line: &[u8]) -> Version
     requires { before + length line.now < 2 ^ 64 }
     ensures { result ≡ version_at before line.now }
