@@ -159,7 +159,10 @@ def a_command_ends_only_when_its_connection_is_closed():
             process = subprocess.Popen(words, cwd=folder, stdin=subprocess.DEVNULL, stdout=subprocess.PIPE, stderr=subprocess.STDOUT)
             try:
                 with Client(listener.accept()[0]) as heard:
-                    expect("what is sent", heard.take(len(word) + 1), f"{word}\n".encode())
+                    came = b""
+                    while not came.endswith(b"\n"):
+                        came += heard.stream.recv(1_000)
+                    expect("what is sent", came, f"{word}\n".encode())
                     # What is answered means nothing, however much it is.
                     heard.send(b"generation 7\n" * 10_000)
                     expect("whether more is sent", heard.has_come(0.1), False)
