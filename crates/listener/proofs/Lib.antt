@@ -2,6 +2,7 @@ pub mod BrokenLemmas
 pub mod BroughtLemmas
 pub mod CommandLemmas
 pub mod CommandlessLemmas
+pub mod DownPaceLemmas
 pub mod EditionLemmas
 pub mod EventLemmas
 pub mod FoldLemmas
