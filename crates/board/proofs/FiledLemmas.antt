@@ -21,7 +21,7 @@ use Rattle.conn_machine.specs.Rows.{carried_count, is_from, is_lingering, is_liv
 use Rattle.conn_machine.specs.States.{child_of, is_signalled, opening_state, unused_row}
 use Rattle.conn_machine.specs.Table.{may_be_queued, next, taken_row, parked_row, held_row, queued_row, served_row, answered_row, lingering_row, closed_row}
 use Rattle.board.specs.FiledInside.{AreFiled, FindsInChild, FindsInRing, refiled_rings, refiled_by, ring_of_child, ring_of_row, slot_of_event}
-use Rattle.board.specs.Finds.{FindsRow, has_to_be_drained, is_due, is_let_go}
+use Rattle.board.specs.Finds.{FindsRow, has_to_be_drained, is_due, is_due_of, is_let_go}
 use Rattle.conn_machine.specs.HistoryLaws.{RowsChangeOneAtATime}
 use Rattle.board.proofs.EventLemmas.{get-replicate, get_or-alike}
 
@@ -335,6 +335,26 @@ due_found s k name few free is =
     (and_from (is_signalled s name.slot) (may_be_queued s is.row) (of.signalled.0 low)
     (and_from (is_parked is.row.place && not (is_lingering is.row)) (nat_lt (carried_count s.rows is.row.child) (child_of s is.row).shape.threads)
     (and_from (is_parked is.row.place) (not (is_lingering is.row)) parked (not_from_false (is_lingering is.row) (of.stays low))) free'))
+
+-- the row that is found of those of a child for service is due, but that no worker need be free
+pub due_of_found : (s : State) (k : ℕ) (o : Option ConnName) → k < 32 → FindsInRing s (0 + k) o → FindsRow (is_due_of k s) s o
+due_of_found s k None few none = λ slot r at.
+    not_so (is_due_of k s slot r) (λ due.
+    let all = and_parts (r.child == k && is_signalled s slot && is_parked r.place) (not (is_lingering r)) due in
+    let waits = and_parts (r.child == k && is_signalled s slot) (is_parked r.place) all.0 in
+    let asks = and_parts (r.child == k) (is_signalled s slot) waits.0 in
+    none slot r at (ap (λ (b : Bool). ring_of_row b r) asks.1
+    ∙ ring-for_service r k few waits.1 (not-true (is_lingering r) all.1) (eqb-true r.child k asks.0)))
+due_of_found s k (Some name) few is =
+    let of = of_ring (is_signalled s name.slot) is.row (0 + k) is.ring_is in
+    let low : 0 + k < 32 = omega (arith, few) in
+    let parked = of.parked in
+    let own : is.row.child ≡ k = of.own low ∙ omega arith in
+    waiting_lives s.rows name is.row (is_due_of k s name.slot) is.found is.life parked
+    (and_from (is.row.child == k && is_signalled s name.slot && is_parked is.row.place) (not (is_lingering is.row))
+    (and_from (is.row.child == k && is_signalled s name.slot) (is_parked is.row.place)
+    (and_from (is.row.child == k) (is_signalled s name.slot) (eq-eqb is.row.child k own) (of.signalled.0 low)) parked)
+    (not_from_false (is_lingering is.row) (of.stays low)))
 
 -- where the child stops, the row that is found of those for a further request is let go of
 pub go_found : (s : State) (k : ℕ) (o : Option ConnName) → k < 32 → is_stopping (child_at s.children k).phase ≡ true

@@ -15,4 +15,6 @@ pub mod QueueLemmas
 pub mod RankLemmas
 pub mod RoomLemmas
 pub mod SlotLemmas
+pub mod SendLemmas
 pub mod UseLemmas
+pub mod WholeLemmas

@@ -1,5 +1,5 @@
 -- What the tests of a board look for in its state.
-use Rattle.std.specs.Prelude.{◌≡◌, ℕ, Bool, true, false, not, ◌&&◌, List, [], ◌∷◌, ◌++◌, length, map, filter, find, min, nat_lt, Option, None, Some, option_map, slice_get, if◌then◌else◌}
+use Rattle.std.specs.Prelude.{◌≡◌, ◌==◌, ℕ, Bool, true, false, not, ◌&&◌, List, [], ◌∷◌, ◌++◌, length, map, filter, find, min, nat_lt, Option, None, Some, option_map, slice_get, if◌then◌else◌}
 use Rattle.std.specs.List.{list_any, range_with_len, reduce}
 use Rattle.std.specs.Option.{option_and_then}
 use Rattle.mpm_base.specs.declared.conn.ConnName.{ConnName}
@@ -46,6 +46,11 @@ is_late s slot r = is_overdue s.moment r
 -- something may have come for the row, which waits for service, and a worker of its child is free
 abbrev pub is_due : State → ℕ → Row → Bool
 is_due s slot r = is_signalled s slot && may_be_queued s r
+
+-- something may have come for the row, which waits for service, and it is of that child
+abbrev pub is_due_of : ℕ → State → ℕ → Row → Bool
+is_due_of k s slot r =
+    r.child == k && is_signalled s slot && is_parked r.place && not (is_lingering r)
 
 -- the row waits for a further request, for which nothing came, and its child stops
 abbrev pub is_let_go : State → ℕ → Row → Bool

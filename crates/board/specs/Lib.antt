@@ -20,3 +20,4 @@ pub mod Ranks
 pub mod ReportLine
 pub mod RoomInside
 pub mod SlotsInside
+pub mod WholeEditions

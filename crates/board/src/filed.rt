@@ -6,7 +6,7 @@ ghost use Rattle.conn_machine.specs.Table.{is_allowed, may_answer, may_be_queued
 ghost use Rattle.conn_machine.specs.Sizes.{HasSizesOf, IsSized};
 ghost use Rattle.conn_machine.specs.Sound.{IsSound};
 ghost use Rattle.conn_machine.specs.declared.row.Row.{Row};
-ghost use Rattle.board.specs.Finds.{FindsRow, has_to_be_drained, is_due, is_let_go};
+ghost use Rattle.board.specs.Finds.{FindsRow, has_to_be_drained, is_due, is_due_of, is_let_go};
 ghost use Rattle.board.specs.FiledInside.{FindsInChild, FindsInRing, refiled_rings, ring_of_child, ring_of_row, slot_of_event};
 
 use conn_machine::laws_of_runs::rows_change_one_at_a_time;
@@ -115,6 +115,14 @@ impl FiledState {
         } else {
             None
         }
+    }
+
+    /// A connection of the child that waits for service, for which something may have come.
+    pub(crate) fn signalled_of(&self, child: u32) -> Option<ConnName>
+        requires { child < 32 }
+        ensures { FindsRow (is_due_of child self.now) self.now result }
+    {
+        self.first_in(SIGNALLED + child)
     }
 
     /// A connection that waits for a further request, for which nothing came, of a child that stops.

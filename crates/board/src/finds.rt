@@ -1,12 +1,12 @@
 //! The board's tests of its state: none takes memory, and each is exact.
-ghost use Rattle.std.specs.Prelude.{◌≡◌, ℕ, ◌≤◌, ◌++◌, List, length, find, min, nat_le, IfSome};
+ghost use Rattle.std.specs.Prelude.{◌≡◌, ℕ, ◌≤◌, ◌<◌, ◌++◌, List, length, find, min, nat_le, IfSome};
 ghost use Rattle.std.specs.List.{range_with_len, reduce};
-ghost use Rattle.conn_machine.specs.Children.{is_empty};
+ghost use Rattle.conn_machine.specs.Children.{child_at, is_empty};
 ghost use Rattle.conn_machine.specs.Table.{child_passes};
-ghost use Rattle.board.specs.Finds.{FindsRetirable, FindsRow, IsFirstDue, acceptable, cause_of, ending_moments, has_to_be_drained, is_due, is_late, is_let_go, is_quiet, is_waiting, next_deadline_of, startable, waits_for};
+ghost use Rattle.board.specs.Finds.{FindsRetirable, FindsRow, IsFirstDue, acceptable, cause_of, ending_moments, has_to_be_drained, is_due, is_due_of, is_late, is_let_go, is_quiet, is_waiting, next_deadline_of, startable, waits_for};
 
 use crate::board::Board;
-use conn_machine::{Going, Place, State};
+use conn_machine::{Child, Going, Place, State};
 use conn_state::Known;
 use mpm_base::{Cause, ConnName, GREATEST_MOMENT, Kind, Link, Moment};
 
@@ -50,6 +50,15 @@ impl<L: Link, N: Known> Board<L, N> {
     {
         self.parts.book.show();
         self.parts.book.filed().signalled()
+    }
+
+    /// A connection of the child that waits for service, for which something may have come, whether a worker is free or not.
+    pub fn signalled_of(&self, child: u32) -> Option<ConnName>
+        requires { child < length self.now.book.state.children }
+        ensures { FindsRow (is_due_of child self.now.book.state) self.now.book.state result }
+    {
+        self.parts.book.show();
+        self.parts.book.filed().signalled_of(child)
     }
 
     /// A connection that waits for a further request, for which nothing came, of a child that stops.
@@ -96,6 +105,13 @@ impl<L: Link, N: Known> Board<L, N> {
     {
         let parts = &*self.parts;
         least_with_ending(parts.queues.next_deadline(), parts.book.state().going)
+    }
+
+    /// The child of that number; one that was never started where there is none.
+    pub fn child(&self, child: u32) -> Child
+        ensures { result ≡ child_at self.now.book.state.children child }
+    {
+        self.parts.book.state().children.get(child)
     }
 
     /// Whether no connection is in hand: queued, served or held.

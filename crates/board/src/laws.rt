@@ -1,6 +1,7 @@
 //! Laws of a board's connections. Each is the contract of a function that does nothing, and stands in full in
-//! `specs/BoardLaws.antt`, or in `specs/Editions.antt`.
+//! `specs/BoardLaws.antt`, in `specs/Editions.antt`, or in `specs/WholeEditions.antt`.
 ghost use Rattle.board.specs.Editions.{GenerationsKeepTheirEditions};
+ghost use Rattle.board.specs.WholeEditions.{EditionsStandForWholeHistories};
 ghost use Rattle.board.specs.BoardLaws.{EndedLinksAreOfClosedConnections, EndedConnectionsJoin, AnsweredConnectionsFitTheirRows};
 
 use conn_machine::laws::arrivals_are_taken_once;
@@ -29,6 +30,14 @@ pub fn generations_keep_their_editions()
     ensures { GenerationsKeepTheirEditions }
 {
     generations_begin_in_order();
+}
+
+/// What has an edition in a board has it in the whole history that the board's is left of, whatever was folded; and where the generation is
+/// in use the other way round. So who keeps the edition of a connection over all entries that it saw finds it again in any board.
+pub fn editions_stand_for_whole_histories()
+    ensures { EditionsStandForWholeHistories }
+{
+    generations_keep_their_editions();
 }
 
 /// A connection that took the note of the response that was decided for it still fits its row.

@@ -18,6 +18,7 @@ mod ahead;
 mod board;
 mod book;
 mod conns;
+mod crossing;
 mod editions;
 mod faults;
 mod filed;
@@ -27,4 +28,5 @@ pub mod report_line;
 mod waits;
 
 pub use board::{Board, Taken};
+pub use crossing::{board_crosses, connection_crosses, ended_crosses};
 pub use faults::{AcceptFault, BoardFault};

@@ -7,7 +7,7 @@ use Rattle.conn_machine.specs.Runs.{Adds}
 use Rattle.table_rule.specs.declared.view.Origin.{Origin}
 use Rattle.table_rule.specs.declared.view.View.{View}
 use Rattle.table_rule.specs.Ledgers.{EndsTurn, IsLastLeft}
-use Rattle.table_rule.specs.Views.{IsFound, first_view, free_view, given_view, taken_view}
+use Rattle.table_rule.specs.Views.{IsFound, IsIdle, first_view, free_view, given_view, taken_view}
 
 -- a pass of a new lock: pass 0 has drawn the numbers of all
 abbrev pub fresh_view : Origin → ℕ → View
@@ -18,6 +18,11 @@ fresh_view origin (suc p) = free_view origin (suc p) []
 pub record HasNoTurn {S : Type 0} (me : Me S View) : Type 0 where
   pub hand : me.1 ≡ []
   pub turn : me.0.turn ≡ None
+
+-- the pass has nothing: no turn, no permit, no try, no connection, and nothing of the lock's in its hand
+pub record IsFree {S : Type 0} (me : Me S View) : Type 0 where
+  pub hand : me.1 ≡ []
+  pub idle : IsIdle me.0
 
 -- the pass took the turn, with a value that tells this
 pub record TookTurn {K : Type 0} (old new : Me (Option K) View) (found : Ledger) : Type 0 where

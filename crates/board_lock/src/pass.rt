@@ -11,7 +11,6 @@ pub struct Pass<K> {
     number: u32,
     ghost numbered: { seat.me.0.who.number ≡ number },
     ghost up: { seat.me.0.who.resting ≡ false },
-    ghost there: { seat.me.0.who.gone ≡ false },
 }
 
 /// A pass that carries connections to workers.
@@ -22,7 +21,6 @@ impl<K> Pass<K> {
     pub fn of(seat: Seat<Option<K>, View>, number: u32) -> Pass<K>
         requires number { seat.me.0.who.number ≡ number }
         requires up { seat.me.0.who.resting ≡ false }
-        requires there { seat.me.0.who.gone ≡ false }
         ensures { result.seat ≡ seat }
     {
         Pass { seat, number }

@@ -29,7 +29,7 @@ use Rattle.conn_machine.proofs.SizeLemmas.{length-update}
 -- ---- a list of children after a change
 
 -- the child of a number that passes a test is one of the list
-passes-child : (test : Child → Bool) (cs : List Child) (k : ℕ) → option_map_or test (slice_get cs k) false ≡ true
+pub passes-child : (test : Child → Bool) (cs : List Child) (k : ℕ) → option_map_or test (slice_get cs k) false ≡ true
     → (k < length cs) × (test (child_at cs k) ≡ true)
 passes-child test [] k passes = absurd (cc)
 passes-child test (c ∷ cs) zero passes = (omega arith, passes)

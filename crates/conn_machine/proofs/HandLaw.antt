@@ -19,7 +19,7 @@ use Rattle.conn_machine.proofs.FoldLemmas.{goes_on, no_row_at_first, no_row_behi
 use Rattle.conn_machine.proofs.HistoryLemmas.{row_by, row_none, seen_same}
 use Rattle.conn_machine.proofs.OwnRows.{IsMetAt, IsOwned, met, none_some, opened_owned, owned, row_stays, rows_from, same_owned, some_is}
 
-hand_live : (place : Place) → is_with_a_pass place ≡ true → not (is_unused place) ≡ true
+pub hand_live : (place : Place) → is_with_a_pass place ≡ true → not (is_unused place) ≡ true
 hand_live Vacant is = absurd (cc)
 hand_live Spent is = absurd (cc)
 hand_live Held is = refl

@@ -2,6 +2,7 @@ pub mod AcceptLemmas
 pub mod AcceptedLaw
 pub mod AllowedLemmas
 pub mod ArrivalLaw
+pub mod BetweenTurnsLaw
 pub mod CellLaw
 pub mod CellLemmas
 pub mod ChanceLemmas

@@ -45,7 +45,7 @@ signal-written (x ∷ signals) (suc slot) (suc at) b set =
     (signal-written signals slot at b set)
 
 -- no more of the numbers pass a test that each of them passes only with the other
-range-few : (p q : ℕ → Bool) (a n : ℕ) → ((i : ℕ) → p i ≡ true → q i ≡ true) → count_by p (range_with_len a n) ≤ count_by q (range_with_len a n)
+pub range-few : (p q : ℕ → Bool) (a n : ℕ) → ((i : ℕ) → p i ≡ true → q i ≡ true) → count_by p (range_with_len a n) ≤ count_by q (range_with_len a n)
 range-few p q a zero with_it = omega arith
 range-few p q a (suc n) with_it =
     let here = test_le (p a) (q a) (with_it a) in
@@ -71,15 +71,15 @@ range-fewer p q a (suc n) at with_it low high passes fails = elim (ℕ_discrete 
 -- ## One event
 
 -- a connection that waits and lingers goes on so
-abbrev LingersOnAt : State → State → Type 0
+abbrev pub LingersOnAt : State → State → Type 0
 LingersOnAt s s' = (slot : ℕ) → lingers_at s slot ≡ true → lingers_at s' slot ≡ true
 
 -- so much is left of a state
-record Leaves (s s' : State) : Type 0 where
-  rest : OnlyServes s s'
-  lingers : LingersOnAt s s'
+pub record Leaves (s s' : State) : Type 0 where
+  pub rest : OnlyServes s s'
+  pub lingers : LingersOnAt s s'
 
-leaves_same : (s : State) → Leaves s s
+pub leaves_same : (s : State) → Leaves s s
 leaves_same s = record {
   rest = record {
     moment = refl;
@@ -221,7 +221,7 @@ serves_on true false is = refl
 serves_on false false is = refl
 
 -- what only the listener may do, another pass doesn't
-listener_alone : {P : Type 0} (p : ℕ) → p ≢ 0 → (p == 0) ≡ true → P
+pub listener_alone : {P : Type 0} (p : ℕ) → p ≢ 0 → (p == 0) ≡ true → P
 listener_alone p other is = absurd (other (eqb-true p 0 is))
 
 not_true : (b : Bool) → not b ≡ true → b ≡ false
@@ -263,7 +263,7 @@ event_leaves s p had (event.Retire k) other may role = listener_alone p other ro
 
 -- ## One event after the other
 
-leaves_more : (a b c : State) → Leaves a b → Leaves b c → Leaves a c
+pub leaves_more : (a b c : State) → Leaves a b → Leaves b c → Leaves a c
 leaves_more a b c first second = record {
   rest = record {
     moment = second.rest.moment ∙ first.rest.moment;
@@ -283,7 +283,7 @@ leaves_more a b c first second = record {
   lingers = λ slot on. second.lingers slot (first.lingers slot on);
 }
 
-entry_leaves : (p : ℕ) (base : State) (f : Folded) (before : List Entry) (e : Entry) → p ≢ 0 → IsNextOf p base f before e
+pub entry_leaves : (p : ℕ) (base : State) (f : Folded) (before : List Entry) (e : Entry) → p ≢ 0 → IsNextOf p base f before e
     → Leaves (after base before) (after base (before ++ e ∷ []))
 entry_leaves p base f before e other is =
     subst (Leaves (after base before)) (sym (after-snoc base before e))
@@ -310,7 +310,7 @@ adds_only_serve p base f old new other adds = (adds_leave p base f old new other
 -- ## How many slots ask for service
 
 -- what asks afterwards asked before
-asked_before : (s s' : State) → Leaves s s' → (slot : ℕ) → asks_service s' slot ≡ true → asks_service s slot ≡ true
+pub asked_before : (s s' : State) → Leaves s s' → (slot : ℕ) → asks_service s' slot ≡ true → asks_service s slot ≡ true
 asked_before s s' left slot asks =
     let set : is_signalled s' slot ≡ true = (and_parts (is_signalled s' slot) (not (lingers_at s' slot)) asks).0 in
     let serves : lingers_at s' slot ≡ false = not_true (lingers_at s' slot) (and_parts (is_signalled s' slot) (not (lingers_at s' slot)) asks).1 in
@@ -329,7 +329,7 @@ as_many_rows : (s : State) (entries : List Entry) → length (after s entries).r
 as_many_rows s [] = refl
 as_many_rows s (e ∷ entries) = as_many_rows (next s e.event) entries ∙ length-rows s e.event
 
-same_rows : (base : State) (old added : List Entry) → length (after base (old ++ added)).rows ≡ length (after base old).rows
+pub same_rows : (base : State) (old added : List Entry) → length (after base (old ++ added)).rows ≡ length (after base old).rows
 same_rows base old added = ap (λ (s : State). length s.rows) (after-append base old added) ∙ as_many_rows (after base old) added
 
 -- so no more slots do

@@ -1,4 +1,5 @@
 pub mod Arrivals
+pub mod BetweenTurns
 pub mod Children
 pub mod CountsInside
 pub mod Events

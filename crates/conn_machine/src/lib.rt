@@ -4,7 +4,7 @@
 //! It is one definition, `is_allowed`, `next` and `reply` in `specs/Table.antt`, on one list of rows whose counts
 //! are filters. Histories of the machine, the order of each pass's entries, and what a pass may add stand in
 //! `specs/Runs.antt`. `may` and `step` are the same table as a plain program. What the table is worth is said by `laws`, how
-//! histories go on by `laws_of_runs`. A list of rows keeps its counts beside it, so no event but a Tick makes `may` or `step`
+//! histories go on by `laws_of_runs`, and what a pass finds again behind the entries of others by `laws_between_turns`. A list of rows keeps its counts beside it, so no event but a Tick makes `may` or `step`
 //! go over the rows. A row keeps the number of its responses, and no memory for any of them.
 //!
 //! A value that is `Kept` tells a ledger: a history, the state before it, and a record of the entries before that state, which
@@ -19,6 +19,7 @@ mod event;
 mod folded;
 mod kept;
 pub mod laws;
+pub mod laws_between_turns;
 pub mod laws_of_runs;
 mod row;
 mod row_notes;

@@ -1,7 +1,6 @@
 -- What calls on idle words found and leave.
-use Rattle.std.specs.Prelude.{◌≡◌, ◌≤◌, ℕ, ◌+◌, ◌-◌, ◌==◌, nat_lt, Bool, true, false, slice_index, List, [], ◌∷◌, None, Some}
+use Rattle.std.specs.Prelude.{◌≡◌, ◌≤◌, ℕ, ◌+◌, ◌-◌, ◌==◌, nat_lt, Bool, true, false, slice_index, [], ◌∷◌, None, Some}
 use prog.Atomic.{either}
-use Rattle.conn_machine.specs.declared.event.Entry.{Entry}
 use Rattle.conn_machine.specs.Folds.{opening_record}
 use Rattle.conn_machine.specs.Laws.{idle_in}
 use Rattle.conn_machine.specs.Made.{AreMade, HasSeen}
@@ -11,7 +10,7 @@ use Rattle.table_rule.specs.Histories.{threads_of}
 use Rattle.table_rule.specs.IdleWords.{bias}
 use Rattle.table_rule.specs.Pasts.{MakesSteps, MakesStepOn}
 use Rattle.table_rule.specs.Steps.{uncredited_view}
-use Rattle.table_rule.specs.Views.{credited_view, with_permit}
+use Rattle.table_rule.specs.Views.{credited_view, seeing_view, with_permit}
 
 -- a worker of the child was reserved, exactly where the step that tried found a number above the bias; it left one less. Else
 -- another step left one more again, and nothing but the two steps changed
@@ -31,16 +30,16 @@ abbrev pub ReleasesPermit : ℕ → View → View → Type 0
 ReleasesPermit child old new =
     (found : ℕ) × MakesStepOn (child + 2) found (found + 1) old (with_permit None old) new
 
--- the answer is the number that a step found, less the bias, and the step changed nothing; after some history that passes made
--- as they may, and that goes on from what the pass had seen, at least so many workers of the child carried no connection
+-- the answer is the number that a step found, less the bias; the step changed nothing, but that the pass has seen the history of that
+-- moment, which goes on from what it had seen by entries that others made as they may: behind it at least so many workers of the child
+-- carry no connection
 pub record FoundIdle (child : ℕ) (old : View) (count : ℕ) (new : View) : Type 0 where
   pub found : ℕ
   pub answer : count ≡ found - bias
-  pub looked : MakesStepOn (child + 2) found found old old new
-  pub history : List Entry
-  pub seen : HasSeen old.who.number old.seen history
-  pub made : AreMade old.origin.state (opening_record old.origin.passes) history
-  pub free : count ≤ idle_in (after old.origin.state history) child
+  pub looked : MakesStepOn (child + 2) found found old (seeing_view new.seen old) new
+  pub seen : HasSeen old.who.number old.seen new.seen
+  pub made : AreMade old.origin.state (opening_record old.origin.passes) new.seen
+  pub free : count ≤ idle_in (after old.origin.state new.seen) child
 
 -- the child has the credit of so many workers, by one step, which left so many more than it found
 abbrev pub GivesCredit : ℕ → ℕ → View → View → Type 0

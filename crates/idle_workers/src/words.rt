@@ -44,7 +44,8 @@ pub fn release<K: Kept>(shared: &Shared<K>, carrier: &mut Carrier<K>, child: u32
     let _ = table.fetch_add::<ReleaseStep>(&mut carrier.seat, child as usize + 2, 1);
 }
 
-/// How many workers of the child nobody has a permit of, less those that are tried for just now.
+/// How many workers of the child nobody has a permit of, less those that are tried for just now. The pass has seen the history of that
+/// moment then, behind which at least so many of them carry no connection.
 pub fn idle<K: Kept>(shared: &Shared<K>, pass: &mut Pass<K>, child: u32) -> u32
     requires own { pass.old.seat.table_id ≡ shared.now.table.shared.table_id }
     requires child { child < 32 }

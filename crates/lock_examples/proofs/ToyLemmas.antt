@@ -374,8 +374,8 @@ some_children = omega arith
 
 -- a fresh pass is ready
 pub ready : {K : Type 0} (origin : Origin) (p : ℕ) (me : Me (Option K) View) → me ≡ (fresh_view origin p, []) → IsReadyPass me
-ready origin zero me is = subst IsReadyPass (sym is) record { free = record { hand = refl; turn = refl }; idle = record { turn = refl; hand = refl; row = refl }; credits = refl; room = λ e. some_children }
-ready origin (suc p) me is = subst IsReadyPass (sym is) record { free = record { hand = refl; turn = refl }; idle = record { turn = refl; hand = refl; row = refl }; credits = refl; room = λ e. absurd (cc) }
+ready origin zero me is = subst IsReadyPass (sym is) record { free = record { hand = refl; idle = record { turn = refl; hand = refl; row = refl } }; credits = refl; room = λ e. some_children }
+ready origin (suc p) me is = subst IsReadyPass (sym is) record { free = record { hand = refl; idle = record { turn = refl; hand = refl; row = refl } }; credits = refl; room = λ e. absurd (cc) }
 
 -- ## Lists
 

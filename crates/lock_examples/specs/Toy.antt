@@ -16,8 +16,7 @@ use Rattle.conn_machine.specs.Runs.{after}
 use Rattle.conn_machine.specs.States.{opening_state}
 use Rattle.atomic_table.specs.Table.{Me}
 use Rattle.table_rule.specs.declared.view.View.{View}
-use Rattle.table_rule.specs.Views.{IsIdle}
-use Rattle.board_lock.specs.Passes.{HasNoTurn}
+use Rattle.board_lock.specs.Passes.{IsFree}
 use Rattle.lock_examples.specs.declared.stage.ToyStage.{ToyStage}
 use Rattle.lock_examples.specs.declared.stage.ToyStage.TheVariants.{Starts, Takes, Signals, Serves}
 
@@ -154,7 +153,6 @@ FoldsBetween p old new =
 
 -- a pass of a new lock with the value: it has nothing, nothing was folded, and no child has a credit
 pub record IsReadyPass {K : Type 0} (me : Me (Option K) View) : Type 0 where
-  pub free : HasNoTurn me
-  pub idle : IsIdle me.0
+  pub free : IsFree me
   pub credits : slice_index me.0.credits 0 ≡ 0
   pub room : me.0.who.number ≡ 0 → 0 < length me.0.credits

@@ -1,7 +1,6 @@
 //! Permits of the small value's child.
 ghost use Rattle.std.specs.Prelude.{◌≡◌, ◌<◌, true, length, slice_index};
-ghost use Rattle.board_lock.specs.Passes.{HasNoTurn};
-ghost use Rattle.table_rule.specs.Views.{IsIdle};
+ghost use Rattle.board_lock.specs.Passes.{HasNoTurn, IsFree};
 
 use crate::toy::Toy;
 use board_lock::{Carrier, Pass, Shared};
@@ -12,11 +11,9 @@ use std::sync::Wait;
 /// Reserves a worker of child 0 so often, and releases it again where it got one: how often it got one.
 pub fn reserves(shared: &Shared<Box<Toy>>, carrier: &mut Carrier<Box<Toy>>, times: u32) -> u32
     requires own { carrier.old.seat.table_id ≡ shared.now.table.shared.table_id }
-    requires free { IsIdle carrier.old.seat.me.0 }
-    requires hand { HasNoTurn carrier.old.seat.me }
+    requires free { IsFree carrier.old.seat.me }
     ensures own { carrier.new.seat.table_id ≡ carrier.old.seat.table_id }
-    ensures free { IsIdle carrier.new.seat.me.0 }
-    ensures hand { HasNoTurn carrier.new.seat.me }
+    ensures free { IsFree carrier.new.seat.me }
 {
     let mut got = 0;
     for _ in 0..times {
@@ -30,11 +27,9 @@ pub fn reserves(shared: &Shared<Box<Toy>>, carrier: &mut Carrier<Box<Toy>>, time
 /// Reserves a worker of child 0, and releases it again where it got one: whether it did.
 pub fn reserves_once(shared: &Shared<Box<Toy>>, carrier: &mut Carrier<Box<Toy>>) -> bool
     requires own { carrier.old.seat.table_id ≡ shared.now.table.shared.table_id }
-    requires free { IsIdle carrier.old.seat.me.0 }
-    requires hand { HasNoTurn carrier.old.seat.me }
+    requires free { IsFree carrier.old.seat.me }
     ensures own { carrier.new.seat.table_id ≡ carrier.old.seat.table_id }
-    ensures free { IsIdle carrier.new.seat.me.0 }
-    ensures hand { HasNoTurn carrier.new.seat.me }
+    ensures free { IsFree carrier.new.seat.me }
     ensures who { carrier.new.seat.me.0.who ≡ carrier.old.seat.me.0.who }
 {
     if !reserve(shared, carrier, 0) {

@@ -4,6 +4,7 @@
 //! connection and signals it, and pass 1 serves it, over and over (`specs/Toy.antt`). Pass 0 may fold what was done.
 #![tactic(auto)]
 
+mod holding;
 mod idles;
 mod opening;
 mod player;
@@ -14,6 +15,7 @@ mod texts;
 mod toy;
 mod turns;
 
+pub use holding::{ASKS, HAS_TURN, holds, wait_for};
 pub use idles::{credits, reserves, reserves_once};
 pub use opening::{last_of, opened, opened_plain};
 pub use player::{Player, players};

@@ -1,7 +1,6 @@
 //! Turns with the small value.
 ghost use Rattle.std.specs.Prelude.{◌≡◌, Some, None};
-ghost use Rattle.board_lock.specs.Passes.{HasNoTurn};
-ghost use Rattle.table_rule.specs.Views.{IsIdle};
+ghost use Rattle.board_lock.specs.Passes.{HasNoTurn, IsFree};
 
 use crate::toy::Toy;
 use board_lock::{Carrier, Pass, Shared};
@@ -58,12 +57,10 @@ pub fn folds<R: Wait>(rt: &R, shared: &Shared<Box<Toy>>, pass: &mut Pass<Box<Toy
 /// Pass 1 reserves a worker and serves the connection, where it is signalled, and gives the worker back: whether it served.
 pub fn serves<R: Wait>(rt: &R, shared: &Shared<Box<Toy>>, carrier: &mut Carrier<Box<Toy>>) -> bool
     requires own { carrier.old.seat.table_id ≡ shared.now.table.shared.table_id }
-    requires idle { IsIdle carrier.old.seat.me.0 }
-    requires hand { HasNoTurn carrier.old.seat.me }
+    requires free { IsFree carrier.old.seat.me }
     requires number { carrier.old.seat.me.0.who.number ≡ 1 }
     ensures own { carrier.new.seat.table_id ≡ carrier.old.seat.table_id }
-    ensures idle { IsIdle carrier.new.seat.me.0 }
-    ensures hand { HasNoTurn carrier.new.seat.me }
+    ensures free { IsFree carrier.new.seat.me }
     ensures who { carrier.new.seat.me.0.who ≡ carrier.old.seat.me.0.who }
 {
     if !reserve(shared, carrier, 0) {

@@ -9,6 +9,7 @@
 //! - `perch`: two carriers lie down, are taken, and lie down again.
 //! - `turns THREADS`: pass 0 signals the connection a thousand times and folds now and then, pass 1 serves it each time, and each
 //!   further thread looks a thousand times. Each entry is compared with the one that must stand in its place.
+//! - `sleep`: a thread holds the turn until another one sleeps for it, which only the turn's return ends.
 //! - `contend THREADS`: each thread tries two thousand times for a permit of a child that has two workers, and gives it back.
 //! - `travel`: three carriers leave their perch two thousand times, a thousand times by each of two threads that send them through a
 //!   queue, and lie down again as two other threads receive them.
@@ -23,6 +24,7 @@ mod perches;
 mod permits;
 mod posts;
 mod queues;
+mod sleeps;
 mod travels;
 mod turns;
 
@@ -30,6 +32,7 @@ use std::alloc::Global;
 use std::io;
 use std::sync::Wait;
 use std::thread::Threads;
+use std::time::Clock;
 use test_rows::{Section, begin_section, sections_of, small_of};
 
 fn main(rt: HostRuntime) -> io::Result<()> {
@@ -42,7 +45,7 @@ fn main(rt: HostRuntime) -> io::Result<()> {
 }
 
 /// Shows what comes of the section.
-fn show_section<R: Print + Threads + Wait + Sync>(
+fn show_section<R: Print + Threads + Wait + Clock + Sync>(
     rt: &R,
     alloc: Global,
     section: Section<'_>,
@@ -53,6 +56,7 @@ fn show_section<R: Print + Threads + Wait + Sync>(
         "permits" => permits::show_permits(rt, alloc),
         "perch" => perches::show_perch(rt, alloc),
         "turns" => turns::show_turns(rt, alloc, small_of(rest)),
+        "sleep" => sleeps::show_sleep(rt, alloc),
         "contend" => contended::show_contention(rt, alloc, small_of(rest)),
         "queue" => queues::show_queue(rt, alloc, rest, rows),
         "relay" => queues::show_relay(rt, alloc, rest),

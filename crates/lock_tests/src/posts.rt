@@ -1,35 +1,25 @@
 //! The ends of a way on which carriers travel through a queue.
-ghost use Rattle.std.specs.Prelude.{◌≡◌, ℕ, [], Some, slice_get};
-ghost use Rattle.atomic_table.specs.Seated.{TableId};
+ghost use Rattle.std.specs.Prelude.{◌≡◌, ℕ, Some, slice_get};
 ghost use Rattle.crossbeam_queue.specs.Passes.{IsPassOf};
 ghost use Rattle.recycle_perch.specs.Looking.{AllAreOf, AreOf};
 ghost use Rattle.recycle_perch.specs.Resting.{IsFreeCarrier};
 
-use board_lock::Carrier;
+use board_lock::{Carrier, Room};
 use fd_queue::{FdQueue, FdSeat, Item};
 use lock_examples::{Toy, last_looks, last_seat, reserves_once};
 use mpm_base::NoMemory;
 use recycle_perch::{Looks, Perch};
 use std::alloc::Global;
-use std::marker::{Brand, PhantomData};
+use std::marker::PhantomData;
 use std::sync::Wait;
 use std::thread;
 
 /// How many carriers each thread sends, or receives.
 const ROUNDS: u32 = 1_000;
 
-/// Which lock it is.
-pub trait Lock {
-    ghost table: { TableId };
-}
-
-impl Lock for Brand {
-    ghost table = { record { words = 0; slots = 0; views_name = 0; atom = 0; block = 0; offset = 0; slot_names = [] } };
-}
-
 /// A carrier on its way.
 #[derive(Drop)]
-pub struct Parcel<B: Lock> {
+pub struct Parcel<B: Room> {
     carrier: Carrier<Box<Toy>>,
     of: PhantomData<B>,
     ghost own: { carrier.seat.table_id ≡ B.table },
@@ -38,7 +28,7 @@ pub struct Parcel<B: Lock> {
 
 /// One end of the way.
 #[derive(Drop)]
-pub struct Post<'q, 'p, 'a, B: Lock> {
+pub struct Post<'q, 'p, 'a, B: Room> {
     perch: &'p Perch<'a, Box<Toy>>,
     looks: Looks,
     queue: &'q FdQueue<Parcel<B>>,
@@ -49,7 +39,7 @@ pub struct Post<'q, 'p, 'a, B: Lock> {
     ghost own: { IsPassOf queue.now.ring seat },
 }
 
-impl<'q, 'p, 'a, B: Lock> Post<'q, 'p, 'a, B> {
+impl<'q, 'p, 'a, B: Room> Post<'q, 'p, 'a, B> {
     /// Takes a carrier as soon as one rests.
     fn take<R: Wait>(&mut self, rt: &R) -> Parcel<B> {
         for _ in rt.forever() {
@@ -120,7 +110,7 @@ impl<'q, 'p, 'a, B: Lock> Post<'q, 'p, 'a, B> {
 }
 
 /// The ends of a way: half of them send, the others receive.
-pub fn posts<'q, 'p, 'a, B: Lock>(
+pub fn posts<'q, 'p, 'a, B: Room>(
     alloc: Global,
     perch: &'p Perch<'a, Box<Toy>>,
     all: &mut Vec<Looks>,

@@ -1,12 +1,12 @@
 //! Carriers that rest on a perch, travel through a queue, and come back.
-ghost use Rattle.std.specs.Prelude.{◌≡◌, ℕ, IfSome, Some, slice_get};
+ghost use Rattle.std.specs.Prelude.{◌≡◌, IfSome};
 ghost use Rattle.recycle_perch.specs.Looking.{AllAreOf, AreOf};
 ghost use Rattle.recycle_perch.specs.Resting.{IsFreeCarrier};
 ghost use Rattle.lock_examples.specs.Toy.{IsReadyPass};
 
 use crate::begins::begins;
-use crate::posts::{Lock, Parcel, Post, posts};
-use board_lock::{Carrier, Pass, number};
+use crate::posts::{Parcel, Post, posts};
+use board_lock::{Carrier, Pass, Room, number};
 use fd_queue::FdQueue;
 use idle_workers::{idle, uncredit};
 use lock_examples::{Toy, last_looks, last_of, opened};
@@ -44,7 +44,7 @@ pub fn show_travel<R: Print + Threads + Wait + Sync>(rt: &R, alloc: Global) -> i
 }
 
 /// Carriers go from the perch through a queue and back, with as many threads as there are to be: how many did all.
-fn travel<'a, B: Lock + Send + Sync, R: Threads + Wait + Sync>(
+fn travel<'a, B: Room + Send + Sync, R: Threads + Wait + Sync>(
     rt: &R,
     alloc: Global,
     perch: &Perch<'a, Box<Toy>>,
@@ -62,29 +62,24 @@ fn travel<'a, B: Lock + Send + Sync, R: Threads + Wait + Sync>(
     Ok(done.iter().filter(|done| **done).count())
 }
 
-/// The last of the passes, where it isn't pass 0 and has room for a place on the perch.
+/// The pass, where it isn't pass 0 and is the next that has a place on the perch.
 fn admitted<'a>(
     perch: &mut Perch<'a, Box<Toy>>,
     all: &mut Vec<Looks>,
-    passes: &mut Vec<Pass<Box<Toy>>>,
+    pass: Pass<Box<Toy>>,
 ) -> Option<Carrier<Box<Toy>>>
     requires looks { AllAreOf perch.old.places all.old.items }
-    requires own { (p : ℕ) (pass : _) → slice_get passes.old.items p ≡ Some pass → pass.seat.table_id ≡ perch.old.shared.now.table.shared.table_id }
-    requires ready { (p : ℕ) (pass : _) → slice_get passes.old.items p ≡ Some pass → IsReadyPass pass.seat.me }
+    requires own { pass.seat.table_id ≡ perch.old.shared.now.table.shared.table_id }
+    requires ready { IsReadyPass pass.seat.me }
     ensures looks { AllAreOf perch.new.places all.new.items }
     ensures perch { perch.new.shared.now.table.shared.table_id ≡ perch.old.shared.now.table.shared.table_id }
-    ensures own { (p : ℕ) (pass : _) → slice_get passes.new.items p ≡ Some pass → pass.seat.table_id ≡ perch.old.shared.now.table.shared.table_id }
-    ensures ready { (p : ℕ) (pass : _) → slice_get passes.new.items p ≡ Some pass → IsReadyPass pass.seat.me }
     ensures lock { IfSome result (λ carrier. carrier.seat.table_id ≡ perch.old.shared.now.table.shared.table_id) }
     ensures free { IfSome result (λ carrier. IsFreeCarrier carrier.seat.me) }
 {
-    let Some(carrier) = last_of(perch.shared, passes) else {
-        return None;
-    };
-    if number(&carrier) == 0 {
+    if number(&pass) == 0 {
         return None;
     }
-    match perch.admit(all, carrier) {
+    match perch.admit(all, pass) {
         Ok(carrier) => Some(carrier),
         Err(_) => None,
     }
@@ -96,18 +91,27 @@ fn come_back<R: Threads + Wait + Sync>(
     alloc: Global,
 ) -> Result<Option<Travelled>, NoMemory> {
     let (shared, mut passes) = opened(alloc, 4)?;
+    let Some(three) = last_of(&shared, &mut passes) else {
+        return Ok(None);
+    };
+    let Some(two) = last_of(&shared, &mut passes) else {
+        return Ok(None);
+    };
+    let Some(one) = last_of(&shared, &mut passes) else {
+        return Ok(None);
+    };
+    let Some(mut zero) = last_of(&shared, &mut passes) else {
+        return Ok(None);
+    };
     let mut perch = Perch::make(alloc, &shared, 3)?;
     let mut all = perch.looks(alloc, 5)?;
-    let Some(three) = admitted(&mut perch, &mut all, &mut passes) else {
+    let Some(one) = admitted(&mut perch, &mut all, one) else {
         return Ok(None);
     };
-    let Some(two) = admitted(&mut perch, &mut all, &mut passes) else {
+    let Some(two) = admitted(&mut perch, &mut all, two) else {
         return Ok(None);
     };
-    let Some(one) = admitted(&mut perch, &mut all, &mut passes) else {
-        return Ok(None);
-    };
-    let Some(mut zero) = last_of(perch.shared, &mut passes) else {
+    let Some(three) = admitted(&mut perch, &mut all, three) else {
         return Ok(None);
     };
     let Some(mut found) = last_looks(&perch, &mut all) else {

@@ -1,2 +1,4 @@
+mod CarrierLemmas
 mod LookLemmas
 mod StepLemmas
+mod WakeLemmas

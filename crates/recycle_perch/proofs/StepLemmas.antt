@@ -9,7 +9,7 @@ use Rattle.atomic_table.specs.Marked.{Comes, Keeps}
 use Rattle.table_rule.specs.declared.trail.Step.{Step}
 use Rattle.recycle_perch.specs.StepsInside.{AddsStep, LaysDown, Takes}
 use Rattle.recycle_perch.specs.Words.{deed}
-use Rattle.recycle_perch.specs.WordsInside.{IsRestNumber, IsRestWord, LeaveRests}
+use Rattle.recycle_perch.specs.Words.{IsRestNumber, IsRestWord, LeaveRests}
 use Rattle.table_rule.specs.Trails.{AreNumbered, AreOfMakers, GoesOn, steps_by}
 
 -- ## What is taken of trails

@@ -1,5 +1,6 @@
+pub mod Carriers
 pub mod Looking
+pub mod LookingInside
 pub mod Resting
 pub mod StepsInside
 pub mod Words
-pub mod WordsInside

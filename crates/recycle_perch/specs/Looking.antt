@@ -1,5 +1,5 @@
 -- What the steps of one caller found, place by place.
-use Rattle.std.specs.Prelude.{◌≡◌, ℕ, zero, suc, ◌<◌, ◌==◌, Bool, true, List, [], ◌∷◌, ◌++◌, map, length, take, slice_get, slice_index, Some, Vec, vec_capacity, if◌then◌else◌}
+use Rattle.std.specs.Prelude.{◌≡◌, ◌≢◌, ◌⊎◌, ℕ, zero, suc, ◌+◌, ◌-◌, ◌≤◌, List, [], ◌∷◌, ◌++◌, map, length, slice_get, Some, Vec, vec_capacity}
 use Rattle.recycle_perch.specs.declared.looks.Looks.{Looks}
 use Rattle.recycle_perch.specs.declared.place.RestPlace.{RestPlace}
 use Rattle.recycle_perch.specs.Words.{deeds, laid_none, laid_one, took_none, took_one}
@@ -10,9 +10,10 @@ use Rattle.recycle_perch.specs.Words.{deeds, laid_none, laid_one, took_none, too
 abbrev pub word_names_of : {K : Type 0} → List (RestPlace K) → List ℕ
 word_names_of places = map (λ place. place.perch.name) places
 
--- the numbers of the carriers that the places are for
-abbrev pub carriers_of : {K : Type 0} → List (RestPlace K) → List ℕ
-carriers_of places = map (λ place. place.number) places
+-- each place is for the carrier whose number is one more than the place's
+abbrev pub AreInOrder : {K : Type 0} → List (RestPlace K) → Type 0
+AreInOrder {K} places =
+    (i : ℕ) (place : RestPlace K) → slice_get places i ≡ Some place → place.number ≡ i + 1
 
 -- there is one place more behind all others, for the carrier of that number
 abbrev pub HasPlaceMore : {K : Type 0} → ℕ → List (RestPlace K) → List (RestPlace K) → Type 0
@@ -43,41 +44,42 @@ AllAreOf places all = AllLookAt (word_names_of places.items) (vec_capacity place
 
 -- ## The steps of one call
 
--- one step more at a place
+-- one step more at a place, where there is that place
 abbrev pub with_step_at : ℕ → ℕ × ℕ → List (List (ℕ × ℕ)) → List (List (ℕ × ℕ))
 with_step_at place step [] = []
 with_step_at zero step (before ∷ others) = (before ++ step ∷ []) ∷ others
 with_step_at (suc place) step (before ∷ others) = before ∷ with_step_at place step others
 
--- one step more at each place whose number passes the test
-abbrev pub with_steps : ℕ × ℕ → (ℕ → Bool) → List ℕ → List (List (ℕ × ℕ)) → List (List (ℕ × ℕ))
-with_steps step test [] all = all
-with_steps step test (number ∷ numbers) [] = []
-with_steps step test (number ∷ numbers) (before ∷ others) =
-    (if test number then before ++ step ∷ [] else before) ∷ with_steps step test numbers others
+-- one step more at each place, which found none there, and left none
+pub record FoundNone (before after : List (List (ℕ × ℕ))) : Type 0 where
+  pub long : length after ≡ length before
+  pub each : (place : ℕ) (known : List (ℕ × ℕ))
+      → slice_get before place ≡ Some known
+      → slice_get after place ≡ Some (known ++ took_none ∷ [])
 
--- one step more at each of the places, which found none there, and left none
-abbrev pub with_none_found : List ℕ → List (List (ℕ × ℕ)) → List (List (ℕ × ℕ))
-with_none_found numbers all = with_steps took_none (λ _. true) numbers all
+-- at the place no step more, or one which found none there, and left none
+abbrev pub MayHaveTried : List (List (ℕ × ℕ)) → List (List (ℕ × ℕ)) → ℕ → Type 0
+MayHaveTried before after place =
+    (known : List (ℕ × ℕ))
+    → slice_get before place ≡ Some known
+    → (slice_get after place ≡ Some known) ⊎ (slice_get after place ≡ Some (known ++ took_none ∷ []))
 
--- one step more at each place of this carrier, which found another one there, and left it
-abbrev pub with_taken_found : ℕ → List ℕ → List (List (ℕ × ℕ)) → List (List (ℕ × ℕ))
-with_taken_found carrier numbers all =
-    with_steps laid_none (λ number. number == carrier) numbers all
+-- the carrier of that number was taken from its place, by one step more there; whatever other places were tried, by one step each,
+-- none was found there
+pub record WasTaken (carrier : ℕ) (before after : List (List (ℕ × ℕ))) : Type 0 where
+  pub long : length after ≡ length before
+  pub some : 1 ≤ carrier
+  pub within : carrier ≤ length before
+  pub there : (known : List (ℕ × ℕ))
+      → slice_get before (carrier - 1) ≡ Some known
+      → slice_get after (carrier - 1) ≡ Some (known ++ took_one ∷ [])
+  pub others : (place : ℕ) → place ≢ carrier - 1 → MayHaveTried before after place
 
--- the carrier of that number was taken from its place; at each place before that one none was found
-pub record WasTaken (carrier : ℕ) (numbers : List ℕ)
-    (before after : List (List (ℕ × ℕ))) : Type 0 where
-  pub place : ℕ
-  pub within : place < length numbers
-  pub its : slice_index numbers place ≡ carrier
-  pub steps : after ≡ with_step_at place took_one (with_none_found (take place numbers) before)
+-- the carrier of that number was laid down on its place, where none rested, by one step there and no other
+pub record WasLaidDown (carrier : ℕ) (before after : List (List (ℕ × ℕ))) : Type 0 where
+  pub within : carrier ≤ length before
+  pub steps : after ≡ with_step_at (carrier - 1) laid_one before
 
--- the carrier of that number was laid down on a place of its own, where none rested
-pub record WasLaidDown (carrier : ℕ) (numbers : List ℕ)
-    (before after : List (List (ℕ × ℕ))) : Type 0 where
-  pub place : ℕ
-  pub within : place < length numbers
-  pub its : slice_index numbers place ≡ carrier
-  pub steps : after
-      ≡ with_step_at place laid_one (with_taken_found carrier (take place numbers) before)
+-- the carrier of that number came back: by one step on its place, and no other, one was found there; where it has none no step was made
+abbrev pub CameBack : ℕ → List (List (ℕ × ℕ)) → List (List (ℕ × ℕ)) → Type 0
+CameBack carrier before after = after ≡ with_step_at (carrier - 1) laid_none before

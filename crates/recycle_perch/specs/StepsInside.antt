@@ -3,7 +3,7 @@ use Rattle.std.specs.Prelude.{◌≡◌, ◌==◌, ℕ, List, [], ◌∷◌, ◌
 use prog.Atomic.{either}
 use Rattle.table_rule.specs.declared.trail.Step.{Step}
 use Rattle.recycle_perch.specs.Words.{deeds}
-use Rattle.recycle_perch.specs.WordsInside.{IsRestNumber}
+use Rattle.recycle_perch.specs.Words.{IsRestNumber}
 
 -- a step is put behind those before it, which found this number and left that one
 abbrev pub AddsStep : ℕ → ℕ → List Step → List Step → Type 0

@@ -1,5 +1,5 @@
 //! What the steps of one caller found.
-ghost use Rattle.std.specs.Prelude.{◌<◌, [], ◌∷◌, ◌++◌, IfOk, vec_len, vec_capacity};
+ghost use Rattle.std.specs.Prelude.{◌≡◌, ◌≤◌, ◌<◌, [], ◌∷◌, ◌++◌, IfOk, vec_len, vec_capacity};
 ghost use Rattle.recycle_perch.specs.Looking.{LookAt};
 
 use crate::word::{PickUpStep, RestRule};
@@ -14,6 +14,8 @@ use table_rule::laws_of_trails::{makers_have_their_own_steps, trails_go_on_by_on
 #[derive(Drop)]
 pub struct Looks {
     pub(crate) marks: Vec<Mark<LinkedList<Step>>>,
+    /// The place at which they look first: the one behind that at which they last found a carrier.
+    next: usize,
 }
 
 impl Looks {
@@ -22,9 +24,23 @@ impl Looks {
         ensures { IfOk result (λ looks. LookAt [] places looks) }
     {
         match Vec::with_capacity(alloc, places) {
-            Ok(marks) => Ok(Looks { marks }),
+            Ok(marks) => Ok(Looks { marks, next: 0 }),
             Err(_) => Err(NoMemory),
         }
+    }
+
+    /// The place at which they look first, of so many.
+    pub(crate) fn first(&self, places: usize) -> usize
+        ensures { result ≤ places }
+    {
+        if self.next < places { self.next } else { 0 }
+    }
+
+    /// They look first behind this place from now on.
+    pub(crate) fn found_at(&mut self, place: usize)
+        ensures { self.new.marks ≡ self.old.marks }
+    {
+        self.next = place.saturating_add(1);
     }
 
     /// Looks at one place more.

@@ -1,6 +1,7 @@
 //! A row of places.
-ghost use Rattle.std.specs.Prelude.{◌≡◌, ◌≤◌, ◌<◌, ◌==◌, [], ◌∷◌, ◌++◌, All, IfOk, IfSome, IfErr, OnOk, OnErr, MatchOption, MatchResult, slice_index, vec_len, vec_capacity, if◌then◌else◌};
-ghost use Rattle.recycle_perch.specs.Looking.{AllAreOf, AllLookAt, AreOf, HasPlaceMore, WasLaidDown, WasTaken, with_none_found, with_taken_found, carriers_of, steps_of, with_step_at, word_names_of};
+ghost use Rattle.std.specs.Prelude.{◌≡◌, ◌≢◌, ◌⊎◌, ◌≤◌, ◌<◌, ◌+◌, [], ◌∷◌, ◌++◌, All, IfOk, IfSome, IfErr, OnOk, OnErr, MatchOption, MatchResult, vec_len, vec_capacity};
+ghost use Rattle.recycle_perch.specs.Looking.{AllAreOf, AllLookAt, AreInOrder, AreOf, CameBack, FoundNone, HasPlaceMore, WasLaidDown, WasTaken, steps_of, with_step_at, word_names_of};
+ghost use Rattle.recycle_perch.specs.LookingInside.{TakenBetween, TriedBetween};
 ghost use Rattle.recycle_perch.specs.Resting.{IsFreeCarrier, IsWokenCarrier};
 ghost use Rattle.recycle_perch.specs.Words.{laid_none, laid_one, took_none, took_one};
 
@@ -11,13 +12,14 @@ use conn_machine::Kept;
 use mpm_base::NoMemory;
 use std::alloc::Global;
 
-/// The places of the carriers of one lock, in the order in which they were admitted.
+/// The places of the carriers of one lock, from that of carrier 1 on.
 #[derive(Drop)]
 pub struct Perch<'a, K: Kept> {
     pub shared: &'a Shared<K>,
     places: Vec<RestPlace<K>>,
     ghost same: { All (λ place. place.perch.table_id ≡ shared.now.table.shared.table_id)
         places.items },
+    ghost in_order: { AreInOrder places.items },
 }
 
 impl<'a, K: Kept> Perch<'a, K> {
@@ -52,7 +54,7 @@ impl<'a, K: Kept> Perch<'a, K> {
     }
 
     /// Makes the place of a carrier that has nothing, to which all looks come too, and hands the carrier back: none rests there
-    /// yet. There is an Err only where there is no room for a place, and then nothing changes.
+    /// yet. There is an Err only where there is no room for a place, or the carrier isn't the next by its number, and then nothing changes.
     pub fn admit(
         &mut self,
         all: &mut Vec<Looks>,
@@ -75,12 +77,15 @@ impl<'a, K: Kept> Perch<'a, K> {
         ensures woken { IfOk result (λ woken. IsWokenCarrier woken.seat.me) }
         ensures number { IfOk result
             (λ woken. woken.seat.me.0.who.number ≡ carrier.seat.me.0.who.number) }
-        ensures full { OnErr result (vec_capacity self.old.places ≤ vec_len self.old.places) }
+        ensures full { OnErr result
+            ((vec_capacity self.old.places ≤ vec_len self.old.places)
+            ⊎ (carrier.seat.me.0.who.number ≢ vec_len self.old.places + 1)) }
         ensures same { OnErr result
             ((self.new.places ≡ self.old.places) × (all.new.items ≡ all.old.items)) }
         ensures back { IfErr result (λ back. back ≡ carrier) }
     {
-        if self.places.len() == self.places.capacity() {
+        let places = self.places.len();
+        if places == self.places.capacity() || number(&carrier) as usize != places + 1 {
             return Err(carrier);
         }
         let (place, woken) = RestPlace::make(self.shared, carrier);
@@ -102,23 +107,45 @@ impl<'a, K: Kept> Perch<'a, K> {
         }
     }
 
-    /// A carrier that has nothing: the first that rests. There is none only where none rested at each place at the moment of
-    /// this call when the place was looked at.
+    /// A carrier that has nothing: one that rests. There is none only where none rested at each place at the moment of this call when the
+    /// place was looked at.
     pub fn take(&self, looks: &mut Looks) -> Option<Carrier<K>>
         requires looks { AreOf self.now.places looks.old }
         ensures looks { AreOf self.now.places looks.new }
-        ensures steps { MatchOption result
-            (steps_of looks.new
-            ≡ with_none_found (carriers_of self.now.places.items) (steps_of looks.old))
-            (λ carrier. WasTaken carrier.seat.me.0.who.number (carriers_of self.now.places.items)
-            (steps_of looks.old) (steps_of looks.new)) }
+        ensures steps { MatchOption result (FoundNone (steps_of looks.old) (steps_of looks.new))
+            (λ carrier. WasTaken carrier.seat.me.0.who.number (steps_of looks.old)
+            (steps_of looks.new)) }
         ensures own { IfSome result
             (λ carrier. carrier.seat.table_id ≡ self.now.shared.now.table.shared.table_id) }
         ensures free { IfSome result (λ carrier. IsFreeCarrier carrier.seat.me) }
         ensures woken { IfSome result (λ carrier. IsWokenCarrier carrier.seat.me) }
     {
-        for i in 0..self.places.len() {
+        let places = self.places.len();
+        let first = looks.first(places);
+        match self.take_between(looks, first, places) {
+            Some(carrier) => Some(carrier),
+            None => self.take_between(looks, 0, first),
+        }
+    }
+
+    /// A carrier that rests at one of the places from the first to before the second.
+    fn take_between(&self, looks: &mut Looks, from: usize, to: usize) -> Option<Carrier<K>>
+        requires looks { AreOf self.now.places looks.old }
+        requires from { from ≤ to }
+        requires to { to ≤ vec_len self.now.places }
+        ensures looks { AreOf self.now.places looks.new }
+        ensures steps { MatchOption result
+            (TriedBetween from to (steps_of looks.old) (steps_of looks.new))
+            (λ carrier. TakenBetween from to carrier.seat.me.0.who.number (steps_of looks.old)
+            (steps_of looks.new)) }
+        ensures own { IfSome result
+            (λ carrier. carrier.seat.table_id ≡ self.now.shared.now.table.shared.table_id) }
+        ensures free { IfSome result (λ carrier. IsFreeCarrier carrier.seat.me) }
+        ensures woken { IfSome result (λ carrier. IsWokenCarrier carrier.seat.me) }
+    {
+        for i in from..to {
             if let Some(carrier) = self.take_at(looks, i) {
+                looks.found_at(i);
                 return Some(carrier);
             }
         }
@@ -137,58 +164,48 @@ impl<'a, K: Kept> Perch<'a, K> {
             (λ carrier. carrier.seat.table_id ≡ self.now.shared.now.table.shared.table_id) }
         ensures free { IfSome result (λ carrier. IsFreeCarrier carrier.seat.me) }
         ensures woken { IfSome result (λ carrier. IsWokenCarrier carrier.seat.me) }
-        ensures number { IfSome result
-            (λ carrier. slice_index (carriers_of self.now.places.items) i
-            ≡ carrier.seat.me.0.who.number) }
+        ensures number { IfSome result (λ carrier. carrier.seat.me.0.who.number ≡ i + 1) }
     {
         let place = &self.places[i];
         let mark = &mut looks.marks[i];
         place.take(self.shared, mark)
     }
 
-    /// Lays a carrier that has nothing down on its place. It comes back only where at each place that is for it another one
-    /// rested at a moment of this call, so also where it has none.
+    /// Lays a carrier that has nothing down on its place. It comes back only where one rested there at a moment of this call, so also where it
+    /// has none.
     pub fn give(&self, looks: &mut Looks, carrier: Carrier<K>) -> Result<(), Carrier<K>>
         requires own { carrier.seat.table_id ≡ self.now.shared.now.table.shared.table_id }
         requires free { IsFreeCarrier carrier.seat.me }
         requires looks { AreOf self.now.places looks.old }
         ensures looks { AreOf self.now.places looks.new }
         ensures steps { MatchResult result
-            (λ _. WasLaidDown carrier.seat.me.0.who.number (carriers_of self.now.places.items)
-            (steps_of looks.old) (steps_of looks.new))
-            (λ _. steps_of looks.new
-            ≡ with_taken_found carrier.seat.me.0.who.number (carriers_of self.now.places.items)
-            (steps_of looks.old)) }
+            (λ _. WasLaidDown carrier.seat.me.0.who.number (steps_of looks.old)
+            (steps_of looks.new))
+            (λ _. CameBack carrier.seat.me.0.who.number (steps_of looks.old) (steps_of looks.new)) }
         ensures own { IfErr result
             (λ back. back.seat.table_id ≡ self.now.shared.now.table.shared.table_id) }
         ensures free { IfErr result (λ back. IsFreeCarrier back.seat.me) }
         ensures number { IfErr result
             (λ back. back.seat.me.0.who.number ≡ carrier.seat.me.0.who.number) }
     {
-        let mut back = carrier;
-        for place in 0..self.places.len() {
-            match self.give_at(looks, place, back) {
-                Ok(()) => return Ok(()),
-                Err(carrier) => back = carrier,
-            }
+        let place = number(&carrier) as usize - 1;
+        if self.places.len() <= place {
+            return Err(carrier);
         }
-        Err(back)
+        self.give_at(looks, place, carrier)
     }
 
-    /// Lays the carrier down where the place is for it. Else it comes back.
+    /// Lays the carrier down on its place.
     fn give_at(&self, looks: &mut Looks, i: usize, carrier: Carrier<K>) -> Result<(), Carrier<K>>
         requires own { carrier.seat.table_id ≡ self.now.shared.now.table.shared.table_id }
         requires free { IsFreeCarrier carrier.seat.me }
+        requires number { carrier.seat.me.0.who.number ≡ i + 1 }
         requires looks { AreOf self.now.places looks.old }
         requires place { i < vec_len self.now.places }
         ensures looks { AreOf self.now.places looks.new }
         ensures step { MatchResult result
-            (λ _. (slice_index (carriers_of self.now.places.items) i ≡ carrier.seat.me.0.who.number)
-            × (steps_of looks.new ≡ with_step_at i laid_one (steps_of looks.old)))
-            (λ _. steps_of looks.new
-            ≡ (if slice_index (carriers_of self.now.places.items) i == carrier.seat.me.0.who.number
-            then with_step_at i laid_none (steps_of looks.old)
-            else steps_of looks.old)) }
+            (λ _. steps_of looks.new ≡ with_step_at i laid_one (steps_of looks.old))
+            (λ _. steps_of looks.new ≡ with_step_at i laid_none (steps_of looks.old)) }
         ensures own { IfErr result
             (λ back. back.seat.table_id ≡ self.now.shared.now.table.shared.table_id) }
         ensures free { IfErr result (λ back. IsFreeCarrier back.seat.me) }
@@ -196,9 +213,6 @@ impl<'a, K: Kept> Perch<'a, K> {
             (λ back. back.seat.me.0.who.number ≡ carrier.seat.me.0.who.number) }
     {
         let place = &self.places[i];
-        if place.number != number(&carrier) {
-            return Err(carrier);
-        }
         let mark = &mut looks.marks[i];
         place.give(self.shared, mark, carrier)
     }

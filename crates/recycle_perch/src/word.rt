@@ -1,7 +1,7 @@
 //! The word of a place, and the steps on it.
 ghost use Rattle.std.specs.Prelude.{[]};
 ghost use Rattle.recycle_perch.specs.StepsInside.{LaysDown, Takes};
-ghost use Rattle.recycle_perch.specs.WordsInside.{IsRestWord};
+ghost use Rattle.recycle_perch.specs.Words.{IsRestWord};
 
 use atomic_table::{PerchPlay, PerchRule};
 use std::collections::LinkedList;

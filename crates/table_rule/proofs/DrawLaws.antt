@@ -1,35 +1,32 @@
--- Passes are drawn and made, and go into one another.
+-- Passes are drawn and made.
 use Rattle.std.proofs.Common.{◌≡◌, ◌≢◌, ◌⊎◌, ℕ, zero, suc, ◌+◌, ◌%◌, ◌^◌, ◌<◌, ◌≤◌, List, [], ◌∷◌, ◌++◌, length, set, replicate, Option, Some, None, Bool, true, false, true≢false, refl, sym, ap, ◌∙◌, subst, inl, inr, ⊎_elim, arith}
-use Rattle.std.specs.Prelude.{slice_index, nat_lt, if◌then◌else◌}
-use Rattle.std.proofs.lemmas.Bool.{ltb-true}
+use Rattle.std.specs.Prelude.{slice_index}
 use Rattle.std.proofs.lemmas.List.{length-replicate}
 use Rattle.std.proofs.Math.Nat.{mod-eq_of_lt}
 use mathlib.Core.Option as m
 use lib.ListN.{get_elem?}
-use Rattle.atomic_table.specs.Table.{State, Me, step, Allows, Joins, Splits, opening}
+use Rattle.atomic_table.specs.Table.{State, Me, step, Allows, Splits, opening}
 use Rattle.atomic_table.specs.Table.Act.{keeps}
-use Rattle.atomic_table.proofs.Lists.{at_set, at_longer, set_again, set_else}
+use Rattle.atomic_table.proofs.Lists.{at_set, at_longer}
 use Rattle.conn_machine.specs.declared.event.Entry.{Entry}
 use Rattle.conn_machine.specs.declared.folded.Folded.{Folded}
 use Rattle.conn_machine.specs.declared.kept.Ledger.{Ledger}
-use Rattle.conn_machine.specs.Folds.{HasPlacesFor}
+use Rattle.conn_machine.specs.Folds.{HasPlacesFor, fold_of, opening_record}
 use Rattle.conn_machine.specs.Runs.{after, entries_of, first_row}
 use Rattle.table_rule.specs.declared.view.LastLeft.{LastLeft}
 use Rattle.table_rule.specs.declared.view.Origin.{Origin}
 use Rattle.table_rule.specs.declared.view.View.{View}
-use Rattle.conn_machine.specs.Made.{HasSeen}
-use Rattle.table_rule.specs.Histories.{Extends}
 use Rattle.table_rule.specs.Ledgers.{IsSplit}
-use Rattle.table_rule.specs.Views.{IsAwake, IsIdle, drawn_view, first_view, gone_view, joined_view, new_view, nothing_left, parted_view}
+use Rattle.table_rule.specs.Views.{IsAwake, drawn_view, first_view, new_view, nothing_left, parted_view}
 use Rattle.table_rule.specs.IdleWords.{bit, permits, tries}
 use Rattle.table_rule.specs.Steps.{DrawsNext}
 use Rattle.table_rule.specs.Tie.{AreDrawn, AreFirstWords, IsNew, IsTied, IsViewOf, KeptIsHome, KeptIsOut, origin_of}
 use Rattle.table_rule.proofs.MachineLemmas.{none_behind, none_some, row_none}
-use Rattle.table_rule.proofs.RecordLemmas.{each_first}
-use Rattle.table_rule.proofs.PastLemmas.{knows_none, past_begins, past_changed, past_more, past_same}
+use Rattle.table_rule.proofs.RecordLemmas.{NothingIsFolded, each_first}
+use Rattle.table_rule.proofs.PastLemmas.{past_begins, past_more, past_same}
 use Rattle.table_rule.proofs.SumLemmas.{sum_snoc}
 use Rattle.table_rule.proofs.TieLemmas.{Placed, drawn_same, first_is, idle_same, moved, same_place}
-use Rattle.table_rule.proofs.WordLemmas.{at_snoc_or, first_after, first_other, first_same, set_length, snoc_length, word_else, word_here}
+use Rattle.table_rule.proofs.WordLemmas.{at_snoc_or, first_after, first_same, set_length, snoc_length, word_else, word_here}
 
 second_idle : (ws : List ℕ) (x k : ℕ) → slice_index (set ws 1 x) (k + 2) ≡ slice_index ws (k + 2)
 second_idle ws x k = word_else ws 1 (k + 2) x (λ e. omega arith)
@@ -46,9 +43,9 @@ module _ {K : Type 0} (ledger : K → Ledger) (o : Ledger) where
   none_credited zero (suc n) = refl
   none_credited (suc k) (suc n) = none_credited k n
 
-  pub opens_law : (words : List ℕ) (k : K) → ledger k ≡ o → IsNew o → AreFirstWords words
+  pub opens_law : NothingIsFolded → (words : List ℕ) (k : K) → ledger k ≡ o → IsNew o → AreFirstWords words
       → IsTied ledger o (opening words (Some k ∷ []) (first_view (origin_of o) 1))
-  opens_law words k is new first =
+  opens_law nothing words k is new first =
       let v : View = first_view (origin_of o) 1 in
       record {
         history = [];
@@ -58,7 +55,7 @@ module _ {K : Type 0} (ledger : K → Ledger) (o : Ledger) where
         made = tt;
         undrawn = λ n le. refl;
         fits = λ j u e. let a = alone v j u e in subst (IsViewOf (origin_of o) [] j) a.1
-            record { number = λ _. sym a.0; origin_is = λ _ _. refl; begins = ([], refl); seen = λ _ _. ([], refl, refl); row = refl };
+            record { number = sym a.0; origin_is = λ _. refl; begins = ([], refl); seen = λ _. ([], refl, refl); row = refl };
         first = v;
         at = refl;
         place = inl record {
@@ -68,6 +65,9 @@ module _ {K : Type 0} (ledger : K → Ledger) (o : Ledger) where
             whole_is = sym new.history;
             base = refl;
             record_is = new.folded;
+            one_fold = subst (λ (f : Folded). f ≡ record (fold_of o.base [] [] (opening_record o.passes)) { lines = f.lines }) (sym new.folded)
+                (sym (ap (λ (f : Folded). record f { lines = [] })
+                (ap (λ st. fold_of st [] [] (opening_record o.passes)) new.opened.state ∙ nothing new.opened.slots new.opened.children o.passes new.opened.shape)));
             counted = ap (λ (f : Folded). f.entries) new.folded;
             places = subst (HasPlacesFor o.passes) (sym new.folded) record { ordinals = length-replicate o.passes 0; rows = length-replicate o.passes None };
             ordinals = λ p lt. ap (λ (f : Folded). slice_index f.ordinals p) new.folded ∙ each_first o.passes p 0;
@@ -98,12 +98,12 @@ module _ {K : Type 0} (ledger : K → Ledger) (o : Ledger) where
   draws_law slots id me awake zero_is spare few s t len at small =
       let v = me.0 in
       let mine = t.fits id v at in
-      let here : id ≡ 0 = sym (mine.number awake.there) ∙ zero_is in
+      let here : id ≡ 0 = sym (mine.number) ∙ zero_is in
       let first : v ≡ t.first = first_is ledger o s t id v at here in
       let n = slice_index s.words 1 in
       let is : n ≡ v.draws.next = t.drawn.word ∙ ap (λ (q : View). q.draws.next) (sym first) in
       let x = (n + 1) % 2 ^ 64 in
-      let limit : v.origin.passes ≡ o.passes = ap (λ (g : Origin). g.passes) (mine.origin_is awake.there awake.up) in
+      let limit : v.origin.passes ≡ o.passes = ap (λ (g : Origin). g.passes) (mine.origin_is awake) in
       let fits : n + 1 < 2 ^ 64 = (let f = t.few in omega arith) in
       let word : x ≡ n + 1 = mod-eq_of_lt fits in
       let words = set s.words 1 x in
@@ -131,7 +131,7 @@ module _ {K : Type 0} (ledger : K → Ledger) (o : Ledger) where
               few = omega arith;
             })
             (idle_same (after o.base t.history) s.words words s.views id v w t.first.credits f.view.credits t.idle at refl refl (λ k _. second_idle s.words x k) (first_same (λ (q : View). q.credits) s.views id v w t.first f (λ _. refl)))
-            (past_same s.words words s.views id v w t.steps at refl refl (λ k _. second_idle s.words x k)),
+            (past_same s.words words s.views (length t.history) id v w t.steps at refl refl (λ k _. second_idle s.words x k)),
         (is, refl, refl),
       )
 
@@ -180,7 +180,7 @@ module _ {K : Type 0} (ledger : K → Ledger) (o : Ledger) where
       let right : View = new_view v in
       let vs = set s.views id left in
       let mine = t.fits id v at in
-      let here : id ≡ 0 = sym (mine.number awake.there) ∙ zero_is in
+      let here : id ≡ 0 = sym (mine.number) ∙ zero_is in
       let first : v ≡ t.first = first_is ledger o s t id v at here in
       let f = first_after s.views id v left t.first at t.at in
       let len : length vs ≡ length s.views = set_length s.views id left in
@@ -188,7 +188,7 @@ module _ {K : Type 0} (ledger : K → Ledger) (o : Ledger) where
       (let d = t.drawn.views_are in let b : bit t.first.draws.spare ≡ 1 = ap (λ (q : View). bit q.draws.spare) (sym first) ∙ ap bit spare in
       let e : t.first.draws.next ≡ v.draws.next = ap (λ (q : View). q.draws.next) (sym first) in omega arith) in
       let none : entries_of (length vs) t.history ≡ [] = t.undrawn (length vs) (omega (arith, len)) in
-      let origin : v.origin ≡ origin_of o = mine.origin_is awake.there awake.up in
+      let origin : v.origin ≡ origin_of o = mine.origin_is awake in
       let which : (j : ℕ) (u : View) → get_elem? (vs ++ right ∷ []) j ≡ m.some u → Which s.views id left right (length vs) j u =
       λ j u e. ⊎_elim
       (λ (old : get_elem? vs j ≡ m.some u). ⊎_elim (λ (z : (j ≡ id) × (left ≡ u)). inl z) (λ (z : (j ≢ id) × (get_elem? s.views j ≡ m.some u)). inr (inl z)) (at_set s.views id j left u old))
@@ -215,10 +215,10 @@ module _ {K : Type 0} (ledger : K → Ledger) (o : Ledger) where
             (λ z. t.fits j u z.1)
             (λ z. subst (λ i. IsViewOf (origin_of o) t.history i u) (sym z.0) (subst (IsViewOf (origin_of o) t.history (length vs)) z.1
             record {
-              number = λ _. omega (arith, len, count);
-              origin_is = λ _ _. origin;
+              number = omega (arith, len, count);
+              origin_is = λ _. origin;
               begins = mine.begins;
-              seen = λ _ _. (mine.begins.0, mine.begins.1, none_behind (length vs) v.seen mine.begins.0 (ap (entries_of (length vs)) (sym mine.begins.1) ∙ none));
+              seen = λ _. (mine.begins.0, mine.begins.1, none_behind (length vs) v.seen mine.begins.0 (ap (entries_of (length vs)) (sym mine.begins.1) ∙ none));
               row = sym (row_none (length vs) t.history none);
             }))
             (which j u e);
@@ -245,77 +245,5 @@ module _ {K : Type 0} (ledger : K → Ledger) (o : Ledger) where
               (λ (z : (j ≡ length vs) × (right ≡ u)). λ name r row. none_some None name refl (ap (λ (q : View). q.row) z.1 ∙ row))
               (at_snoc_or vs right u j e);
         };
-        steps = past_more s.words vs right (past_same s.words s.words s.views id v left t.steps at refl refl (λ k _. refl)) refl;
+        steps = past_more s.words vs (length t.history) right (past_same s.words s.words s.views (length t.history) id v left t.steps at refl refl (λ k _. refl)) refl;
       }
-
-  -- ## A pass goes into another one
-
-  -- a view that has nothing becomes one that is no pass's
-  gone : (s : State (Option K) View) (t : IsTied ledger o s) (id : ℕ) (v : View) → get_elem? s.views id ≡ m.some v → id ≢ 0 → IsIdle v
-      → IsTied ledger o record { words = s.words; homes = s.homes; views = set s.views id gone_view }
-  gone s t id v at other idle =
-      let w : View = gone_view in
-      let mine = t.fits id v at in
-      let f = first_after s.views id v w t.first at t.at in
-      moved ledger o s t id v w f s.words s.homes t.history t.count t.made t.undrawn
-      (λ j u _ e. t.fits j u e)
-      record {
-        number = λ there. absurd (true≢false there);
-        origin_is = λ there. absurd (true≢false there);
-        begins = (t.history, refl);
-        seen = λ there. absurd (true≢false there);
-        row = sym idle.row ∙ mine.row;
-      }
-      (same_place ledger o s s.words t.first.left f.view.left t.history id v w at (sym idle.turn) (λ got h. none_some v.turn got idle.turn h) refl (first_other (λ (q : View). q.left) s.views id v w t.first f other) t.place)
-      (subst (AreDrawn (origin_of o) s.words (set s.views id w)) (sym (first_other (λ (q : View). q.draws) s.views id v w t.first f other)) record {
-        word = t.drawn.word;
-        views_are = ap (λ n. n + bit t.first.draws.spare) (set_length s.views id w) ∙ t.drawn.views_are;
-        few = t.drawn.few;
-      })
-      (idle_same (after o.base t.history) s.words s.words s.views id v w t.first.credits f.view.credits t.idle at (sym idle.hand) (sym idle.row) (λ k _. refl) (first_other (λ (q : View). q.credits) s.views id v w t.first f other))
-      (past_changed s.words s.words s.views id w t.steps (λ k _. refl) (knows_none t.steps.trail id w refl refl))
-
-  -- where a pass has seen less of a history than another one, it made no entry behind what the other has seen
-  seen_longer : (p : ℕ) (a b history : List Entry) → HasSeen p a history → Extends b history → length a ≤ length b → HasSeen p b history
-  seen_longer p a b history (r, is, none) (r', is') le =
-      let c = behind a b r r' (sym is ∙ is') le in
-      (r', is', none_behind p c.0 r' (ap (entries_of p) (sym c.1) ∙ none))
-    where
-      behind : (a b r r' : List Entry) → a ++ r ≡ b ++ r' → length a ≤ length b → (c : List Entry) × (r ≡ c ++ r')
-      behind [] b r r' e le = (b, e)
-      behind (x ∷ a) [] r r' e le = absurd (omega arith)
-      behind (x ∷ a) (y ∷ b) r r' e le = behind a b r r' (cc) (omega arith)
-
-  -- a pass without the turn sees what another one has seen
-  joined : (s : State (Option K) View) (t : IsTied ledger o s) (id : ℕ) (v : View) (seen : List Entry) → get_elem? s.views id ≡ m.some v → IsAwake v → v.turn ≡ None
-      → HasSeen id seen t.history
-      → IsTied ledger o record { words = s.words; homes = s.homes; views = set s.views id (record v { seen = seen }) }
-  joined s t id v seen at awake turn behind =
-      let w : View = record v { seen = seen } in
-      let mine = t.fits id v at in
-      let f = first_after s.views id v w t.first at t.at in
-      moved ledger o s t id v w f s.words s.homes t.history t.count t.made t.undrawn
-      (λ j u _ e. t.fits j u e)
-      record { number = mine.number; origin_is = mine.origin_is; begins = (behind.0, behind.1); seen = λ _ _. behind; row = mine.row }
-      (same_place ledger o s s.words t.first.left f.view.left t.history id v w at refl (λ got h. none_some v.turn got turn h) refl (first_same (λ (q : View). q.left) s.views id v w t.first f (λ _. refl)) t.place)
-      (drawn_same (origin_of o) s.words s.words s.views id w t.first.draws f.view.draws t.drawn refl (first_same (λ (q : View). q.draws) s.views id v w t.first f (λ _. refl)))
-      (idle_same (after o.base t.history) s.words s.words s.views id v w t.first.credits f.view.credits t.idle at refl refl (λ k _. refl) (first_same (λ (q : View). q.credits) s.views id v w t.first f (λ _. refl)))
-      (past_same s.words s.words s.views id v w t.steps at refl refl (λ k _. refl))
-
-  joined_by : (s : State (Option K) View) (t : IsTied ledger o s) (id j : ℕ) (v u : View) → get_elem? s.views id ≡ m.some v → get_elem? s.views j ≡ m.some u → IsAwake v → v.turn ≡ None
-      → (b : Bool) → nat_lt (length v.seen) (length u.seen) ≡ b
-      → IsTied ledger o record { words = s.words; homes = s.homes; views = set s.views id (if b then record v { seen = u.seen } else v) }
-  joined_by s t id j v u at there awake turn true is =
-      let lt : length v.seen < length u.seen = ltb-true (length v.seen) (length u.seen) is in
-      joined s t id v u.seen at awake turn (seen_longer id v.seen u.seen t.history ((t.fits id v at).seen awake.there awake.up) (t.fits j u there).begins (omega arith))
-  joined_by s t id j v u at there awake turn false is =
-      subst (λ l. IsTied ledger o record { words = s.words; homes = s.homes; views = l }) (sym (set_again s.views id v at)) t
-
-  pub joins_law : (id : ℕ) (v : View) (other : ℕ) (u : View) → IsAwake v → v.turn ≡ None → IsAwake u → IsIdle u → u.who.number ≢ 0
-      → Joins (IsTied ledger o) id v other u (joined_view v u) gone_view
-  joins_law id v other u awake turn awake' idle number s t at apart there =
-      let both : View = joined_view v u in
-      let was : get_elem? s.views other ≡ m.some u = sym (set_else s.views id other both apart) ∙ there in
-      let t' = joined_by s t id other v u at was awake turn (nat_lt (length v.seen) (length u.seen)) refl in
-      let not_first : other ≢ 0 = λ z. number ((t.fits other u was).number awake'.there ∙ z) in
-      gone record { words = s.words; homes = s.homes; views = set s.views id both } t' other u there not_first idle

@@ -12,7 +12,7 @@ use Rattle.conn_machine.specs.declared.folded.Folded.{Folded}
 use Rattle.conn_machine.specs.declared.kept.Ledger.{Ledger}
 use Rattle.conn_machine.specs.declared.state.State as machine
 use Rattle.conn_machine.specs.Runs.{Adds, AreEntriesOf, after, entries_of, first_row, row_after, row_of}
-use Rattle.conn_machine.specs.Folds.{HasPlacesFor, opening_record, ordinals_after, rows_after}
+use Rattle.conn_machine.specs.Folds.{HasPlacesFor, fold_of, opening_record, ordinals_after, rows_after}
 use Rattle.conn_machine.specs.Sound.{IsSound}
 use Rattle.table_rule.specs.declared.view.LastLeft.{LastLeft}
 use Rattle.table_rule.specs.declared.view.Origin.{Origin}
@@ -25,8 +25,8 @@ use Rattle.table_rule.specs.IdleWords.{HasPermit}
 use Rattle.table_rule.specs.Steps.{GivesBack}
 use Rattle.table_rule.specs.Tie.{IsTied, IsViewOf, KeptIsHome, KeptIsOut, origin_of}
 use Rattle.table_rule.proofs.MachineLemmas.{KeepsGoing, after-append, entries_of-append, none_some, row_by, row_more, seen_on, seen_same, seen_whole, some_is}
-use Rattle.table_rule.proofs.RecordLemmas.{each_after, places_after}
-use Rattle.table_rule.proofs.PastLemmas.{past_same}
+use Rattle.table_rule.proofs.RecordLemmas.{BeginsBegun, TwiceIsOnce, each_after, folded_on, places_after}
+use Rattle.table_rule.proofs.PastLemmas.{past_longer, past_same}
 use Rattle.table_rule.proofs.PermitLaws.{entries_credit, entries_permit}
 use Rattle.table_rule.proofs.TieLemmas.{drawn_same, first_is, idle_kept, moved}
 use Rattle.table_rule.proofs.TurnLaws.{idle_else, second_else, turn_here}
@@ -48,6 +48,7 @@ split_kept : (origin : Origin) (left : LastLeft) (found new : Ledger) (whole add
     → new.passes ≡ found.passes → (texts : List (List ℕ)) → Extends texts new.texts
     → IsSplit origin (record left { texts = texts }) new (whole ++ added)
 split_kept origin left found new whole added p k passes texts begins = record {
+  one_fold = subst (λ (f : Folded). f ≡ record (fold_of origin.state left.entries [] (opening_record origin.passes)) { lines = f.lines }) (sym k.record_is) p.one_fold;
   whole_is = ap (λ l. l ++ added) p.whole_is ∙ append_assoc left.entries found.history added ∙ ap (λ l. left.entries ++ l) (sym k.history);
   base = k.base ∙ p.base;
   record_is = k.record_is ∙ p.record_is;
@@ -59,10 +60,10 @@ split_kept origin left found new whole added p k passes texts begins = record {
   passes = passes ∙ p.passes;
 }
 
-split_folded : (origin : Origin) (left : LastLeft) (found new : Ledger) (whole added : List Entry) → IsSplit origin left found whole → (k : FoldsOn found new added)
+split_folded : TwiceIsOnce → BeginsBegun → (origin : Origin) (left : LastLeft) (found new : Ledger) (whole added : List Entry) → IsSplit origin left found whole → (k : FoldsOn found new added)
     → new.passes ≡ found.passes
     → IsSplit origin (record { entries = left.entries ++ (found.history ++ k.before); folded = new.folded; texts = new.texts }) new (whole ++ added)
-split_folded origin left found new whole added p k passes =
+split_folded twice begun origin left found new whole added p k passes =
     let more = found.history ++ k.before in
     let count : new.folded.entries ≡ found.folded.entries + length more = ap (λ (f : Folded). f.entries) k.record_is in
     let numbers : new.folded.ordinals ≡ ordinals_after more found.folded.ordinals = ap (λ (f : Folded). f.ordinals) k.record_is in
@@ -76,6 +77,8 @@ split_folded origin left found new whole added p k passes =
           ∙ ap (λ l. (left.entries ++ more) ++ l) (sym k.history);
       base = k.base ∙ ap (λ s. after s more) p.base ∙ sym (after-append origin.state left.entries more);
       record_is = refl;
+      one_fold = folded_on twice origin.state (opening_record origin.passes) left.entries more found.folded new.folded found.base
+          (begun origin.state origin.passes) p.base p.one_fold k.record_is;
       counted = (let c = p.counted in let d = length-append left.entries more in omega arith);
       places = subst (HasPlacesFor origin.passes) (sym k.record_is) (places_after origin.passes found.base more found.folded new.folded.lines p.places);
       ordinals = λ q lt.
@@ -96,9 +99,9 @@ split_folded origin left found new whole added p k passes =
     }
 
 -- what pass 0 leaves
-split_own : (origin : Origin) (left : LastLeft) (v : View) (found new : Ledger) (whole : List Entry) → IsSplit origin left found whole → (a : MayLeaveLedger v found new)
+split_own : TwiceIsOnce → BeginsBegun → (origin : Origin) (left : LastLeft) (v : View) (found new : Ledger) (whole : List Entry) → IsSplit origin left found whole → (a : MayLeaveLedger v found new)
     → IsSplitOn origin left new (whole ++ a.added)
-split_own origin left v found new whole p a = ⊎_elim
+split_own twice begun origin left v found new whole p a = ⊎_elim
     (λ (k : KeepsOn found new a.added). record {
       left_then = record left { texts = new.texts };
       parts = split_kept origin left found new whole a.added p k a.passes new.texts ([], sym (append-nil new.texts));
@@ -106,7 +109,7 @@ split_own origin left v found new whole p a = ⊎_elim
     })
     (λ (k : (v.who.number ≡ 0) × FoldsOn found new a.added). record {
       left_then = record { entries = left.entries ++ (found.history ++ k.1.before); folded = new.folded; texts = new.texts };
-      parts = split_folded origin left found new whole a.added p k.1 a.passes;
+      parts = split_folded twice begun origin left found new whole a.added p k.1 a.passes;
       texts = refl;
     })
     a.change
@@ -160,15 +163,15 @@ module _ {K : Type 0} (ledger : K → Ledger) (o : Ledger) where
     pub is_left : IsLastLeft v new history left
     pub then_is : (f : FirstAfter s.views id v (given_view v history left) t.first) → IsSplit (origin_of o) f.view.left new history
 
-  left_by : (s : State (Option K) View) (t : IsTied ledger o s) (id : ℕ) (v : View) (found new : Ledger) → get_elem? s.views id ≡ m.some v → IsAwake v
+  left_by : TwiceIsOnce → BeginsBegun → (s : State (Option K) View) (t : IsTied ledger o s) (id : ℕ) (v : View) (found new : Ledger) → get_elem? s.views id ≡ m.some v → IsAwake v
       → IsHolder s t id v found → (a : MayLeaveLedger v found new) → IsGiven s t id v new (t.history ++ a.added)
-  left_by s t id v found new at awake h a =
+  left_by twice begun s t id v found new at awake h a =
       let mine = t.fits id v at in
-      let number : v.who.number ≡ id = mine.number awake.there in
-      let origin : v.origin ≡ origin_of o = mine.origin_is awake.there awake.up in
+      let number : v.who.number ≡ id = mine.number in
+      let origin : v.origin ≡ origin_of o = mine.origin_is awake in
       elim (ℕ_discrete id 0) [
         | yes z ↦
-            let p = split_own (origin_of o) t.first.left v found new t.history h.parts a in
+            let p = split_own twice begun (origin_of o) t.first.left v found new t.history h.parts a in
             record {
               left = p.left_then;
               is_left = record {
@@ -202,7 +205,7 @@ module _ {K : Type 0} (ledger : K → Ledger) (o : Ledger) where
         number = fits.number;
         origin_is = fits.origin_is;
         begins = (fits.begins.0 ++ added, ap (λ l. l ++ added) fits.begins.1 ∙ append_assoc u.seen fits.begins.0 added);
-        seen = λ there up. seen_on j u.seen history (history ++ added) (fits.seen there up) behind;
+        seen = λ up. seen_on j u.seen history (history ++ added) (fits.seen up) behind;
         row = fits.row ∙ sym (row_by j (history ++ added) history (seen_same j history (history ++ added) behind));
       }
 
@@ -220,7 +223,7 @@ module _ {K : Type 0} (ledger : K → Ledger) (o : Ledger) where
       → IsTied ledger o (stepped s 0 x id ((0, Some k) ∷ []) (given_view v (t.history ++ a.added) g.left) gives)
   given laws s t id v k found x at awake h a are permitted g word =
       let mine = t.fits id v at in
-      let number : v.who.number ≡ id = mine.number awake.there in
+      let number : v.who.number ≡ id = mine.number in
       let history = t.history ++ a.added in
       let w : View = given_view v history g.left in
       let f = first_after s.views id v w t.first at t.at in
@@ -233,7 +236,7 @@ module _ {K : Type 0} (ledger : K → Ledger) (o : Ledger) where
       (λ n le. let ne : n ≢ id = (λ e. let b = at_below s.views id v at in omega arith) in
       seen_same n t.history history (laws.seen id n o.base (opening_record o.passes) t.history history (a.added, refl, are) ne) ∙ t.undrawn n le)
       (λ j u ne e. other_fits laws id j u t.history a.added ne are (t.fits j u e))
-      record { number = mine.number; origin_is = mine.origin_is; begins = ([], sym (append-nil history)); seen = λ _ _. seen_whole id history; row = own_row }
+      record { number = mine.number; origin_is = mine.origin_is; begins = ([], sym (append-nil history)); seen = λ _. seen_whole id history; row = own_row }
       (inl record {
         kept = k;
         home = ap (λ hs. slice_set hs 0 (m.some (Some k))) h.home;
@@ -258,7 +261,8 @@ module _ {K : Type 0} (ledger : K → Ledger) (o : Ledger) where
       (λ (z : (j ≢ id) × (get_elem? s.views j ≡ m.some u)).
       other_permit laws id j u t.history a.added t.opening made z.0 are (t.fits j u z.1).row (t.idle.holders j u z.1))
       (at_set s.views id j w u e)))
-      (past_same s.words words s.views id v w t.steps at refl refl (λ j _. idle_else s.words x j))
+      (past_longer words (set s.views id w) (length t.history) (length history) (let l = length-append t.history a.added in omega arith)
+      (past_same s.words words s.views (length t.history) id v w t.steps at refl refl (λ j _. idle_else s.words x j)))
 
   given_back : KeepsGoing → (s : State (Option K) View) (t : IsTied ledger o s) (id : ℕ) (v : View) (k : K) (x : ℕ) → get_elem? s.views id ≡ m.some v → IsAwake v
       → (back : MayGiveBack v (ledger k)) → x ≡ 2 * ((ledger k).folded.entries + length (ledger k).history)
@@ -270,8 +274,8 @@ module _ {K : Type 0} (ledger : K → Ledger) (o : Ledger) where
       let found = back.0 in let a = back.2 in
       let h = holder s t id v found at back.1 in
       let mine = t.fits id v at in
-      let number : v.who.number ≡ id = mine.number awake.there in
-      let origin = mine.origin_is awake.there awake.up in
+      let number : v.who.number ≡ id = mine.number in
+      let origin = mine.origin_is awake in
       let base : v.origin.state ≡ o.base = ap (λ (g : Origin). g.state) origin in
       let are : AreEntriesOf id o.base (opening_record o.passes) t.history a.added =
       subst (λ l. AreEntriesOf id o.base (opening_record o.passes) l a.added) h.seen
@@ -279,7 +283,7 @@ module _ {K : Type 0} (ledger : K → Ledger) (o : Ledger) where
       (subst (λ n. AreEntriesOf n v.origin.state (opening_record v.origin.passes) v.seen a.added) number a.entries)) in
       let permitted : ArePermitted v.hand.permit v.credits (after o.base t.history) a.added =
       subst (λ l. ArePermitted v.hand.permit v.credits (after o.base l) a.added) h.seen (subst (λ st. ArePermitted v.hand.permit v.credits (after st v.seen) a.added) base a.permitted) in
-      let g = left_by s t id v found (ledger k) at awake h a in
+      let g = left_by laws.twice laws.begun s t id v found (ledger k) at awake h a in
       let history = t.history ++ a.added in
       let w : View = given_view v history g.left in
       let f = first_after s.views id v w t.first at t.at in

@@ -1,5 +1,5 @@
 -- Steps on the idle words.
-use Rattle.std.proofs.Common.{◌≡◌, ◌≢◌, ◌⊎◌, ℕ, ◌+◌, ◌-◌, ◌%◌, ◌^◌, ◌<◌, ◌≤◌, ◌==◌, length, set, Option, Some, None, Bool, true, false, refl, sym, ap, ◌∙◌, subst, inl, inr, ⊎_elim, arith}
+use Rattle.std.proofs.Common.{◌≡◌, ◌≢◌, ◌⊎◌, ℕ, ◌+◌, ◌-◌, ◌%◌, ◌^◌, ◌<◌, ◌≤◌, ◌==◌, [], length, set, Option, Some, None, Bool, true, false, refl, sym, ap, ◌∙◌, subst, inl, inr, ⊎_elim, append-nil, arith}
 use Rattle.std.specs.Prelude.{slice_index, nat_lt}
 use Rattle.std.proofs.Math.Nat.{mod-eq_of_lt, add-mod_right}
 use Rattle.std.proofs.lemmas.Bool.{ltb-true}
@@ -20,17 +20,17 @@ use Rattle.table_rule.specs.declared.view.Origin.{Origin}
 use Rattle.table_rule.specs.declared.view.Past.{Past}
 use Rattle.table_rule.specs.declared.view.View.{View}
 use Rattle.table_rule.specs.Histories.{threads_of}
-use Rattle.table_rule.specs.Views.{IsAwake, IsIdle, credited_view, with_permit, with_try}
+use Rattle.table_rule.specs.Views.{IsAwake, IsIdle, credited_view, seeing_view, with_permit, with_try}
 use Rattle.table_rule.specs.IdleWords.{bias, bit_at, sum_of, permits, tries, HasPermit, AreIdleWords}
 use Rattle.table_rule.specs.Pasts.{MakesStepOn}
 use Rattle.table_rule.specs.Steps.{AddsCredit, LooksAtIdle, Releases, TriesForPermit, DropsCredit, Undoes, tried_view, uncredited_view}
 use Rattle.table_rule.specs.Tie.{IsTied, origin_of}
-use Rattle.table_rule.proofs.MachineLemmas.{SomeoneHas, none_some, some_is}
+use Rattle.table_rule.proofs.MachineLemmas.{SomeoneHas, none_some, seen_whole, some_is}
 use Rattle.table_rule.proofs.PastLemmas.{next_step, past_step, past_with, told}
 use Rattle.table_rule.proofs.SumLemmas.{bit_other, bit_self, sum_has, sum_same, sum_set, tries_le}
-use Rattle.table_rule.proofs.TieLemmas.{drawn_same, first_is, moved, same_place, views_of}
+use Rattle.table_rule.proofs.TieLemmas.{drawn_same, first_is, idle_same, moved, same_place, views_of}
 use Rattle.table_rule.proofs.GiveLaws.{holder}
-use Rattle.table_rule.proofs.WordLemmas.{first_after, first_same, set_length, word_else, word_here}
+use Rattle.table_rule.proofs.WordLemmas.{first_after, first_same, set_length, word_again, word_else, word_here}
 use Rattle.table_rule.proofs.WorkerLaws.{carried_permits}
 
 -- a share that goes was one
@@ -106,7 +106,7 @@ module _ {K : Type 0} (ledger : K → Ledger) (o : Ledger) where
             (λ (z : (j ≢ id) × (get_elem? s.views j ≡ m.some u)). t.idle.holders j u z.1)
             (at_set s.views id j w u e);
       })
-      (past_step s.words s.views id v w t.steps k x at up up lt t.count refl)
+      (past_step s.words s.views (length t.history) id v w t.steps k x at up up lt t.count refl)
 
   -- a look at an idle word leaves all else
   noted : (s : State (Option K) View) (t : IsTied ledger o s) (id : ℕ) (v : View) (k : ℕ) → get_elem? s.views id ≡ m.some v → v.who.resting ≡ false → k < 32
@@ -168,7 +168,7 @@ module _ {K : Type 0} (ledger : K → Ledger) (o : Ledger) where
       let positive : 0 < n = (let e = t.idle.equation k lt in let p = t.idle.permitted k lt in let q = tries_le k s.views in
       let d = t.drawn.views_are in let w = t.drawn.few in let f = t.few in omega arith) in
       let word : x + 1 ≡ n = (let a : n + (2 ^ 64 - 1) ≡ (n - 1) + 2 ^ 64 = omega arith in let b : x ≡ n - 1 = ap (λ y. y % 2 ^ 64) a ∙ add-mod_right (n - 1) (2 ^ 64) ∙ mod-eq_of_lt (omega arith) in omega arith) in
-      let r = tried s t id me k x at awake.up lt idle.row (ap (λ (h : Hand). h.permit) idle.hand) (ap (λ (h : Hand). h.trying) idle.hand) word (nat_lt bias n) refl in
+      let r = tried s t id me k x at awake lt idle.row (ap (λ (h : Hand). h.permit) idle.hand) (ap (λ (h : Hand). h.trying) idle.hand) word (nat_lt bias n) refl in
       (r.0, r.1, r.2, r.3, (r.4, subst (λ i. MakesStepOn (k + 2) n (n - 1) me.0 (tried_view (nat_lt bias n) i me.0) r.0) (sym (word_child k)) r.5))
 
   -- a word to which something is added stays small
@@ -184,7 +184,7 @@ module _ {K : Type 0} (ledger : K → Ledger) (o : Ledger) where
         record me.0 { hand = record me.0.hand { trying = None }; past = past_of s t id me.0 k ((n + 1) % 2 ^ 64) },
         keeps,
         tt,
-        hand_step s t id me.0 (record me.0.hand { trying = None }) k ((n + 1) % 2 ^ 64) at awake.up lt
+        hand_step s t id me.0 (record me.0.hand { trying = None }) k ((n + 1) % 2 ^ 64) at awake lt
             (λ j ne. (refl, gone_else j k me.0.hand.trying trying ne))
             (omega (arith, word, had))
             (let e = t.idle.permitted k lt in omega arith)
@@ -203,7 +203,7 @@ module _ {K : Type 0} (ledger : K → Ledger) (o : Ledger) where
         record me.0 { hand = record me.0.hand { permit = None }; past = past_of s t id me.0 k ((n + 1) % 2 ^ 64) },
         keeps,
         tt,
-        hand_step s t id me.0 (record me.0.hand { permit = None }) k ((n + 1) % 2 ^ 64) at awake.up lt
+        hand_step s t id me.0 (record me.0.hand { permit = None }) k ((n + 1) % 2 ^ 64) at awake lt
             (λ j ne. (gone_else j k me.0.hand.permit permit ne, refl))
             (omega (arith, word, had))
             (let e = t.idle.permitted k lt in omega (arith, had))
@@ -274,7 +274,7 @@ module _ {K : Type 0} (ledger : K → Ledger) (o : Ledger) where
             (λ (z : (j ≢ id) × (get_elem? s.views j ≡ m.some u)). t.idle.holders j u z.1)
             (at_set s.views id j w u e);
       })
-      (past_step s.words s.views id v w t.steps k x at up up lt t.count refl)
+      (past_step s.words s.views (length t.history) id v w t.steps k x at up up lt t.count refl)
 
   pub credits_law : (slots id : ℕ) (me : Me (Option K) View) (found : Ledger) (k n : ℕ) → k < 32 → IsAwake me.0 → me.0.who.number ≡ 0 → me.0.turn ≡ Some found
       → slice_index me.0.credits k ≡ 0 → n ≤ 64 → n ≡ threads_of (after me.0.origin.state me.0.seen) k
@@ -282,9 +282,9 @@ module _ {K : Type 0} (ledger : K → Ledger) (o : Ledger) where
   credits_law slots id me found k n lt awake zero_is has none few threads s t len at small =
       let v = me.0 in
       let mine = t.fits id v at in
-      let here : id ≡ 0 = sym (mine.number awake.there) ∙ zero_is in
+      let here : id ≡ 0 = sym (mine.number) ∙ zero_is in
       let h = holder ledger o s t id v found at has in
-      let base : v.origin.state ≡ o.base = ap (λ (g : Origin). g.state) (mine.origin_is awake.there awake.up) in
+      let base : v.origin.state ≡ o.base = ap (λ (g : Origin). g.state) (mine.origin_is awake) in
       let is : n ≡ threads_of (after o.base t.history) k = subst (λ l. n ≡ threads_of (after o.base l) k) h.seen (subst (λ st. n ≡ threads_of (after st v.seen) k) base threads) in
       let word : (slice_index s.words (k + 2) + n) % 2 ^ 64 ≡ slice_index s.words (k + 2) + n = mod-eq_of_lt (word_small s t k n lt few) in
       let first : v ≡ t.first = first_is ledger o s t id v at here in
@@ -292,7 +292,7 @@ module _ {K : Type 0} (ledger : K → Ledger) (o : Ledger) where
         record (credited_view k n v) { past = past_of s t id v k ((slice_index s.words (k + 2) + n) % 2 ^ 64) },
         keeps,
         tt,
-        credit_step s t id v k n ((slice_index s.words (k + 2) + n) % 2 ^ 64) at awake.up here lt
+        credit_step s t id v k n ((slice_index s.words (k + 2) + n) % 2 ^ 64) at awake here lt
             (omega (arith, word, none)) (let p = t.idle.permitted k lt in omega (arith, none')) few (inr is),
         (
           refl,
@@ -332,19 +332,42 @@ module _ {K : Type 0} (ledger : K → Ledger) (o : Ledger) where
   pub uncredits_law : (slots id : ℕ) (me : Me (Option K) View) (k n : ℕ) → k < 32 → IsAwake me.0 → me.0.who.number ≡ 0 → slice_index me.0.credits k ≡ n
       → Allows (IsTied ledger o) slots id me (k + 2) (λ x. either (x == bias + n) bias x) (DropsCredit (step slots (k + 2) (bias + n) bias m.none) me)
   uncredits_law slots id me k n lt awake zero_is credit s t len at small =
-      let here : id ≡ 0 = sym ((t.fits id me.0 at).number awake.there) ∙ zero_is in
+      let here : id ≡ 0 = sym ((t.fits id me.0 at).number) ∙ zero_is in
       let found = slice_index s.words (k + 2) in
-      let r = uncredited s t id me k n at awake.up here lt credit (found == bias + n) refl in
+      let r = uncredited s t id me k n at awake here lt credit (found == bias + n) refl in
       (r.0, r.1, r.2, r.3, (r.4, subst (λ i. MakesStepOn (k + 2) found (either (found == bias + n) bias found) me.0 (uncredited_view (found == bias + n) i me.0) r.0) (sym (word_child k)) r.5))
 
   -- ## A look at an idle word
+
+  -- it leaves all else, but that the pass sees the history of that moment
+  sees_all : (s : State (Option K) View) (t : IsTied ledger o s) (id : ℕ) (v : View) (k : ℕ) → get_elem? s.views id ≡ m.some v → v.who.resting ≡ false → k < 32
+      → IsTied ledger o record {
+        words = set s.words (k + 2) (slice_index s.words (k + 2));
+        homes = s.homes;
+        views = set s.views id (record (seeing_view t.history v) { past = past_of s t id v k (slice_index s.words (k + 2)) });
+      }
+  sees_all s t id v k at up lt =
+      let x = slice_index s.words (k + 2) in
+      let w : View = record (seeing_view t.history v) { past = past_of s t id v k x } in
+      let words = set s.words (k + 2) x in
+      let again : words ≡ s.words = word_again s.words (k + 2) in
+      let mine = t.fits id v at in
+      let f = first_after s.views id v w t.first at t.at in
+      moved ledger o s t id v w f words s.homes t.history
+      (set_length s.words (k + 2) x ∙ t.count) t.made t.undrawn
+      (λ j u _ e. t.fits j u e)
+      record { number = mine.number; origin_is = mine.origin_is; begins = ([], sym (append-nil t.history)); seen = λ _. seen_whole id t.history; row = mine.row }
+      (same_place ledger o s words t.first.left f.view.left t.history id v w at refl (λ got h. sym (holder ledger o s t id v got at h).seen) (ap (λ l. slice_index l 0) again) (first_same (λ (q : View). q.left) s.views id v w t.first f (λ _. refl)) t.place)
+      (drawn_same (origin_of o) s.words words s.views id w t.first.draws f.view.draws t.drawn (ap (λ l. slice_index l 1) again) (first_same (λ (q : View). q.draws) s.views id v w t.first f (λ _. refl)))
+      (idle_same (after o.base t.history) s.words words s.views id v w t.first.credits f.view.credits t.idle at refl refl (λ j _. ap (λ l. slice_index l (j + 2)) again) (first_same (λ (q : View). q.credits) s.views id v w t.first f (λ _. refl)))
+      (past_step s.words s.views (length t.history) id v w t.steps k x at up up lt t.count refl)
 
   pub idles_law : SomeoneHas → (slots id : ℕ) (me : Me (Option K) View) (k : ℕ) → k < 32 → IsAwake me.0
       → Allows (IsTied ledger o) slots id me (k + 2) (λ n. n) (LooksAtIdle (step slots (k + 2) 0 0 m.none) me)
   idles_law someone slots id me k lt awake s t len at small =
       let mine = t.fits id me.0 at in
-      let number : me.0.who.number ≡ id = mine.number awake.there in
-      let origin = mine.origin_is awake.there awake.up in
+      let number : me.0.who.number ≡ id = mine.number in
+      let origin = mine.origin_is awake in
       let base : me.0.origin.state ≡ o.base = ap (λ (g : Origin). g.state) origin in
       let c = carried_permits someone o.base o.passes t.history s.words s.views t.first.credits (views_of ledger o s t) k in
       let e = t.idle.equation k lt in
@@ -353,17 +376,17 @@ module _ {K : Type 0} (ledger : K → Ledger) (o : Ledger) where
       let few : slice_index s.words (k + 2) - bias ≤ 64 = omega arith in
       let below : slice_index s.words (k + 2) - bias ≤ idle_in (after o.base t.history) k =
       ⊎_elim (λ z. omega arith) (λ z. omega arith) (t.idle.credited k lt) in (
-        record me.0 { past = past_of s t id me.0 k (slice_index s.words (k + 2)) },
+        record (seeing_view t.history me.0) { past = past_of s t id me.0 k (slice_index s.words (k + 2)) },
         keeps,
         tt,
-        noted s t id me.0 k at awake.up lt,
+        sees_all s t id me.0 k at awake lt,
         (
           refl,
-          step_told s t id me.0 me.0 k (slice_index s.words (k + 2)) (slice_index s.words (k + 2)) refl,
           few,
           (
             t.history,
-            subst (λ n. HasSeen n me.0.seen t.history) (sym number) (mine.seen awake.there awake.up),
+            step_told s t id me.0 (seeing_view t.history me.0) k (slice_index s.words (k + 2)) (slice_index s.words (k + 2)) refl,
+            subst (λ n. HasSeen n me.0.seen t.history) (sym number) (mine.seen awake),
             subst (λ (g : Origin). AreMade g.state (opening_record g.passes) t.history) (sym origin) t.made,
             subst (λ i. slice_index s.words (k + 2) - bias ≤ idle_in (after me.0.origin.state t.history) i) (sym (word_child k))
                 (subst (λ st. slice_index s.words (k + 2) - bias ≤ idle_in (after st t.history) k) (sym base) below),

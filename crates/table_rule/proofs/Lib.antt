@@ -6,6 +6,7 @@ mod MachineLemmas
 mod PastLemmas
 mod PermitLaws
 pub mod RecordLemmas
+mod ShareLaws
 mod SumLemmas
 mod TieLemmas
 mod TrailLemmas

@@ -23,6 +23,7 @@ use Rattle.conn_machine.specs.Runs.{Adds, Run, after, entries_of, first_row, has
 use Rattle.conn_machine.specs.Made.{AreMade, HasSeen, IsOpened}
 use Rattle.conn_machine.specs.Sound.{IsSound}
 use Rattle.conn_machine.specs.Laws.{StaysSound}
+use Rattle.table_rule.proofs.RecordLemmas.{BeginsBegun, TwiceIsOnce}
 
 -- ## Laws
 
@@ -74,6 +75,8 @@ pub record KeepsGoing : Type 0 where
   pub seen : (p q : ℕ) (base : State) (f : Folded) (old new : List Entry) → Adds p base f old new → q ≢ p → HasSeen q old new
   pub row : RowsBegin
   pub stays : RowsStay
+  pub twice : TwiceIsOnce
+  pub begun : BeginsBegun
 
 -- ## What may be there
 

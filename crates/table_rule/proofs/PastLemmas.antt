@@ -1,5 +1,5 @@
--- What a step leaves of what passes know of the steps on idle words.
-use Rattle.std.proofs.Common.{◌≡◌, ◌≢◌, ℕ, ◌+◌, ◌<◌, ◌≤◌, true, false, true≢false, List, [], ◌∷◌, ◌++◌, length, set, refl, sym, ap, ◌∙◌, subst, ⊎_elim, arith}
+-- What a step leaves of what passes know of the trail.
+use Rattle.std.proofs.Common.{◌≡◌, ◌≢◌, ℕ, ◌+◌, ◌/◌, ◌<◌, ◌≤◌, true, false, true≢false, List, [], ◌∷◌, ◌++◌, length, set, refl, sym, ap, ◌∙◌, subst, ⊎_elim, arith}
 use Rattle.std.specs.Prelude.{slice_index}
 use Rattle.std.proofs.lemmas.List.{map_push}
 use native.Mathlib.Decide.{ℕ_discrete}
@@ -10,20 +10,32 @@ use Rattle.table_rule.specs.declared.trail.Step.{Step}
 use Rattle.table_rule.specs.declared.view.Past.{Past}
 use Rattle.table_rule.specs.declared.view.View.{View}
 use Rattle.table_rule.specs.IdleWords.{bias}
-use Rattle.table_rule.specs.Pasts.{AreIdleSteps, KnowsPast, MakesStepOn, move_of, moves_of}
+use Rattle.table_rule.specs.Pasts.{AreIdleSteps, KnowsPast, LookInOrder, MakesStepOn, move_of, moves_of}
 use Rattle.table_rule.specs.Trails.{AreOfMakers, GoesOn, steps_by, steps_on, steps_since}
-use Rattle.table_rule.specs.Views.{new_past}
-use Rattle.table_rule.proofs.TrailLemmas.{by_it, by_none, by_other, goes_on_more, numbered_more, of_makers_more, of_more_makers, on_it, on_other, since_it, since_none, step_of}
+use Rattle.table_rule.specs.Views.{new_past, waking_step}
+use Rattle.table_rule.proofs.TrailLemmas.{by_it, by_none, by_other, goes_on_more, look_longer, look_more, numbered_more, of_makers_more, of_more_makers, on_it, on_other, since_it, since_none, step_of}
 use Rattle.table_rule.proofs.WordLemmas.{at_below, at_snoc_or, set_length, snoc_length, word_else, word_here}
 
 -- ## No step on an idle word
 
+-- the history became longer
+pub past_longer : (words : List ℕ) (views : List View) (n longer : ℕ) → n ≤ longer → AreIdleSteps words views n → AreIdleSteps words views longer
+past_longer words views n longer le a = record {
+  trail = a.trail;
+  goes_on = a.goes_on;
+  looked = look_longer 0 (steps_on 0 a.trail) n longer le a.looked;
+  numbered = a.numbered;
+  of_views = a.of_views;
+  known = a.known;
+}
+
 -- one view changed, and the trail is what it was
-pub past_changed : (words words' : List ℕ) (views : List View) (id : ℕ) (w : View) (a : AreIdleSteps words views)
-    → ((k : ℕ) → k < 32 → slice_index words' (k + 2) ≡ slice_index words (k + 2)) → KnowsPast a.trail id w → AreIdleSteps words' (set views id w)
-past_changed words words' views id w a same mine = record {
+pub past_changed : (words words' : List ℕ) (views : List View) (n id : ℕ) (w : View) (a : AreIdleSteps words views n)
+    → ((k : ℕ) → k < 32 → slice_index words' (k + 2) ≡ slice_index words (k + 2)) → KnowsPast a.trail id w → AreIdleSteps words' (set views id w) n
+past_changed words words' views n id w a same mine = record {
   trail = a.trail;
   goes_on = λ k lt. subst (GoesOn bias (steps_on (k + 2) a.trail)) (sym (same k lt)) (a.goes_on k lt);
+  looked = a.looked;
   numbered = a.numbered;
   of_views = subst (λ n. AreOfMakers n a.trail) (sym (set_length views id w)) a.of_views;
   known = λ j u e. ⊎_elim
@@ -33,12 +45,12 @@ past_changed words words' views id w a same mine = record {
 }
 
 -- a pass keeps what it knows
-pub past_same : (words words' : List ℕ) (views : List View) (id : ℕ) (v w : View) (a : AreIdleSteps words views) → get_elem? views id ≡ m.some v
+pub past_same : (words words' : List ℕ) (views : List View) (n id : ℕ) (v w : View) (a : AreIdleSteps words views n) → get_elem? views id ≡ m.some v
     → w.past ≡ v.past → w.who.resting ≡ v.who.resting
-    → ((k : ℕ) → k < 32 → slice_index words' (k + 2) ≡ slice_index words (k + 2)) → AreIdleSteps words' (set views id w)
-past_same words words' views id v w a at past resting same =
+    → ((k : ℕ) → k < 32 → slice_index words' (k + 2) ≡ slice_index words (k + 2)) → AreIdleSteps words' (set views id w) n
+past_same words words' views n id v w a at past resting same =
     let mine = a.known id v at in
-    past_changed words words' views id w a same record {
+    past_changed words words' views n id w a same record {
       since = subst (λ (p : Past). p.since ≤ length a.trail) (sym past) mine.since;
       up = λ up. subst (λ (p : Past). p.steps ≡ steps_since p.since (steps_by id a.trail)) (sym past) (mine.up (sym resting ∙ up));
       rests = λ rests. ap (λ (p : Past). p.steps) past ∙ mine.rests (sym resting ∙ rests);
@@ -52,24 +64,16 @@ knows_none trail id w past rests = record {
   rests = λ _. ap (λ (p : Past). p.steps) past;
 }
 
--- one that wakes up knows how many steps there were
-pub knows_since : (words : List ℕ) (views : List View) (a : AreIdleSteps words views) (id : ℕ) (w : View)
-    → w.past ≡ record { since = length a.trail; steps = [] } → w.who.resting ≡ false → KnowsPast a.trail id w
-knows_since words views a id w past up = record {
-  since = subst (λ (p : Past). p.since ≤ length a.trail) (sym past) (let z : length a.trail ≤ length a.trail = omega arith in z);
-  up = λ _. subst (λ (p : Past). p.steps ≡ steps_since p.since (steps_by id a.trail)) (sym past)
-      (sym (since_none 0 (length a.trail) id a.trail a.numbered (omega arith)));
-  rests = λ rests. absurd (true≢false (sym rests ∙ up));
-}
-
 -- one view more, which knows nothing yet
-pub past_more : (words : List ℕ) (views : List View) (w : View) (a : AreIdleSteps words views) → w.past ≡ new_past → AreIdleSteps words (views ++ w ∷ [])
-past_more words views w a past =
+pub past_more : (words : List ℕ) (views : List View) (n : ℕ) (w : View) (a : AreIdleSteps words views n) → w.past ≡ new_past
+    → AreIdleSteps words (views ++ w ∷ []) n
+past_more words views n w a past =
     let more = snoc_length views w in
     let none : steps_since 0 (steps_by (length views) a.trail) ≡ [] = ap (steps_since 0) (by_none (length views) a.trail a.of_views) in
     record {
       trail = a.trail;
       goes_on = a.goes_on;
+      looked = a.looked;
       numbered = a.numbered;
       of_views = of_more_makers (length views) (length (views ++ w ∷ [])) a.trail (omega (arith, more)) a.of_views;
       known = λ j u e. ⊎_elim
@@ -83,10 +87,11 @@ past_more words views w a past =
     }
 
 -- no step was made yet
-pub past_begins : (words : List ℕ) (v : View) → ((k : ℕ) → k < 32 → slice_index words (k + 2) ≡ bias) → v.past ≡ new_past → AreIdleSteps words (v ∷ [])
-past_begins words v first past = past_more words [] v record {
+pub past_begins : (words : List ℕ) (v : View) → ((k : ℕ) → k < 32 → slice_index words (k + 2) ≡ bias) → v.past ≡ new_past → AreIdleSteps words (v ∷ []) 0
+past_begins words v first past = past_more words [] 0 v record {
   trail = [];
   goes_on = λ k lt. sym (first k lt);
+  looked = omega arith;
   numbered = tt;
   of_views = tt;
   known = λ j u e. absurd (m.some-ne-none u (sym e));
@@ -99,14 +104,14 @@ abbrev pub past_with : Step → Past → Past
 past_with step past = record past { steps = past.steps ++ step ∷ [] }
 
 -- the next step of that view
-abbrev pub next_step : {words : List ℕ} {views : List View} → AreIdleSteps words views → ℕ → ℕ → ℕ → ℕ → Step
+abbrev pub next_step : {words : List ℕ} {views : List View} {n : ℕ} → AreIdleSteps words views n → ℕ → ℕ → ℕ → ℕ → Step
 next_step a id k found x = step_of (k + 2) (length a.trail) id found x
 
 -- a pass that is up made a step on the idle word of a child
-pub past_step : (words : List ℕ) (views : List View) (id : ℕ) (v w : View) (a : AreIdleSteps words views) (k x : ℕ) → get_elem? views id ≡ m.some v
+pub past_step : (words : List ℕ) (views : List View) (n id : ℕ) (v w : View) (a : AreIdleSteps words views n) (k x : ℕ) → get_elem? views id ≡ m.some v
     → v.who.resting ≡ false → w.who.resting ≡ false → k < 32 → length words ≡ 34
-    → w.past ≡ past_with (next_step a id k (slice_index words (k + 2)) x) v.past → AreIdleSteps (set words (k + 2) x) (set views id w)
-past_step words views id v w a k x at up up' lt count past =
+    → w.past ≡ past_with (next_step a id k (slice_index words (k + 2)) x) v.past → AreIdleSteps (set words (k + 2) x) (set views id w) n
+past_step words views n id v w a k x at up up' lt count past =
     let step = next_step a id k (slice_index words (k + 2)) x in
     let mine = a.known id v at in
     let within = at_below views id v at in
@@ -123,6 +128,7 @@ past_step words views id v w a k x at up up' lt count past =
             subst (λ l. GoesOn bias l (slice_index (set words (k + 2) x) (j + 2))) (sym (on_other (j + 2) a.trail step (λ (e : k + 2 ≡ j + 2). ne (omega arith))))
             (subst (GoesOn bias (steps_on (j + 2) a.trail)) (sym (word_else words (k + 2) (j + 2) x (λ e. ne (omega arith)))) (a.goes_on j below))
       ];
+      looked = subst (λ l. LookInOrder 0 l n) (sym (on_other 0 a.trail step (λ (e : k + 2 ≡ 0). omega arith))) a.looked;
       numbered = numbered_more 0 a.trail step a.numbered (let z : length a.trail ≡ 0 + length a.trail = omega arith in z);
       of_views = of_makers_more (length (set views id w)) a.trail step
           (subst (λ n. AreOfMakers n a.trail) (sym long) a.of_views) (let z : id < length (set views id w) = omega (arith, long, within) in z);
@@ -135,6 +141,41 @@ past_step words views id v w a k x at up up' lt count past =
                 ∙ (sym (since_it v.past.since (steps_by id a.trail) step mine.since)
                 ∙ sym (ap (steps_since v.past.since) (by_it id a.trail step refl))));
             rests = λ rests. absurd (true≢false (sym rests ∙ up'));
+          }))
+          (λ (z : (j ≢ id) × (get_elem? views j ≡ m.some u)). let o = a.known j u z.1 in record {
+            since = (let s = o.since in omega (arith, all));
+            up = λ there. o.up there ∙ sym (ap (steps_since u.past.since) (by_other j a.trail step (λ (e : id ≡ j). z.0 (sym e))));
+            rests = o.rests;
+          })
+          (at_set views id j w u e);
+    }
+
+-- a pass that rested wakes up with a look at the turn word, of which half is the length of the history
+pub past_wakes : (words words' : List ℕ) (views : List View) (n id found : ℕ) (v w : View) (a : AreIdleSteps words views n) → get_elem? views id ≡ m.some v
+    → w.who.resting ≡ false → found / 2 ≡ n → ((k : ℕ) → k < 32 → slice_index words' (k + 2) ≡ slice_index words (k + 2))
+    → w.past ≡ record { since = length a.trail; steps = waking_step id (length a.trail) found ∷ [] } → AreIdleSteps words' (set views id w) n
+past_wakes words words' views n id found v w a at up half same past =
+    let step = waking_step id (length a.trail) found in
+    let within = at_below views id v at in
+    let long = set_length views id w in
+    let all = snoc_length a.trail step in
+    record {
+      trail = a.trail ++ step ∷ [];
+      goes_on = λ k lt. subst (λ l. GoesOn bias l (slice_index words' (k + 2))) (sym (on_other (k + 2) a.trail step (λ (e : 0 ≡ k + 2). omega arith)))
+          (subst (GoesOn bias (steps_on (k + 2) a.trail)) (sym (same k lt)) (a.goes_on k lt));
+      looked = subst (λ l. LookInOrder 0 l n) (sym (on_it 0 a.trail step refl)) (look_more 0 (steps_on 0 a.trail) step n a.looked half);
+      numbered = numbered_more 0 a.trail step a.numbered (let z : length a.trail ≡ 0 + length a.trail = omega arith in z);
+      of_views = of_makers_more (length (set views id w)) a.trail step
+          (subst (λ makers. AreOfMakers makers a.trail) (sym long) a.of_views) (let z : id < length (set views id w) = omega (arith, long, within) in z);
+      known = λ j u e. ⊎_elim
+          (λ (z : (j ≡ id) × (w ≡ u)). subst (λ i. KnowsPast (a.trail ++ step ∷ []) i u) (sym z.0) (subst (KnowsPast (a.trail ++ step ∷ []) id) z.1 record {
+            since = subst (λ (p : Past). p.since ≤ length (a.trail ++ step ∷ [])) (sym past)
+                (let le : length a.trail ≤ length (a.trail ++ step ∷ []) = omega (arith, all) in le);
+            up = λ _. subst (λ (p : Past). p.steps ≡ steps_since p.since (steps_by id (a.trail ++ step ∷ []))) (sym past)
+                (sym (ap (steps_since (length a.trail)) (by_it id a.trail step refl)
+                ∙ since_it (length a.trail) (steps_by id a.trail) step (let z : length a.trail ≤ length a.trail = omega arith in z)
+                ∙ ap (λ l. l ++ step ∷ []) (since_none 0 (length a.trail) id a.trail a.numbered (omega arith))));
+            rests = λ rests. absurd (true≢false (sym rests ∙ up));
           }))
           (λ (z : (j ≢ id) × (get_elem? views j ≡ m.some u)). let o = a.known j u z.1 in record {
             since = (let s = o.since in omega (arith, all));

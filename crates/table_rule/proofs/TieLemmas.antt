@@ -16,7 +16,7 @@ use Rattle.table_rule.specs.declared.view.Hand.{Hand}
 use Rattle.table_rule.specs.declared.view.LastLeft.{LastLeft}
 use Rattle.table_rule.specs.declared.view.Origin.{Origin}
 use Rattle.table_rule.specs.declared.view.View.{View}
-use Rattle.conn_machine.specs.Made.{AreMade}
+use Rattle.conn_machine.specs.Made.{AreMade, AreOfPasses}
 use Rattle.table_rule.specs.Histories.{threads_of}
 use Rattle.table_rule.specs.IdleWords.{bit, bit_at, permits, tries, HasPermit, AreIdleWords}
 use Rattle.table_rule.specs.Pasts.{AreIdleSteps}
@@ -82,7 +82,7 @@ module _ {K : Type 0} (ledger : K → Ledger) (o : Ledger) where
       → Placed f.view.left history record { words = words; homes = homes; views = set s.views id w }
       → AreDrawn (origin_of o) words (set s.views id w) f.view.draws
       → AreIdleWords (after o.base history) words (set s.views id w) f.view.credits
-      → AreIdleSteps words (set s.views id w)
+      → AreIdleSteps words (set s.views id w) (length history)
       → IsTied ledger o record { words = words; homes = homes; views = set s.views id w }
   moved s t id v w f words homes history count made undrawn others mine place drawn idle steps = record {
     history = history;
@@ -168,6 +168,10 @@ module _ {K : Type 0} (ledger : K → Ledger) (o : Ledger) where
   -- a pass's number is below the number of passes
   pub number_below : (s : State (Option K) View) (t : IsTied ledger o s) (id : ℕ) (v : View) → get_elem? s.views id ≡ m.some v → id < o.passes
   number_below s t id v at = let b = at_below s.views id v at in let d = t.drawn.views_are in let f = t.drawn.few in omega arith
+
+  -- no pass beyond that number made an entry
+  pub of_passes : (s : State (Option K) View) (t : IsTied ledger o s) → AreOfPasses o.passes t.history
+  of_passes s t n le = t.undrawn n (let d = t.drawn.views_are in let f = t.drawn.few in omega arith)
 
   -- the view of pass 0 is the first
   pub first_is : (s : State (Option K) View) (t : IsTied ledger o s) (id : ℕ) (v : View) → get_elem? s.views id ≡ m.some v → id ≡ 0 → v ≡ t.first

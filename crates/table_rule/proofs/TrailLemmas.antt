@@ -1,8 +1,9 @@
 -- One step more on a trail.
-use Rattle.std.proofs.Common.{◌≡◌, ◌≢◌, ℕ, suc, ◌+◌, ◌<◌, ◌≤◌, ◌==◌, Bool, true, false, cond, not, nat_lt, List, [], ◌∷◌, ◌++◌, length, filter, refl, sym, ap, ◌∙◌, append-nil, arith, eq-eqb, ne_eqb}
+use Rattle.std.proofs.Common.{◌≡◌, ◌≢◌, ℕ, suc, ◌+◌, ◌/◌, ◌<◌, ◌≤◌, ◌==◌, Bool, true, false, cond, not, nat_lt, List, [], ◌∷◌, ◌++◌, length, filter, refl, sym, ap, subst, ◌∙◌, append-nil, arith, eq-eqb, ne_eqb}
 use Rattle.std.proofs.lemmas.Bool.{lt-ltb, le-ltb}
 use Rattle.std.proofs.lemmas.List.Elements.{filter-append}
 use Rattle.table_rule.specs.declared.trail.Step.{Step}
+use Rattle.table_rule.specs.Pasts.{LookInOrder}
 use Rattle.table_rule.specs.Trails.{AreNumbered, AreOfMakers, GoesOn, steps_by, steps_on, steps_since}
 
 -- a step of these numbers
@@ -31,6 +32,20 @@ pub of_makers_more : (makers : ℕ) (steps : List Step) (step : Step) → AreOfM
     → AreOfMakers makers (steps ++ step ∷ [])
 of_makers_more makers [] step of_makers below = (below, tt)
 of_makers_more makers (s ∷ steps) step of_makers below = (of_makers.0, of_makers_more makers steps step of_makers.1 below)
+
+-- ## Looks at the turn word
+
+-- the history may have become longer
+pub look_longer : (least : ℕ) (steps : List Step) (most longer : ℕ) → most ≤ longer → LookInOrder least steps most → LookInOrder least steps longer
+look_longer least [] most longer le look = omega arith
+look_longer least (s ∷ steps) most longer le look = (look.0, look_longer (s.found / 2) steps most longer le look.1)
+
+-- one look more, which found the present length
+pub look_more : (least : ℕ) (steps : List Step) (step : Step) (most : ℕ) → LookInOrder least steps most → step.found / 2 ≡ most
+    → LookInOrder least (steps ++ step ∷ []) most
+look_more least [] step most look is =
+    (subst (λ n. least ≤ n) (sym is) look, subst (λ n. step.found / 2 ≤ n) is (let z : step.found / 2 ≤ step.found / 2 = omega arith in z))
+look_more least (s ∷ steps) step most look is = (look.0, look_more (s.found / 2) steps step most look.1 is)
 
 -- ## Some of the steps
 

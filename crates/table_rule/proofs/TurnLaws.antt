@@ -1,5 +1,5 @@
--- Steps on the turn word but for the give: the turn is taken, the word is looked at, a pass lies down and wakes up.
-use Rattle.std.proofs.Common.{◌≡◌, ◌≢◌, ℕ, ◌+◌, ◌*◌, ◌%◌, ◌<◌, ◌==◌, List, [], ◌∷◌, length, set, Option, Some, None, Bool, true, false, true≢false, refl, sym, ap, ◌∙◌, subst, inr, ⊎_elim, append-nil, arith, eq-eqb}
+-- Steps on the turn word but for the give: the turn is taken, a pass lies down and wakes up.
+use Rattle.std.proofs.Common.{◌≡◌, ◌≢◌, ℕ, ◌+◌, ◌*◌, ◌/◌, ◌%◌, ◌<◌, ◌==◌, List, [], ◌∷◌, length, set, Option, Some, None, Bool, true, false, true≢false, refl, sym, ap, ◌∙◌, subst, inr, ⊎_elim, append-nil, arith, eq-eqb}
 use Rattle.std.specs.Prelude.{slice_index, slice_set, slice_get, IfSome}
 use mathlib.Core.Option as m
 use lib.ListN.{get_elem?}
@@ -13,15 +13,15 @@ use Rattle.conn_machine.specs.Runs.{after, row_of}
 use Rattle.table_rule.specs.declared.view.LastLeft.{LastLeft}
 use Rattle.table_rule.specs.declared.view.Origin.{Origin}
 use Rattle.table_rule.specs.declared.view.View.{View}
-use Rattle.conn_machine.specs.Made.{AreMade, HasSeen}
+use Rattle.conn_machine.specs.Made.{AreMade, AreOfPasses, HasSeen}
 use Rattle.table_rule.specs.Ledgers.{IsSplit}
-use Rattle.table_rule.specs.Views.{IsAwake, IsFound, IsIdle, HasFreeWorker, resting_view, taken_view, woken_view}
-use Rattle.table_rule.specs.Pasts.{KnowsPast}
+use Rattle.table_rule.specs.Views.{IsAwake, IsFound, IsIdle, HasFreeWorker, resting_view, taken_view, waking_step, woken_view}
+use Rattle.table_rule.specs.Pasts.{AreIdleSteps}
 use Rattle.table_rule.specs.Steps.{IsTurnTaken, TakesTurn, LiesDown, WakesUp}
 use Rattle.table_rule.specs.Tie.{IsTied, IsViewOf, KeptIsHome, KeptIsOut, origin_of}
 use Rattle.table_rule.proofs.MachineLemmas.{RowsStay, SomeoneHas, none_some, row_by, seen_same, seen_whole}
-use Rattle.table_rule.proofs.PastLemmas.{knows_none, knows_since, past_changed, past_same}
-use Rattle.table_rule.proofs.TieLemmas.{drawn_same, first_is, idle_same, moved, number_below, same_place, stays, views_of}
+use Rattle.table_rule.proofs.PastLemmas.{knows_none, past_changed, past_same, past_wakes}
+use Rattle.table_rule.proofs.TieLemmas.{drawn_same, first_is, idle_same, moved, number_below, of_passes, same_place, stays, views_of}
 use Rattle.table_rule.proofs.WordLemmas.{at_below, first_after, first_other, first_same, set_length, word_again, word_else, word_here}
 use Rattle.table_rule.proofs.WorkerLaws.{free_worker}
 
@@ -45,9 +45,9 @@ module _ {K : Type 0} (ledger : K → Ledger) (o : Ledger) where
       → left ≡ t.first.left → IsSplit (origin_of o) left found t.history → IsFound v found t.history
   found_by someone stay s t id v left found at awake same parts =
       let mine = t.fits id v at in
-      let number : v.who.number ≡ id = mine.number awake.there in
-      let origin : v.origin ≡ origin_of o = mine.origin_is awake.there awake.up in
-      let behind : HasSeen id v.seen t.history = mine.seen awake.there awake.up in
+      let number : v.who.number ≡ id = mine.number in
+      let origin : v.origin ≡ origin_of o = mine.origin_is awake in
+      let behind : HasSeen id v.seen t.history = mine.seen awake in
       let row : v.row ≡ row_of id v.seen = mine.row ∙ row_by id t.history v.seen (seen_same id v.seen t.history behind) in
       let home : (q : Origin) → q ≡ origin_of o → IfSome v.row (λ name. slice_get (after q.state t.history).rows name.slot ≡ slice_get (after q.state v.seen).rows name.slot) =
       λ q e. subst (λ (g : Origin). IfSome v.row (λ name. slice_get (after g.state t.history).rows name.slot ≡ slice_get (after g.state v.seen).rows name.slot)) (sym e)
@@ -58,6 +58,7 @@ module _ {K : Type 0} (ledger : K → Ledger) (o : Ledger) where
       record {
         seen = subst (λ n. HasSeen n v.seen t.history) (sym number) behind;
         made = subst (λ (g : Origin). AreMade g.state (opening_record g.passes) t.history) (sym origin) t.made;
+        few = subst (λ (g : Origin). AreOfPasses g.passes t.history) (sym origin) (of_passes ledger o s t);
         number = subst (λ n. n < v.origin.passes) (sym number) (subst (λ (g : Origin). id < g.passes) (sym origin) (number_below ledger o s t id v at));
         left = left;
         parts = subst (λ (g : Origin). IsSplit g left found t.history) (sym origin) parts;
@@ -86,7 +87,7 @@ module _ {K : Type 0} (ledger : K → Ledger) (o : Ledger) where
         moved ledger o s t id v w f words (slice_set s.homes 0 m.none) t.history
             (set_length s.words 0 (n + 1) ∙ t.count) t.made t.undrawn
             (λ j u _ e. t.fits j u e)
-            record { number = mine.number; origin_is = mine.origin_is; begins = ([], sym (append-nil t.history)); seen = λ _ _. seen_whole id t.history; row = mine.row }
+            record { number = mine.number; origin_is = mine.origin_is; begins = ([], sym (append-nil t.history)); seen = λ _. seen_whole id t.history; row = mine.row }
             (inr record {
               holder = id;
               view = w;
@@ -104,7 +105,7 @@ module _ {K : Type 0} (ledger : K → Ledger) (o : Ledger) where
             })
             (drawn_same (origin_of o) s.words words s.views id w t.first.draws f.view.draws t.drawn (second_else s.words (n + 1)) (first_same (λ (q : View). q.draws) s.views id v w t.first f (λ _. refl)))
             (idle_same (after o.base t.history) s.words words s.views id v w t.first.credits f.view.credits t.idle at refl refl (λ k _. idle_else s.words (n + 1) k) (first_same (λ (q : View). q.credits) s.views id v w t.first f (λ _. refl)))
-            (past_same s.words words s.views id v w t.steps at refl refl (λ k _. idle_else s.words (n + 1) k)),
+            (past_same s.words words s.views (length t.history) id v w t.steps at refl refl (λ k _. idle_else s.words (n + 1) k)),
         (home.kept, t.history, refl, refl, found_by someone stay s t id v t.first.left (ledger home.kept) at awake refl home.parts),
       )
 
@@ -121,11 +122,29 @@ module _ {K : Type 0} (ledger : K → Ledger) (o : Ledger) where
       let P : List (ℕ × Option K) → Type 0 = λ l. Allows (IsTied ledger o) slots id (me.0, l) 0 (λ x. either (x == n) (n + 1) x) (TakesTurn ledger (step slots 0 n (n + 1) m.none) (me.0, l)) in
       subst P (sym none) (λ s t len at small. taken someone stay s t id me.0 n at awake even (slice_index s.words 0 == n) refl)
 
-  -- a load of the turn word, at which a pass that has nothing becomes another view of its number
+  -- half of the turn word is the length of the history, whoever has the turn
+  half_of : (word entries : ℕ) → word ≡ 2 * entries → word / 2 ≡ entries
+  half_of word entries is = omega arith
+
+  half_of_odd : (word entries : ℕ) → word ≡ 2 * entries + 1 → word / 2 ≡ entries
+  half_of_odd word entries is = omega arith
+
+  word_half : (s : State (Option K) View) (t : IsTied ledger o s) → slice_index s.words 0 / 2 ≡ length t.history
+  word_half s t = ⊎_elim
+      (λ (home : KeptIsHome ledger (origin_of o) t.first.left t.history s). half_of (slice_index s.words 0) (length t.history) home.word)
+      (λ (out : KeptIsOut (origin_of o) t.first.left t.history s). half_of_odd (slice_index s.words 0) (length t.history) out.word)
+      t.place
+
+  -- a load of the turn word leaves the idle words
+  idle_again : (s : State (Option K) View) (k : ℕ) → slice_index (set s.words 0 (slice_index s.words 0)) (k + 2) ≡ slice_index s.words (k + 2)
+  idle_again s k = ap (λ l. slice_index l (k + 2)) (word_again s.words 0)
+
+  -- at such a load a pass that has nothing becomes another view of its number
   looked : (s : State (Option K) View) (t : IsTied ledger o s) (id : ℕ) (v w : View) → get_elem? s.views id ≡ m.some v → id ≢ 0
-      → v.turn ≡ None → w.turn ≡ None → w.hand ≡ v.hand → w.row ≡ v.row → IsViewOf (origin_of o) t.history id w → KnowsPast t.steps.trail id w
+      → v.turn ≡ None → w.turn ≡ None → w.hand ≡ v.hand → w.row ≡ v.row → IsViewOf (origin_of o) t.history id w
+      → AreIdleSteps (set s.words 0 (slice_index s.words 0)) (set s.views id w) (length t.history)
       → IsTied ledger o record { words = set s.words 0 (slice_index s.words 0); homes = s.homes; views = set s.views id w }
-  looked s t id v w at other none none' hand row fits knows =
+  looked s t id v w at other none none' hand row fits steps =
       let f = first_after s.views id v w t.first at t.at in
       let words = set s.words 0 (slice_index s.words 0) in
       let again : words ≡ s.words = word_again s.words 0 in
@@ -134,12 +153,12 @@ module _ {K : Type 0} (ledger : K → Ledger) (o : Ledger) where
       (λ j u _ e. t.fits j u e) fits
       (same_place ledger o s words t.first.left f.view.left t.history id v w at (none' ∙ sym none) (λ got h. none_some v.turn got none h) (ap (λ l. slice_index l 0) again) (first_other (λ (q : View). q.left) s.views id v w t.first f other) t.place)
       (drawn_same (origin_of o) s.words words s.views id w t.first.draws f.view.draws t.drawn (ap (λ l. slice_index l 1) again) (first_other (λ (q : View). q.draws) s.views id v w t.first f other))
-      (idle_same (after o.base t.history) s.words words s.views id v w t.first.credits f.view.credits t.idle at hand row (λ k _. ap (λ l. slice_index l (k + 2)) again) (first_other (λ (q : View). q.credits) s.views id v w t.first f other))
-      (past_changed s.words words s.views id w t.steps (λ k _. ap (λ l. slice_index l (k + 2)) again) knows)
+      (idle_same (after o.base t.history) s.words words s.views id v w t.first.credits f.view.credits t.idle at hand row (λ k _. idle_again s k) (first_other (λ (q : View). q.credits) s.views id v w t.first f other))
+      steps
 
   -- a pass other than pass 0 has another place
-  other_place : (s : State (Option K) View) (t : IsTied ledger o s) (id : ℕ) (v : View) → get_elem? s.views id ≡ m.some v → v.who.gone ≡ false → v.who.number ≢ 0 → id ≢ 0
-  other_place s t id v at there other z = other ((t.fits id v at).number there ∙ z)
+  other_place : (s : State (Option K) View) (t : IsTied ledger o s) (id : ℕ) (v : View) → get_elem? s.views id ≡ m.some v → v.who.number ≢ 0 → id ≢ 0
+  other_place s t id v at other z = other ((t.fits id v at).number ∙ z)
 
   pub rests_law : (slots id : ℕ) (me : Me (Option K) View) → IsAwake me.0 → IsIdle me.0 → me.0.who.number ≢ 0
       → Allows (IsTied ledger o) slots id me 0 (λ n. n) (LiesDown (step slots 0 0 0 m.none) me)
@@ -149,15 +168,16 @@ module _ {K : Type 0} (ledger : K → Ledger) (o : Ledger) where
         w,
         keeps,
         tt,
-        looked s t id me.0 w at (other_place s t id me.0 at awake.there other) idle.turn refl (sym idle.hand) (sym idle.row)
+        looked s t id me.0 w at (other_place s t id me.0 at other) idle.turn refl (sym idle.hand) (sym idle.row)
             record {
-              number = λ _. mine.number awake.there;
-              origin_is = λ _ up. absurd (true≢false up);
+              number = mine.number;
+              origin_is = λ up. absurd (true≢false up);
               begins = (t.history, refl);
-              seen = λ _ up. absurd (true≢false up);
+              seen = λ up. absurd (true≢false up);
               row = sym idle.row ∙ mine.row;
             }
-            (knows_none t.steps.trail id w refl refl),
+            (past_changed s.words (set s.words 0 (slice_index s.words 0)) s.views (length t.history) id w t.steps (λ k _. idle_again s k)
+            (knows_none t.steps.trail id w refl refl)),
         (refl, refl),
       )
 
@@ -166,27 +186,24 @@ module _ {K : Type 0} (ledger : K → Ledger) (o : Ledger) where
       → Allows (IsTied ledger o) slots id me 0 (λ n. n) (WakesUp (step slots 0 0 0 m.none) me)
   wakes_law slots id me p rests other s t len at small =
       let mine = t.fits id me.0 at in
-      let there : me.0.who.gone ≡ false = ap (λ (q : View). q.who.gone) rests in
       let number : me.0.who.number ≡ p = ap (λ (q : View). q.who.number) rests in
-      let w : View = woken_view (origin_of o) me.0.who.number t.history (length t.steps.trail) in (
+      let found = slice_index s.words 0 in
+      let since = length t.steps.trail in
+      let half = word_half s t in
+      let w : View = woken_view (origin_of o) me.0.who.number t.history since found in (
         w,
         keeps,
         tt,
-        looked s t id me.0 w at (other_place s t id me.0 at there (λ z. other (sym number ∙ z))) (ap (λ (q : View). q.turn) rests) refl
+        looked s t id me.0 w at (other_place s t id me.0 at (λ z. other (sym number ∙ z))) (ap (λ (q : View). q.turn) rests) refl
             (sym (ap (λ (q : View). q.hand) rests)) (sym (ap (λ (q : View). q.row) rests))
             record {
-              number = λ _. mine.number there;
-              origin_is = λ _ _. refl;
+              number = mine.number;
+              origin_is = λ _. refl;
               begins = ([], sym (append-nil t.history));
-              seen = λ _ _. seen_whole id t.history;
+              seen = λ _. seen_whole id t.history;
               row = sym (ap (λ (q : View). q.row) rests) ∙ mine.row;
             }
-            (knows_since s.words s.views t.steps id w refl refl),
-        (refl, (origin_of o, t.history, length t.steps.trail, refl, t.made, ap (λ n. row_of n t.history) (mine.number there) ∙ sym mine.row ∙ ap (λ (q : View). q.row) rests)),
+            (past_wakes s.words (set s.words 0 found) s.views (length t.history) id found me.0 w t.steps at refl half (λ k _. idle_again s k)
+            (ap (λ (i : ℕ). record { since = since; steps = waking_step i since found ∷ [] }) mine.number)),
+        (refl, (origin_of o, t.history, since, refl, half, t.made, ap (λ n. row_of n t.history) mine.number ∙ sym mine.row ∙ ap (λ (q : View). q.row) rests)),
       )
-
-  pub took : (found first : ℕ) (v w : Me (Option K) View) → found ≡ first → IsTurnTaken ledger (found == first) v w → IsTurnTaken ledger true v w
-  took found first v w same told = subst (λ b. IsTurnTaken ledger b v w) (eq-eqb found first same) told
-
-  pub in_hand_is : (v w : Me (Option K) View) → IsTurnTaken ledger true v w → (old : Option K) × (w.1 ≡ (0, old) ∷ rest w.1)
-  in_hand_is v w t = (Some t.0, subst (λ l. l ≡ (0, Some t.0) ∷ rest l) (sym t.2) refl)

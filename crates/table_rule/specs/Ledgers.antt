@@ -10,13 +10,16 @@ use Rattle.table_rule.specs.declared.view.View.{View}
 use Rattle.table_rule.specs.Histories.{ArePermitted, Extends}
 
 -- the history is the folded entries and then what the value keeps; its base is the state after them, its record is the one
--- that was left, and counts them, those of each pass too, and has the connection of each pass behind them; its texts begin with
--- those that were left
+-- that was left, and but for its lines what one fold makes of them all: so it counts them, those of each pass too, and has the
+-- connection of each pass behind them; its texts begin with those that were left
 pub record IsSplit (origin : Origin) (left : LastLeft) (l : Ledger)
     (whole : List Entry) : Type 0 where
   pub whole_is : whole ≡ left.entries ++ l.history
   pub base : l.base ≡ after origin.state left.entries
   pub record_is : l.folded ≡ left.folded
+  pub one_fold : l.folded
+      ≡ record (fold_of origin.state left.entries [] (opening_record origin.passes))
+      { lines = l.folded.lines }
   pub counted : l.folded.entries ≡ length left.entries
   pub places : HasPlacesFor origin.passes l.folded
   pub ordinals : (p : ℕ)

@@ -1,5 +1,5 @@
 -- What each kind of step tells the pass that makes it.
-use Rattle.std.specs.Prelude.{◌≡◌, ◌≤◌, ℕ, ◌+◌, ◌-◌, ◌==◌, Bool, true, false, List, [], ◌∷◌, nat_lt, Option, None, Some}
+use Rattle.std.specs.Prelude.{◌≡◌, ◌≤◌, ℕ, ◌+◌, ◌-◌, ◌/◌, ◌==◌, Bool, true, false, List, [], ◌∷◌, length, nat_lt, Option, None, Some}
 use prog.Atomic.{either}
 use Rattle.atomic_table.specs.Table.{Step, Me}
 use Rattle.conn_machine.specs.declared.event.Entry.{Entry}
@@ -12,7 +12,7 @@ use Rattle.table_rule.specs.declared.view.LastLeft.{LastLeft}
 use Rattle.table_rule.specs.declared.view.Origin.{Origin}
 use Rattle.table_rule.specs.declared.view.View.{View}
 use Rattle.table_rule.specs.Ledgers.{EndsTurn, IsLastLeft}
-use Rattle.table_rule.specs.Views.{IsFound, taken_view, given_view, drawn_view, resting_view, woken_view, with_permit, with_try, credited_view}
+use Rattle.table_rule.specs.Views.{IsFound, taken_view, given_view, drawn_view, resting_view, seeing_view, woken_view, with_permit, with_try, credited_view}
 use Rattle.table_rule.specs.IdleWords.{bias}
 use Rattle.table_rule.specs.Pasts.{MakesStepOn}
 
@@ -45,14 +45,15 @@ abbrev pub LiesDown : {K : Type 0} → Step (Option K) → Me (Option K) View �
     → Type 0
 LiesDown s v found w = (w.1 ≡ v.1) × (w.0 ≡ resting_view v.0.who.number)
 
--- the pass rests no more: it has nothing, and knows its number, how many steps had been made on idle words, and some history
--- that it has seen, in which it has no connection
+-- the pass rests no more: it has nothing, and knows its number, the look at the turn word with which it woke up, and the history that
+-- it has seen, in which it has no connection, and of which that word had twice the length, or one more
 abbrev pub WakesUp : {K : Type 0} → Step (Option K) → Me (Option K) View → ℕ → Me (Option K) View
     → Type 0
 WakesUp s v found w =
     (w.1 ≡ v.1)
     × ((origin : Origin) × (seen : List Entry) × (since : ℕ)
-    × (w.0 ≡ woken_view origin v.0.who.number seen since)
+    × (w.0 ≡ woken_view origin v.0.who.number seen since found)
+    × (found / 2 ≡ length seen)
     × AreMade origin.state (opening_record origin.passes) seen
     × (row_of v.0.who.number seen ≡ None))
 
@@ -99,12 +100,13 @@ DropsCredit s v found w =
     × MakesStepOn s.word found (either (found == s.first) s.second found) v.0
     (uncredited_view (found == s.first) (s.word - 2) v.0) w.0
 
--- nothing changed but that the step was made; in a history that the pass had seen the first of, at least as many workers of the
--- child carry nothing as the word is above the bias, which are 64 at most
+-- nothing changed but that the step was made, and that the pass has seen a history that goes on from what it had seen by entries of
+-- others; behind it at least as many workers of the child carry nothing as the word is above the bias, which are 64 at most
 abbrev pub LooksAtIdle : {K : Type 0} → Step (Option K) → Me (Option K) View → ℕ
     → Me (Option K) View → Type 0
 LooksAtIdle s v found w =
-    (w.1 ≡ v.1) × MakesStepOn s.word found found v.0 v.0 w.0 × (found - bias ≤ 64)
-    × ((history : List Entry) × HasSeen v.0.who.number v.0.seen history
+    (w.1 ≡ v.1) × (found - bias ≤ 64)
+    × ((history : List Entry) × MakesStepOn s.word found found v.0 (seeing_view history v.0) w.0
+    × HasSeen v.0.who.number v.0.seen history
     × AreMade v.0.origin.state (opening_record v.0.origin.passes) history
     × (found - bias ≤ idle_in (after v.0.origin.state history) (s.word - 2)))

@@ -37,13 +37,13 @@ pub record AreFirstWords (words : List ℕ) : Type 0 where
   pub passes : slice_index words 1 ≡ 1
   pub idle : (k : ℕ) → k < 32 → slice_index words (k + 2) ≡ bias
 
--- one view and the history: its number is its place; it has seen a beginning, behind which it made no entry, where it neither
--- rests nor went into another; and it has the connection that its entries gave it last
+-- one view and the history: its number is its place; it has seen a beginning, behind which it made no entry, where it does not
+-- rest; and it has the connection that its entries gave it last
 pub record IsViewOf (origin : Origin) (history : List Entry) (id : ℕ) (v : View) : Type 0 where
-  pub number : v.who.gone ≡ false → v.who.number ≡ id
-  pub origin_is : v.who.gone ≡ false → v.who.resting ≡ false → v.origin ≡ origin
+  pub number : v.who.number ≡ id
+  pub origin_is : v.who.resting ≡ false → v.origin ≡ origin
   pub begins : Extends v.seen history
-  pub seen : v.who.gone ≡ false → v.who.resting ≡ false → HasSeen id v.seen history
+  pub seen : v.who.resting ≡ false → HasSeen id v.seen history
   pub row : v.row ≡ row_of id history
 
 -- the value is at home, and nobody has the turn
@@ -98,4 +98,4 @@ pub record IsTied {K : Type 0} (ledger : K → Ledger) (opened : Ledger)
       ⊎ KeptIsOut (origin_of opened) first.left history s
   pub drawn : AreDrawn (origin_of opened) s.words s.views first.draws
   pub idle : AreIdleWords (after opened.base history) s.words s.views first.credits
-  pub steps : AreIdleSteps s.words s.views
+  pub steps : AreIdleSteps s.words s.views (length history)

@@ -1,5 +1,5 @@
 -- The views of passes, and how steps change them.
-use Rattle.std.specs.Prelude.{◌≡◌, ◌<◌, ℕ, ◌+◌, ◌-◌, true, false, List, [], length, nat_lt, if◌then◌else◌, Option, None, Some, IfSome, replicate, slice_get, slice_set}
+use Rattle.std.specs.Prelude.{◌≡◌, ◌<◌, ℕ, ◌+◌, ◌-◌, true, false, List, [], ◌∷◌, Option, None, Some, IfSome, replicate, slice_get, slice_set}
 use Rattle.conn_machine.specs.declared.event.Entry.{Entry}
 use Rattle.conn_machine.specs.declared.kept.Ledger.{Ledger}
 use Rattle.conn_machine.specs.declared.state.State.{State}
@@ -8,12 +8,13 @@ use Rattle.conn_machine.specs.Children.{no_shape}
 use Rattle.conn_machine.specs.States.{opening_state}
 use Rattle.conn_machine.specs.Runs.{after, row_of}
 use Rattle.conn_machine.specs.Folds.{opening_record}
+use Rattle.table_rule.specs.declared.trail.Step.{Step}
 use Rattle.table_rule.specs.declared.view.Hand.{Hand}
 use Rattle.table_rule.specs.declared.view.LastLeft.{LastLeft}
 use Rattle.table_rule.specs.declared.view.Origin.{Origin}
 use Rattle.table_rule.specs.declared.view.Past.{Past}
 use Rattle.table_rule.specs.declared.view.View.{View}
-use Rattle.conn_machine.specs.Made.{AreMade, HasSeen}
+use Rattle.conn_machine.specs.Made.{AreMade, AreOfPasses, HasSeen}
 use Rattle.table_rule.specs.Histories.{threads_of}
 use Rattle.table_rule.specs.Ledgers.{IsSplit}
 
@@ -40,7 +41,7 @@ abbrev pub resting_view : ℕ → View
 resting_view p =
     record {
       origin = no_origin;
-      who = record { number = p; resting = true; gone = false };
+      who = record { number = p; resting = true };
       seen = [];
       turn = None;
       row = None;
@@ -56,15 +57,21 @@ abbrev pub free_view : Origin → ℕ → List Entry → View
 free_view origin p seen =
     record (resting_view p) {
       origin = origin;
-      who = record { number = p; resting = false; gone = false };
+      who = record { number = p; resting = false };
       seen = seen;
       left = nothing_left origin;
     }
 
--- a pass that woke up when so many steps had been made on idle words
-abbrev pub woken_view : Origin → ℕ → List Entry → ℕ → View
-woken_view origin p seen since =
-    record (free_view origin p seen) { past = record { since = since; steps = [] } }
+-- the look at the turn word with which a pass woke up, where so many steps stand before it, and which found this number
+abbrev pub waking_step : ℕ → ℕ → ℕ → Step
+waking_step p since found =
+    record { word = 0; at = since; by = p; found = found; leaves = found }
+
+-- a pass that woke up, and since made no other step than that look
+abbrev pub woken_view : Origin → ℕ → List Entry → ℕ → ℕ → View
+woken_view origin p seen since found =
+    record (free_view origin p seen)
+    { past = record { since = since; steps = waking_step p since found ∷ [] } }
 
 -- pass 0 before it did anything, when it has drawn the numbers below this one
 abbrev pub first_view : Origin → ℕ → View
@@ -72,16 +79,11 @@ first_view origin next =
     record (free_view origin 0 [])
     { credits = replicate 32 0; draws = record { next = next; spare = false } }
 
--- a pass that went into another one
-abbrev pub gone_view : View
-gone_view = record (resting_view 0) { who = record { number = 0; resting = true; gone = true } }
-
 -- ## What is said of one
 
--- the pass is there, and does not rest
-pub record IsAwake (v : View) : Type 0 where
-  pub up : v.who.resting ≡ false
-  pub there : v.who.gone ≡ false
+-- the pass does not rest
+abbrev pub IsAwake : View → Type 0
+IsAwake v = v.who.resting ≡ false
 
 -- the pass has no turn, no permit, no try and no connection
 pub record IsIdle (v : View) : Type 0 where
@@ -101,10 +103,12 @@ abbrev pub HasFreeWorker : View → State → Type 0
 HasFreeWorker v s =
     v.row ≡ None → IfSome v.hand.permit (λ k. carried_count s.rows k < threads_of s k)
 
--- what a pass finds that takes the turn: the value, and its history from the origin on
+-- what a pass finds that takes the turn: the value, and its history from the origin on, of entries of as many passes as there may
+-- be
 pub record IsFound (v : View) (found : Ledger) (history : List Entry) : Type 0 where
   pub seen : HasSeen v.who.number v.seen history
   pub made : AreMade v.origin.state (opening_record v.origin.passes) history
+  pub few : AreOfPasses v.origin.passes history
   pub number : v.who.number < v.origin.passes
   pub left : LastLeft
   pub parts : IsSplit v.origin left found history
@@ -114,6 +118,10 @@ pub record IsFound (v : View) (found : Ledger) (history : List Entry) : Type 0 w
   pub room : HasFreeWorker v (after v.origin.state history)
 
 -- ## What steps make of one
+
+-- it saw this history
+abbrev pub seeing_view : List Entry → View → View
+seeing_view history v = record v { seen = history }
 
 -- it took the turn, and found this
 abbrev pub taken_view : View → Ledger → List Entry → View
@@ -127,11 +135,6 @@ given_view v history left =
 -- it drew the next number
 abbrev pub drawn_view : View → View
 drawn_view v = record v { draws = record { next = v.draws.next + 1; spare = true } }
-
--- another pass went into it: the longer history that was seen stays
-abbrev pub joined_view : View → View → View
-joined_view v other =
-    if nat_lt (length v.seen) (length other.seen) then record v { seen = other.seen } else v
 
 -- it gave the last number to a new pass
 abbrev pub parted_view : View → View

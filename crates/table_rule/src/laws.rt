@@ -4,12 +4,14 @@ ghost use Rattle.std.specs.Prelude.{◌≡◌, ◌≢◌, ◌<◌, ◌≤◌, �
 ghost use mathlib.Core.Option.{none, some};
 ghost use lib.ListN.{get_elem?};
 ghost use prog.Atomic.{either};
-ghost use Rattle.atomic_table.specs.Table.{Allows, Joins, Me, Splits, opening, step};
+ghost use Rattle.atomic_table.specs.Table.{Allows, Me, Splits, opening, step};
 ghost use Rattle.atomic_table.specs.Table as table;
 ghost use Rattle.mpm_base.specs.declared.conn.ConnName.{ConnName};
 ghost use Rattle.conn_machine.specs.declared.row.Row.{Row};
 ghost use Rattle.conn_machine.specs.declared.state.State.{State};
-ghost use Rattle.conn_machine.specs.Rows.{carried_count, is_with_a_pass};
+ghost use Rattle.conn_machine.specs.Rows.{carried_count, is_with_a_pass, live_row};
+ghost use Rattle.conn_machine.specs.Table.{is_allowed};
+ghost use Rattle.conn_machine.specs.declared.event.Event.TheVariants as event;
 ghost use Rattle.conn_machine.specs.declared.kept.Ledger.{Ledger};
 ghost use Rattle.conn_machine.specs.declared.event.Entry.{Entry};
 ghost use Rattle.conn_machine.specs.Folds.{opening_record};
@@ -22,14 +24,16 @@ ghost use Rattle.table_rule.specs.IdleWords.{bias, permits, sum_of};
 ghost use Rattle.table_rule.specs.Ledgers.{IsSplit, MayGiveBack};
 ghost use Rattle.table_rule.specs.Steps.{AddsCredit, DrawsNext, GivesBack, LiesDown, LooksAtIdle, Releases, TakesTurn, TriesForPermit, DropsCredit, Undoes, WakesUp};
 ghost use Rattle.table_rule.specs.Tie.{AreFirstWords, IsNew, IsTied, origin_of};
-ghost use Rattle.table_rule.specs.Views.{IsAwake, IsIdle, first_view, gone_view, joined_view, new_view, parted_view, resting_view};
+ghost use Rattle.table_rule.specs.Views.{IsAwake, IsIdle, first_view, new_view, parted_view, resting_view};
 
 use conn_machine::Kept;
 use conn_machine::laws::{
     connections_stay_while_others_go_on, each_pass_has_its_own_connection, events_keep_states_sound,
 };
+use conn_machine::laws_between_turns::started_children_have_nobodys_connection;
 use conn_machine::laws_of_runs::{
-    made_histories_are_runs, passes_add_entries, records_go_on_by_folds, records_open_with_nothing,
+    folds_are_one_fold, made_histories_are_runs, passes_add_entries, records_go_on_by_folds,
+    records_open_with_nothing,
 };
 
 /// The rule holds of a new table.
@@ -39,7 +43,9 @@ pub fn table_opens<K: Kept>()
         → AreFirstWords words
         → IsTied K.ledger (K.ledger kept)
         (opening words (Some kept ∷ []) (first_view (origin_of (K.ledger kept)) 1)) }
-{}
+{
+    folds_are_one_fold();
+}
 
 /// The turn is taken.
 pub fn turn_is_taken<K: Kept>()
@@ -68,6 +74,7 @@ pub fn turn_is_given_back<K: Kept>()
     connections_stay_while_others_go_on();
     each_pass_has_its_own_connection();
     events_keep_states_sound();
+    folds_are_one_fold();
     made_histories_are_runs();
     passes_add_entries();
     records_open_with_nothing();
@@ -91,17 +98,6 @@ pub fn pass_is_made<K: Kept>()
         → v.who.number ≡ 0
         → v.draws.spare ≡ true
         → Splits (IsTied K.ledger o) id v (parted_view v) (new_view v) }
-{}
-
-/// A pass that has nothing goes into another one.
-pub fn pass_is_joined<K: Kept>()
-    ensures { (o : Ledger) (id other : ℕ) (v u : View)
-        → IsAwake v
-        → v.turn ≡ None
-        → IsAwake u
-        → IsIdle u
-        → u.who.number ≢ 0
-        → Joins (IsTied K.ledger o) id v other u (joined_view v u) gone_view }
 {}
 
 /// A pass other than pass 0 that has nothing lies down.
@@ -211,6 +207,35 @@ pub fn views_tell_of_connections<K: Kept>()
 {
     each_pass_has_its_own_connection();
     records_open_with_nothing();
+}
+
+/// Where the rule holds no more permits of a child are out than it has workers, also while nobody has the turn.
+pub fn permits_are_of_workers<K: Kept>()
+    ensures { (o : Ledger) (s : table.State (Option K) View) (tied : IsTied K.ledger o s) (k : ℕ)
+        → k < 32
+        → sum_of (permits k) s.views ≤ threads_of (after o.base tied.history) k }
+{}
+
+/// Where the rule holds and a child may be started, no pass has a permit of it, or a connection of the child that had the number before.
+pub fn started_children_have_no_permits<K: Kept>()
+    ensures permits { (o : Ledger) (s : table.State (Option K) View) (tied : IsTied K.ledger o s)
+        (id k : ℕ) (v : View)
+        → k < 32
+        → is_allowed (after o.base tied.history) (event.StartChild k) ≡ true
+        → get_elem? s.views id ≡ some v
+        → v.hand.permit ≢ Some k }
+    ensures rows { (o : Ledger) (s : table.State (Option K) View) (tied : IsTied K.ledger o s)
+        (id k : ℕ) (v : View) (name : ConnName)
+        → is_allowed (after o.base tied.history) (event.StartChild k) ≡ true
+        → get_elem? s.views id ≡ some v
+        → v.row ≡ Some name
+        → (r : Row) × (live_row (after o.base tied.history).rows name ≡ Some r) × (r.child ≢ k) }
+{
+    each_pass_has_its_own_connection();
+    events_keep_states_sound();
+    made_histories_are_runs();
+    records_open_with_nothing();
+    started_children_have_nobodys_connection();
 }
 
 /// What a value keeps stands for the whole history: behind its base and its record each pass has the same connection, and what

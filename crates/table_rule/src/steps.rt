@@ -1,10 +1,10 @@
 //! The kinds of step, and the rule that they keep.
 ghost use Rattle.table_rule.specs.Steps.{AddsCredit, DrawsNext, GivesBack, LiesDown, LooksAtIdle, Releases, TakesTurn, TriesForPermit, DropsCredit, Undoes, WakesUp};
 ghost use Rattle.table_rule.specs.Tie.{IsTied, origin_of};
-ghost use Rattle.table_rule.specs.Views.{first_view, gone_view, joined_view, new_view, parted_view};
+ghost use Rattle.table_rule.specs.Views.{first_view, new_view, parted_view};
 
 use crate::view::View;
-use atomic_table::{Join, Play, Split, TableRule};
+use atomic_table::{Play, Split, TableRule};
 use conn_machine::Kept;
 use std::snapshot::Snapshot;
 
@@ -101,13 +101,4 @@ impl Split<View> for NewPass {
     ghost left = { parted_view };
 
     ghost right = { new_view };
-}
-
-/// A pass that has nothing goes into another, which then has seen what either had.
-pub struct Joined;
-
-impl Join<View> for Joined {
-    ghost both = { joined_view };
-
-    ghost spent = { gone_view };
 }

@@ -36,8 +36,6 @@ pub struct Who {
     pub number: u64,
     /// It rests on a perch.
     pub resting: bool,
-    /// It went into another pass.
-    pub gone: bool,
 }
 
 /// What a pass has of the idle words.
@@ -48,11 +46,12 @@ pub struct Hand {
     pub trying: Option<u32>,
 }
 
-/// What a pass knows of the steps on idle words: all that it made since it woke up last, or ever where it didn't rest.
+/// What a pass knows of the trail, on which the steps on idle words stand, and the looks at the turn word with which passes woke up:
+/// its own look and all that it made since, or all that it ever made where it didn't rest.
 pub struct Past {
-    /// How many steps had been made on all idle words when it woke up, or 0.
+    /// How many steps stood on the trail when it woke up, or 0.
     pub since: u64,
-    /// The steps that it made since, in order.
+    /// The steps that it made since, in order; where it rested, the first is the look with which it woke up.
     pub steps: LinkedList<Step>,
 }
 

@@ -10,4 +10,4 @@ pub fetch_add-requires : goal.fetch_add-requires
 fetch_add-requires g c =
     let turn = some_of c.args.pass.now.seat.me.0.turn c.requires.turn in
     let may = c.requires.may in
-    (c.requires.own, search rules, c.child_is_credited.ensures _ turn.0 _ _ c.args.child c.args.threads _ c.requires.child record { up = c.args.pass.now.up; there = c.args.pass.now.there } may.number turn.1 may.none may.few may.there)
+    (c.requires.own, search rules, c.child_is_credited.ensures _ turn.0 _ _ c.args.child c.args.threads _ c.requires.child c.args.pass.now.up may.number turn.1 may.none may.few may.there)

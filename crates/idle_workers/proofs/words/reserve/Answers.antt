@@ -5,13 +5,13 @@ use Rattle.table_rule.specs.Views.{IsAwake}
 use Rattle.idle_workers.proofs.words.reserve.Goals as goal
 
 pub fetch_sub-found-requires : goal.fetch_sub-found-requires
-fetch_sub-found-requires g c = (c.requires.own, search rules, c.permit_is_tried_for.ensures _ _ _ c.args.child _ c.requires.child record { up = c.args.carrier.now.up; there = c.args.carrier.now.there } c.requires.free)
+fetch_sub-found-requires g c = (c.requires.own, search rules, c.permit_is_tried_for.ensures _ _ _ c.args.child _ c.requires.child c.args.carrier.now.up c.requires.free)
 
 pub fetch_add-requires : goal.fetch_add-requires
 fetch_add-requires g c =
     let v = c.args.carrier.now.seat.me.0 in let w = c.fetch_sub-found.new.seat.me.0 in
     let m = missed c.args.child c.fetch_sub-found.result v w c.if-found-gt-BIAS.false c.fetch_sub-found.ensures.2.1 in
-    let awake : IsAwake w = record { up = ap (λ (u : View). u.who.resting) m ∙ c.args.carrier.now.up; there = ap (λ (u : View). u.who.gone) m ∙ c.args.carrier.now.there } in
+    let awake : IsAwake w = ap (λ (u : View). u.who.resting) m ∙ c.args.carrier.now.up in
     (search rules, search rules, c.try_is_undone.ensures _ _ _ c.args.child _ c.requires.child awake (ap (λ (u : View). u.hand.trying) m))
 
 pub returns-then-found-gt-BIAS-clause-reserved : goal.returns-then-found-gt-BIAS-clause-reserved

@@ -3,4 +3,4 @@ use Rattle.idle_workers.proofs.words.uncredit.Goals as goal
 
 pub compare_exchange-requires : goal.compare_exchange-requires
 compare_exchange-requires g c =
-    (c.requires.own, search rules, c.child_is_uncredited.ensures _ _ _ c.args.child c.args.threads _ c.requires.child record { up = c.args.pass.now.up; there = c.args.pass.now.there } c.requires.number c.requires.credit)
+    (c.requires.own, search rules, c.child_is_uncredited.ensures _ _ _ c.args.child c.args.threads _ c.requires.child c.args.pass.now.up c.requires.number c.requires.credit)

@@ -18,5 +18,7 @@ returns g c = λ o slots id n me kept.
       made = c.passes_add_entries.ensures.made;
       seen = c.passes_add_entries.ensures.seen;
       row = c.records_open_with_nothing.ensures.row;
+      twice = c.folds_are_one_fold.ensures.twice;
+      begun = c.folds_are_one_fold.ensures.opening;
       stays = rows_stay own c.connections_stay_while_others_go_on.ensures.row;
     }) slots id me kept n

@@ -9,6 +9,6 @@ fetch_add-requires g c =
     let below = c.requires.number.1 in (
       c.requires.own,
       search rules,
-      c.number_is_drawn.ensures _ _ _ _ record { up = c.args.first.now.up; there = c.args.first.now.there }
+      c.number_is_drawn.ensures _ _ _ _ c.args.first.now.up
           (ap (λ v. v.who.number) first) (ap (λ v. v.draws.spare) first) (omega (arith, limit, next)),
     )

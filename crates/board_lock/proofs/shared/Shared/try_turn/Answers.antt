@@ -4,7 +4,7 @@ use Rattle.board_lock.proofs.shared.Shared.try_turn.Goals as goal
 
 pub compare_exchange-requires : goal.compare_exchange-requires
 compare_exchange-requires g c =
-    (c.requires.own, search rules, c.turn_is_taken.ensures _ _ _ _ _ c.requires.free.hand record { up = c.args.pass.now.up; there = c.args.pass.now.there } c.if-found-eq1.false)
+    (c.requires.own, search rules, c.turn_is_taken.ensures _ _ _ _ _ c.requires.free.hand c.args.pass.now.up c.if-found-eq1.false)
 
 pub exchange-requires : goal.exchange-requires
 exchange-requires g c =

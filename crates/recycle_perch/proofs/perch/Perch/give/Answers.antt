@@ -1,17 +1,18 @@
-use Rattle.std.proofs.Common.{◌∙◌, arith}
-use Rattle.std.proofs.lemmas.List.{length-map}
-use Rattle.recycle_perch.specs.Looking.{carriers_of, steps_of}
-use Rattle.recycle_perch.proofs.LookLemmas.{taken_more}
+use Rattle.std.proofs.Common.{arith, sym}
+use Rattle.recycle_perch.specs.Looking.{steps_of}
+use Rattle.recycle_perch.specs.Words.{laid_none}
+use Rattle.recycle_perch.proofs.LookLemmas.{laid_down, step_beyond, steps_long}
 use Rattle.recycle_perch.proofs.perch.Perch.give.Goals as goal
 
-pub loop-place-preserved : goal.loop-place-preserved
-loop-place-preserved g c =
-    let places = c.args.self.now.places in (
-      c.in-Err.ensures.looks,
-      c.in-Err.ensures.own,
-      c.in-Err.ensures.free,
-      c.in-Err.ensures.number ∙ c.loop-place.invariant.3,
-      taken_more (carriers_of places.items) c.loop-place.place _ c.args.carrier.seat.me.0.who.number (steps_of c.args.looks.now) (steps_of c.loop-place.looks) _
-          (omega (arith, c.loop-place-test.true, c.len-place-end.ensures, places.ok.0, length-map places.items (λ place. place.number)))
-          c.loop-place.invariant.3 c.loop-place.invariant.4 c.in-Err.ensures.step,
-    )
+pub returns-then-len-place-clause-steps : goal.returns-then-len-place-clause-steps
+returns-then-len-place-clause-steps g c =
+    let places = c.args.self.now.places in
+    let long = steps_long places.items c.args.looks.now c.requires.looks.words in
+    sym (step_beyond (steps_of c.args.looks.now) _ laid_none (omega (arith, long, places.ok.0, c.number.ensures)))
+
+pub returns-clause-steps : goal.returns-clause-steps
+returns-clause-steps g c =
+    let places = c.args.self.now.places in
+    let long = steps_long places.items c.args.looks.now c.requires.looks.words in
+    laid_down c.give_at.result _ _ (steps_of c.args.looks.now) _ (omega (arith, c.number.ensures)) (omega (arith, long, places.ok.0, c.number.ensures))
+    c.give_at.ensures.step

@@ -1,14 +1,17 @@
 use Rattle.std.proofs.Common.{arith}
-use Rattle.std.proofs.lemmas.List.{length-map}
-use Rattle.recycle_perch.specs.Looking.{carriers_of, steps_of}
-use Rattle.recycle_perch.proofs.LookLemmas.{none_more}
+use Rattle.recycle_perch.specs.Looking.{steps_of}
+use Rattle.recycle_perch.proofs.LookLemmas.{steps_long, taken_all, taken_first}
 use Rattle.recycle_perch.proofs.perch.Perch.take.Goals as goal
 
-pub loop-i-preserved : goal.loop-i-preserved
-loop-i-preserved g c =
-    let places = c.args.self.now.places in (
-      c.in_default.ensures.looks,
-      none_more (carriers_of places.items) c.loop-i.i (steps_of c.args.looks.now) (steps_of c.loop-i.looks) _
-          (omega (arith, c.loop-i-test.true, c.len-i-end.ensures, places.ok.0, length-map places.items (λ place. place.number)))
-          c.loop-i.invariant.1 c.in_default.ensures.step,
-    )
+pub returns-in-Some-clause-steps : goal.returns-in-Some-clause-steps
+returns-in-Some-clause-steps g c =
+    let places = c.args.self.now.places in
+    let long = steps_long places.items c.args.looks.now c.requires.looks.words in
+    taken_first c.first-first.result c.len-places.result _ (steps_of c.args.looks.now) _ (omega (arith, long, places.ok.0, c.len-places.ensures)) c.in-Some.ensures.steps
+
+pub returns-in-None-clause-steps : goal.returns-in-None-clause-steps
+returns-in-None-clause-steps g c =
+    let places = c.args.self.now.places in
+    let long = steps_long places.items c.args.looks.now c.requires.looks.words in
+    taken_all c.take_between-in-None.result _ c.first-first.result c.len-places.result (steps_of c.args.looks.now) _ _
+    (omega (arith, long, places.ok.0, c.len-places.ensures)) c.first-first.ensures c.in-None.ensures.steps c.take_between-in-None.ensures.steps

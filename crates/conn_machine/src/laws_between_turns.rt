@@ -1,0 +1,26 @@
+//! Laws of what a pass finds again that comes back, whatever the other passes did meanwhile. Each is the contract of a function that does
+//! nothing, and stands in full in `specs/BetweenTurns.antt`. That a pass keeps its connection, and the row of it stays, is said by `laws`.
+ghost use Rattle.conn_machine.specs.BetweenTurns.{StoppedServersStayStopped, OthersLeaveTheRestToTheListener, QuietTablesAreTheListeners, StartedChildrenHaveNobodysConnection};
+
+/// A server that has stopped stays so, for the same reason, whatever is done behind that.
+pub fn stopped_servers_stay_stopped()
+    ensures { StoppedServersStayStopped }
+{}
+
+/// What other passes than the listener add, however many they are and in whatever order, leaves all that the listener alone decides as
+/// it was, and no more slots ask for service.
+pub fn others_leave_the_rest_to_the_listener()
+    ensures { OthersLeaveTheRestToTheListener }
+{}
+
+/// Where no connection is in hand, and none that waits for service may be handed to a worker, no pass but the listener can add an entry.
+/// So what the listener has seen of such a table is the whole history.
+pub fn quiet_tables_are_the_listeners()
+    ensures { QuietTablesAreTheListeners }
+{}
+
+/// No live connection is of a child that may be started, and it has no workers: so no pass has a connection of the child that had the
+/// number before.
+pub fn started_children_have_nobodys_connection()
+    ensures { StartedChildrenHaveNobodysConnection }
+{}

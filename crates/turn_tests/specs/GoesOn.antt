@@ -1,0 +1,31 @@
+-- How a board goes on by one event of a pass, and passes without the turn.
+use Rattle.std.specs.Prelude.{◌≡◌, ◌≢◌, ℕ, []}
+use Rattle.atomic_table.specs.Table.{Me}
+use Rattle.conn_machine.specs.declared.event.Event.{Event}
+use Rattle.table_rule.specs.declared.view.Origin.{Origin}
+use Rattle.table_rule.specs.declared.view.View.{View}
+use Rattle.table_rule.specs.Histories.{Extends}
+use Rattle.table_rule.specs.Views.{IsIdle}
+use Rattle.board_lock.specs.Passes.{HasNoTurn, fresh_view}
+use Rattle.board.specs.Board.{SeenBoard}
+use Rattle.board.specs.Book.{AddsOnly, book_with_entry}
+
+-- the pass made the event, and the connections that had ended stay, with perhaps further ones
+pub record MadeEvent (who : ℕ) (e : Event) (old new : SeenBoard) : Type 0 where
+  pub book : new.book ≡ book_with_entry who e old.book
+  pub ended : Extends old.ended new.ended
+  pub adds : AddsOnly who old.book new.book
+
+-- pass 0, which has no turn
+pub record IsListener {S : Type 0} (me : Me S View) : Type 0 where
+  pub turnless : HasNoTurn me
+  pub number : me.0.who.number ≡ 0
+
+-- a pass of a new lock
+abbrev pub IsFresh : {S : Type 0} → Me S View → Type 0
+IsFresh me = (origin : Origin) × (p : ℕ) × (me ≡ (fresh_view origin p, []))
+
+-- a pass without the turn, which has nothing else either where it isn't pass 0
+pub record IsPlayer {S : Type 0} (me : Me S View) : Type 0 where
+  pub turnless : HasNoTurn me
+  pub idle : me.0.who.number ≢ 0 → IsIdle me.0

@@ -1,0 +1,4 @@
+pub mod Books
+pub mod Carries
+pub mod GoesOn
+pub mod Rests

@@ -1,0 +1,246 @@
+//! A listener and workers on threads, over one board.
+ghost use Rattle.std.specs.Prelude.{◌≡◌, ◌≤◌, true, None, slice_index};
+ghost use Rattle.turn_tests.specs.GoesOn.{IsListener};
+
+use crate::clients::{CLIENTS, empty_site};
+use crate::folds::Folds;
+use crate::listener_turns::{credits, goes_on, starts_child, takes};
+use crate::opening::{Player, ScriptBoard, last_of, opened, players};
+use crate::service::serves_one;
+use board_lock::{Pass, Shared, number};
+use file_table::Site;
+use mpm_base::{Kind, NoMemory};
+use std::alloc::Global;
+use std::io;
+use std::sync::atomic::{AtomicU64, Ordering};
+use std::sync::{Arc, Wait};
+use std::thread::{self, Threads};
+use test_rows::grown;
+use worker_group::Exit;
+
+/// How connections were left.
+#[derive(Clone, Copy, Debug)]
+struct Left {
+    kept: u32,
+    writing: u32,
+    reading: u32,
+    lingering: u32,
+    ended: u32,
+    given_up: u32,
+}
+
+impl Left {
+    /// None yet.
+    fn none() -> Left {
+        Left {
+            kept: 0,
+            writing: 0,
+            reading: 0,
+            lingering: 0,
+            ended: 0,
+            given_up: 0,
+        }
+    }
+
+    /// One was left so.
+    fn add(&mut self, way: Exit) {
+        let count = match way {
+            Exit::Park(Kind::KeepAlive) => &mut self.kept,
+            Exit::Park(Kind::Writing) => &mut self.writing,
+            Exit::Park(_) => &mut self.reading,
+            Exit::Linger(_) => &mut self.lingering,
+            Exit::Close(_, _) => &mut self.ended,
+            Exit::GiveUp(_) => &mut self.given_up,
+        };
+        *count = count.saturating_add(1);
+    }
+
+    /// Both together.
+    fn and(self, other: Left) -> Left {
+        Left {
+            kept: self.kept.saturating_add(other.kept),
+            writing: self.writing.saturating_add(other.writing),
+            reading: self.reading.saturating_add(other.reading),
+            lingering: self.lingering.saturating_add(other.lingering),
+            ended: self.ended.saturating_add(other.ended),
+            given_up: self.given_up.saturating_add(other.given_up),
+        }
+    }
+}
+
+/// What the threads share beside the board.
+struct Stage {
+    folds: Folds,
+    /// How many connections are still to be served.
+    to_serve: AtomicU64,
+}
+
+/// What came of it.
+#[derive(Clone, Copy, Debug)]
+struct Served {
+    left: Left,
+    folds: u64,
+    /// Of the board: how many connections were taken, closed, and responses decided, in what was folded.
+    accepted: u64,
+    closed: u64,
+    responses: u64,
+}
+
+/// Shows what comes of so many threads, one of which is the listener's.
+pub fn show_service<R: Print + Threads + Wait + Sync>(
+    rt: &R,
+    alloc: Global,
+    threads: u32,
+) -> io::Result<()> {
+    match grown(serve_all(rt, alloc, threads.clamp(2, 64)))? {
+        Some(served) => show_served(rt, served),
+        None => println!(rt; "a pass is missing, or the board doesn't begin"),
+    }
+}
+
+/// Shows what came of it, as far as no schedule changes it.
+fn show_served(rt: &impl Print, served: Served) -> io::Result<()> {
+    let left = served.left;
+    println!(rt; "kept alive => {}", left.kept)?;
+    println!(rt; "waits for room => {}", left.writing)?;
+    println!(rt; "waits for a request => {}", left.reading)?;
+    println!(rt; "lingers => {}", left.lingering)?;
+    println!(rt; "ended => {}", left.ended)?;
+    println!(rt; "given up => {}", left.given_up)?;
+    println!(rt;
+        "taken => {}, closed => {}, responses => {}",
+        served.accepted, served.closed, served.responses
+    )?;
+    println!(rt; "seven folds or more => {}", 7 <= served.folds)
+}
+
+/// One thread listens, and each other one serves.
+fn serve_all<R: Threads + Wait + Sync>(
+    rt: &R,
+    alloc: Global,
+    threads: u32,
+) -> Result<Option<Served>, NoMemory>
+    requires { (2 ≤ threads) × (threads ≤ 64) }
+{
+    let Ok(site) = empty_site(alloc) else {
+        return Err(NoMemory);
+    };
+    let Ok(site) = Arc::new(alloc, site) else {
+        return Err(NoMemory);
+    };
+    let (shared, mut passes) = opened(alloc, threads + 1)?;
+    let Some(last) = last_of(&shared, &mut passes) else {
+        return Ok(None);
+    };
+    let mut jobs = players(alloc, &shared, &mut passes, threads - 1)?;
+    let Some(mut zero) = last_of(&shared, &mut passes) else {
+        return Ok(None);
+    };
+    if number(&zero) != 0 || !begins(rt, alloc, &shared, &mut zero, &site) {
+        return Ok(None);
+    }
+    jobs.push(Player {
+        shared: &shared,
+        pass: zero,
+    })?;
+    let stage = Stage {
+        folds: Folds::make(),
+        to_serve: AtomicU64::new(CLIENTS as u64),
+    };
+    let stage = &stage;
+    let Ok(all) = thread::map_vec(rt, jobs, &|player: Player| plays(rt, player, stage)) else {
+        return Err(NoMemory);
+    };
+    let board = shared.close(rt, last);
+    let mut left = Left::none();
+    for one in &all {
+        left = left.and(*one);
+    }
+    let folded = board.folded();
+    Ok(Some(Served {
+        left,
+        folds: stage.folds.count(),
+        accepted: folded.accepted,
+        closed: folded.closed,
+        responses: folded.responses,
+    }))
+}
+
+/// Pass 0 starts the child, gives it its credit, and takes the connections of all clients: whether it did.
+fn begins<R: Wait>(
+    rt: &R,
+    alloc: Global,
+    shared: &Shared<ScriptBoard>,
+    pass: &mut Pass<ScriptBoard>,
+    site: &Arc<Site>,
+) -> bool
+    requires own { pass.old.seat.table_id ≡ shared.now.table.shared.table_id }
+    requires listener { IsListener pass.old.seat.me }
+    requires no_credit { slice_index pass.old.seat.me.0.credits 0 ≡ 0 }
+    requires none { pass.old.seat.me.0.row ≡ None }
+    ensures own { pass.new.seat.table_id ≡ pass.old.seat.table_id }
+    ensures listener { IsListener pass.new.seat.me }
+{
+    if !starts_child(rt, shared, pass, 0) || !credits(rt, shared, pass, 0) {
+        return false;
+    }
+    for client in 0..CLIENTS {
+        if !takes(rt, alloc, shared, pass, site, client) {
+            return false;
+        }
+    }
+    true
+}
+
+/// Pass 0 listens, and each other one serves: how the connections were left that it served.
+fn plays<R: Wait>(rt: &R, player: Player, stage: &Stage) -> Left {
+    match number(&player.pass) {
+        0 => listens(rt, player, stage),
+        _ => works(rt, player, stage),
+    }
+}
+
+/// Pass 0 signals each connection once, and then a slot without one, and folds the board wherever that may be, until it folded once behind
+/// all services.
+fn listens<R: Wait>(rt: &R, player: Player, stage: &Stage) -> Left {
+    let Player { shared, mut pass } = player;
+    if number(&pass) != 0 {
+        return Left::none();
+    }
+    let mut signalled: u32 = 0;
+    for _ in rt.forever() {
+        let over = stage.to_serve.load(Ordering::SeqCst) == 0;
+        let turn = stage.folds.begins();
+        if goes_on(rt, shared, &mut pass, signalled.min(CLIENTS)) {
+            stage.folds.made(turn);
+            if over {
+                return Left::none();
+            }
+        } else {
+            signalled = signalled.saturating_add(1);
+        }
+    }
+    unreachable!()
+}
+
+/// Serves connections until all are served.
+fn works<R: Wait>(rt: &R, player: Player, stage: &Stage) -> Left {
+    let Player { shared, mut pass } = player;
+    let mut left = Left::none();
+    if number(&pass) == 0 {
+        return left;
+    }
+    for _ in rt.forever() {
+        if stage.to_serve.load(Ordering::SeqCst) == 0 {
+            return left;
+        }
+        match serves_one(rt, shared, &mut pass, 0, &stage.folds) {
+            Some(way) => {
+                left.add(way);
+                stage.to_serve.fetch_sub(1, Ordering::SeqCst);
+            }
+            None => thread::yield_now(),
+        }
+    }
+    unreachable!()
+}
