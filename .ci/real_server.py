@@ -348,14 +348,16 @@ class Server:
         until(f"a server that has {left} connections", lambda: self.connections() == left)
         self.tell(b"stop\n")
 
-    def expect_report(self, *lines, children=3, status=0, generation=0):
-        """Goes on where the server ends with the report of connections that have these lines, in any order, in that generation."""
+    def expect_report(self, *lines, children=3, status=0, generation=0, in_order=False):
+        """Goes on where the server ends with the report of connections that have these lines, in this order or in any, in that generation."""
         try:
             printed, _ = self.process.communicate(timeout=DEADLINE)
         except subprocess.TimeoutExpired:
             raise Wrong(f"the server's end: wanted within {DEADLINE} seconds, and it didn't come") from None
         came = printed.decode(errors="backslashreplace").splitlines(keepends=True)
-        came[REPORT_HEAD:] = sorted(came[REPORT_HEAD:])
+        if not in_order:
+            lines = sorted(lines)
+            came[REPORT_HEAD:] = sorted(came[REPORT_HEAD:])
         wanted = report(lines, children, generation)
         if came != wanted:
             raise Wrong(f"the report: wanted {behind(wanted, came)}, and came {behind(came, wanted)}")
@@ -363,12 +365,12 @@ class Server:
 
 
 def report(lines, children, generation):
-    """The report of connections that have these lines, which are sorted. Of more than 64 those that end first have to be the first ones."""
+    """The report of connections that have these lines. Of more than 64 those that end first have to be the first ones."""
     ends = [line.split() for line in lines]
     responses = sum(len(codes.split(",")) for _, _, _, codes in ends if codes != "-")
     told = [f"Generation: {generation}", f"Accepted: {len(ends)}", f"Closed: {len(ends)}", f"Responses: {responses}"]
     told += [f"{cause}: {sum(of == cause for _, of, _, _ in ends)}" for cause in CAUSES]
-    return [f"{line}\n" for line in [*told, f"ChildrenStarted: {children}", *sorted(lines)[:64]]]
+    return [f"{line}\n" for line in [*told, f"ChildrenStarted: {children}", *lines[:64]]]
 
 
 def behind(some, others):

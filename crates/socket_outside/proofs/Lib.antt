@@ -1,3 +1,4 @@
 pub mod EventLemmas
 pub mod FillLemmas
+pub mod GivingLemmas
 pub mod HearLemmas

@@ -21,8 +21,8 @@ abbrev pub is_room_alone : Event → Bool
 is_room_alone e =
     is_writable e && not (is_readable e || is_error e || is_read_closed e || is_write_closed e)
 
--- how long a wait at a moment lasts at most, in milliseconds: not at all where a bell was rung, and a tenth of a second where a
--- connection is to be asked for again
+-- how long a wait at a moment lasts at most, in milliseconds: not at all where a bell was rung or a link gave way, and a tenth of a second
+-- where a connection is to be asked for again
 abbrev pub longest_wait : ℕ → Option ℕ → Bool → Bool → Option ℕ
 longest_wait now until pressed true = Some 0
 longest_wait now until true false = earlier (Some 100) (option_map (λ m. m - now) until)

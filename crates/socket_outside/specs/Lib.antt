@@ -5,4 +5,5 @@ pub mod CommandLines
 pub mod CommandLinesInside
 pub mod Events
 pub mod EventsInside
+pub mod GivingWay
 pub mod Moments

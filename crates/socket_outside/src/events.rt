@@ -74,7 +74,7 @@ fn has_slot(slots: &[u32], slot: u32) -> bool
 }
 
 /// Puts the slot at the end, unless it is there already.
-fn give(ready: &mut Ready, slot: u32)
+pub(crate) fn give(ready: &mut Ready, slot: u32)
     requires distinct { IsDistinct (λ a b. a == b) ready.old }
     requires room { length ready.old < 256 }
     ensures distinct { IsDistinct (λ a b. a == b) ready.new }
@@ -157,7 +157,8 @@ pub(crate) fn fill_up(ready: &mut Ready)
     }
 }
 
-/// How many milliseconds a wait that begins at the moment lasts at most. It doesn't last where a bell was rung since the last one.
+/// How many milliseconds a wait that begins at the moment lasts at most. It doesn't last where a bell was rung, or a link gave way, since the
+/// last one.
 pub fn longest_wait(now: Moment, until: Option<Moment>, pressed: bool, rung: bool) -> Option<u64>
     ensures { result ≡ longest_wait now until pressed rung }
 {

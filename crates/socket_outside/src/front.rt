@@ -50,7 +50,8 @@ impl<'a, R: Net + time::Clock + Eprint> SocketFront<'a, R> {
         })
     }
 
-    /// Waits until something comes, until the moment or until a bell rings, and gives the slots for which something came.
+    /// Waits until something comes, until the moment or until a bell rings, and gives the slots for which something came, and those of links
+    /// that gave way.
     fn wait_until(&mut self, until: Option<Moment>, pressed: bool, ready: &mut Ready) -> bool
         ensures counters { self.new.counters ≡ self.old.counters }
         ensures none { result ≡ false → ready.new ≡ [] }
@@ -64,7 +65,7 @@ impl<'a, R: Net + time::Clock + Eprint> SocketFront<'a, R> {
     }
 
     #[tactic(auto, using(crate::proofs::EventLemmas::distinct_none))]
-    /// Does the same, where it is known whether a bell was rung. A wait that is interrupted is asked again, and fails at last.
+    /// Does the same, where it is known whether a bell was rung or a link gave way. A wait that is interrupted is asked again, and fails at last.
     fn poll(&mut self, until: Option<Moment>, pressed: bool, rung: bool, ready: &mut Ready) -> bool
         ensures counters { self.new.counters ≡ self.old.counters }
         ensures none { result ≡ false → ready.new ≡ [] }
@@ -101,9 +102,11 @@ impl<'a, R: Net + time::Clock + Eprint> Front for SocketFront<'a, R> {
     }
 
     /// Lasts no longer than a tenth of a second where an accept since the last wait failed or looked for control connections, or
-    /// where one of these may wait of which no event tells again; and not at all where the bell was rung since the last wait.
-    /// `quiet` means nothing to it. No slot is given twice. Where the system gave as many events as one wait takes, 256, more may have
-    /// come, and of some of these no slot tells: then the list is filled up with numbers that no slot has.
+    /// where one of these may wait of which no event tells again; and not at all where the bell was rung, or a link gave way, since the
+    /// last wait. `quiet` means nothing to it. No slot is given twice. The slots of links that gave way stand behind those for which
+    /// something came; where not all of them fit, the others are given by the waits behind it, which come at once too. Where the system
+    /// gave as many events as one wait takes, 192, more may have come, and of some of these no slot tells: then the list is filled up with
+    /// numbers that no slot has.
     fn wait<W: Wait>(
         &mut self,
         _rt: &W,

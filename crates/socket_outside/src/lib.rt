@@ -3,11 +3,12 @@
 //! `SocketLink`, `SocketFront`, `SocketBell` and `SystemClock` keep the traits `Link`, `Front`, `Bell` and `Clock` of `mpm_base`.
 //! They tell nothing: no clause says what a socket gives or takes. So each step from an answer of the system to one of a trait is
 //! a function of its own, and what it makes of that stands in `specs/`: reads, writes and waits (`Answers`), connections
-//! (`Accepting`), events and how long a wait lasts (`Events`), what came on a control connection (`CommandLines`), and what the
-//! clock answers (`Moments`).
+//! (`Accepting`), events and how long a wait lasts (`Events`), how a link gives way to others (`GivingWay`), what came on a control
+//! connection (`CommandLines`), and what the clock answers (`Moments`).
 #![tactic(auto)]
 
 mod accepting;
+mod allowance;
 mod answers;
 mod bell;
 mod clock;
@@ -18,7 +19,9 @@ mod dial;
 mod events;
 mod front;
 mod front_counters;
+mod giving_way;
 mod link;
+mod place;
 mod room;
 mod short_queue;
 mod sockets;

@@ -1,11 +1,14 @@
 //! A connection's way to its client over a socket.
-ghost use Rattle.std.specs.Prelude.{◌≡◌, ◌++◌, length, not, true, false, None};
-ghost use Rattle.mpm_base.specs.Link.{LinkSeen, OnlyFaults, Writes};
+ghost use Rattle.std.specs.Prelude.{◌≡◌, ◌+◌, ◌≤◌, ◌++◌, length, not, true, false, None};
+ghost use Rattle.mpm_base.specs.Link.{FitsBuffer, FitsPiece, LinkSeen, OnlyFaults, Reads, Writes};
 ghost use Rattle.socket_outside.specs.Answers.{leaves_some};
+ghost use Rattle.socket_outside.specs.CommandLines.{count_of_got};
+ghost use Rattle.socket_outside.specs.GivingWay.{GivesWay, TakesWay, count_of_sent};
 
+use crate::allowance::Allowance;
 use crate::answers::{lacks_room, read_some, shut_for, write_pair_some, write_some};
 use crate::counters::LinkCounters;
-use crate::room::{RoomMark, RoomMarks};
+use crate::place::{LinkPlace, Marks};
 use mio::net::TcpStream;
 use mio::{Interest, Registry, Token};
 use mpm_base::{Got, Link, Sent};
@@ -13,22 +16,28 @@ use std::net::Shutdown;
 use std::sync::Arc;
 
 /// A link over a non-blocking socket, which it gives back where it is closed or dropped. It tells nothing.
+///
+/// It gives way to others: since the last wait of its front it gives at most 65,536 bytes by reads and takes at most 1,048,576 by
+/// writes. What is asked of it beyond that it puts off: it answers NotReady, as it does where the system does, and the next wait gives its
+/// slot.
 #[derive(Drop)]
 pub struct SocketLink {
     socket: Option<TcpStream>,
-    room: RoomMark,
+    place: LinkPlace,
+    allowance: Allowance,
     counters: LinkCounters,
 }
 
 impl SocketLink {
     /// The link over the socket, which is non-blocking.
-    pub(crate) fn of(socket: TcpStream, marks: Arc<RoomMarks>) -> SocketLink
+    pub(crate) fn of(socket: TcpStream, marks: Arc<Marks>) -> SocketLink
         ensures { result.counters
             ≡ record { faults = 0; late_reads = 0; late_writes = 0; ends = 0 } }
     {
         SocketLink {
             socket: Some(socket),
-            room: RoomMark::of(marks),
+            place: LinkPlace::of(marks),
+            allowance: Allowance::make(),
             counters: LinkCounters::make(),
         }
     }
@@ -48,7 +57,7 @@ impl SocketLink {
             None => false,
         };
         if watched {
-            self.room.watch(slot);
+            self.place.watch(slot);
         }
         self.counters.test(watched);
         watched
@@ -62,17 +71,82 @@ impl SocketLink {
         self.counters.test(false);
         false
     }
+
+    #[tactic(auto, using(crate::proofs::GivingLemmas::fits_buffer, crate::proofs::GivingLemmas::got_count))]
+    /// Reads into the front of the buffer, as far as the link may give since the last wait. Where it may give no more it gives way.
+    fn give(&mut self, buffer: &mut [u8]) -> Got
+        ensures fits { FitsBuffer result (length buffer.new) }
+        ensures few { self.new.allowance.given + count_of_got result ≤ 65536 }
+        ensures same { self.new.allowance ≡ self.old.allowance }
+        ensures counts { self.new.counters ≡ self.old.counters }
+    {
+        let most = self.allowance.may_give(buffer.len());
+        if most == 0 && self.socket.is_some() {
+            self.place.give_way();
+            return Got::NotReady;
+        }
+        match &mut self.socket {
+            Some(socket) => read_some(socket, &mut buffer[..most]),
+            None => Got::Failed,
+        }
+    }
+
+    #[tactic(auto, using(crate::proofs::GivingLemmas::fits_piece, crate::proofs::GivingLemmas::sent_count))]
+    /// Writes from the front of the piece, as far as the link may take since the last wait. Where it may take no more it gives way.
+    fn take(&mut self, bytes: &[u8]) -> Sent
+        ensures fits { FitsPiece result (length bytes.now) }
+        ensures few { self.new.allowance.taken + count_of_sent result ≤ 1048576 }
+        ensures same { self.new.allowance ≡ self.old.allowance }
+        ensures counts { self.new.counters ≡ self.old.counters }
+        ensures place { self.new.place ≡ self.old.place }
+    {
+        let most = self.allowance.may_take(bytes.len());
+        if most == 0 && self.socket.is_some() {
+            self.place.give_way();
+            return Sent::NotReady;
+        }
+        match &mut self.socket {
+            Some(socket) => write_some(socket, &bytes[..most]),
+            None => Sent::Failed,
+        }
+    }
+
+    #[tactic(auto, using(crate::proofs::GivingLemmas::fits_piece, crate::proofs::GivingLemmas::sent_count))]
+    /// Writes from the front of the one piece followed by the other, as far as the link may take since the last wait. Where it may take
+    /// no more it gives way.
+    fn take_pair(&mut self, first: &[u8], second: &[u8]) -> Sent
+        ensures fits { FitsPiece result (length (first.now ++ second.now)) }
+        ensures few { self.new.allowance.taken + count_of_sent result ≤ 1048576 }
+        ensures same { self.new.allowance ≡ self.old.allowance }
+        ensures counts { self.new.counters ≡ self.old.counters }
+        ensures place { self.new.place ≡ self.old.place }
+    {
+        let front = self.allowance.may_take(first.len());
+        let most = self.allowance.may_take(first.len() + second.len());
+        if most == 0 && self.socket.is_some() {
+            self.place.give_way();
+            return Sent::NotReady;
+        }
+        match &self.socket {
+            Some(socket) => write_pair_some(socket, &first[..front], &second[..most - front]),
+            None => Sent::Failed,
+        }
+    }
 }
 
 impl Link for SocketLink {
     ghost seen = { λ l. record { told = None; counts = l.counters } };
 
     /// It answers Failed where the link was closed.
-    fn read(&mut self, buffer: &mut [u8]) -> Got {
-        let got = match &mut self.socket {
-            Some(socket) => read_some(socket, buffer),
-            None => Got::Failed,
-        };
+    fn read(&mut self, buffer: &mut [u8]) -> Got
+        ensures link { let old : LinkSeen = record { told = None; counts = self.old.counters } in
+            let new : LinkSeen = record { told = None; counts = self.new.counters } in
+            Reads old new result buffer.new }
+        ensures way { GivesWay self.old.allowance self.new.allowance result }
+    {
+        self.allowance.count_since(self.place.last_wait());
+        let got = self.give(buffer);
+        self.allowance.read(got);
         self.counters.read(got);
         got
     }
@@ -82,14 +156,14 @@ impl Link for SocketLink {
         ensures link { let old : LinkSeen = record { told = None; counts = self.old.counters } in
             let new : LinkSeen = record { told = None; counts = self.new.counters } in
             Writes old new result bytes.now }
-        ensures room { self.new.room.lacks ≡ leaves_some result (length bytes.now) }
+        ensures room { self.new.place.lacks ≡ leaves_some result (length bytes.now) }
+        ensures way { TakesWay self.old.allowance self.new.allowance result }
     {
-        self.room.set(true);
-        let sent = match &mut self.socket {
-            Some(socket) => write_some(socket, bytes),
-            None => Sent::Failed,
-        };
-        self.room.set(lacks_room(sent, bytes.len()));
+        self.place.set_lacks(true);
+        self.allowance.count_since(self.place.last_wait());
+        let sent = self.take(bytes);
+        self.place.set_lacks(lacks_room(sent, bytes.len()));
+        self.allowance.write(sent);
         self.counters.write(sent);
         sent
     }
@@ -99,14 +173,15 @@ impl Link for SocketLink {
         ensures link { let old : LinkSeen = record { told = None; counts = self.old.counters } in
             let new : LinkSeen = record { told = None; counts = self.new.counters } in
             Writes old new result (first.now ++ second.now) }
-        ensures room { self.new.room.lacks ≡ leaves_some result (length (first.now ++ second.now)) }
+        ensures room { self.new.place.lacks ≡ leaves_some result (length (first.now ++ second.now)) }
+        ensures way { TakesWay self.old.allowance self.new.allowance result }
     {
-        self.room.set(true);
-        let sent = match &self.socket {
-            Some(socket) => write_pair_some(socket, first, second),
-            None => Sent::Failed,
-        };
-        self.room.set(lacks_room(sent, first.len() + second.len()));
+        self.place.set_lacks(true);
+        self.allowance.count_since(self.place.last_wait());
+        let sent = self.take_pair(first, second);
+        self.place
+            .set_lacks(lacks_room(sent, first.len() + second.len()));
+        self.allowance.write(sent);
         self.counters.write(sent);
         sent
     }
@@ -123,6 +198,6 @@ impl Link for SocketLink {
     /// Gives the socket back at once.
     fn close(&mut self) {
         self.socket = None;
-        self.room.leave();
+        self.place.leave();
     }
 }

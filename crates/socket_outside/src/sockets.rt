@@ -12,7 +12,7 @@ use crate::bell::{SharedBell, SocketBell};
 use crate::control::ControlPort;
 use crate::events::{BELL, CONTROL, LISTENER, fill_up, give_slots};
 use crate::link::SocketLink;
-use crate::room::RoomMarks;
+use crate::place::Marks;
 use mio::net::TcpListener;
 use mio::{Events, Interest, Poll, Registry, Token, Waker};
 use mpm_base::{Addr, Arrival, Line, Link, NoMemory, Ready};
@@ -23,8 +23,8 @@ use std::sync::Arc;
 use std::time::Duration;
 use system_outside::Operator;
 
-/// How many events one wait takes at most.
-const MOST_EVENTS: usize = 256;
+/// How many events one wait takes at most: so many that of the 256 slots that a wait gives at most 64 are left for links that gave way.
+const MOST_EVENTS: usize = 192;
 
 /// The sockets of a front, where it is bound, and what it knows of them.
 #[derive(Drop)]
@@ -37,8 +37,10 @@ pub(crate) struct Sockets {
     // The system is asked for a connection only while this mark stands.
     asks: bool,
     control: ControlPort,
-    marks: Arc<RoomMarks>,
-    ghost few: { events_capacity events ≤ 256 },
+    marks: Arc<Marks>,
+    // The group of slots with which the next wait begins to give those of links that gave way.
+    turn: u32,
+    ghost few: { events_capacity events ≤ 192 },
 }
 
 /// The sockets that a bind opens, which are watched.
@@ -55,7 +57,7 @@ impl Sockets {
             return Err(NoMemory);
         };
         let control = ControlPort::make(alloc)?;
-        let Ok(marks) = Arc::new(alloc, RoomMarks::make(alloc, slots)?) else {
+        let Ok(marks) = Arc::new(alloc, Marks::make(alloc, slots)?) else {
             return Err(NoMemory);
         };
         Ok(Sockets {
@@ -66,6 +68,7 @@ impl Sockets {
             asks: false,
             control,
             marks,
+            turn: 0,
         })
     }
 
@@ -161,12 +164,14 @@ impl Sockets {
         Ok(())
     }
 
-    /// A wait begins. It answers whether a bell was rung since the last one.
+    /// A wait begins. It answers whether a bell was rung, or a link gave way, since the last one: then this one is not to last.
     pub(crate) fn begin_wait(&self) -> bool {
-        match &self.bell {
+        let gave_way = self.marks.way.begin_wait();
+        let rung = match &self.bell {
             Some(bell) => bell.begin_wait(),
             None => false,
-        }
+        };
+        rung || gave_way
     }
 
     /// The wait ends.
@@ -214,13 +219,13 @@ impl Sockets {
     }
 
     #[tactic(auto, using(crate::proofs::EventLemmas::distinct_none))]
-    /// Waits so many milliseconds at most, and gives the slots for which something came. Where it took as many events as it can,
-    /// more may have come, and the list is filled up with numbers that no slot has. It answers false where the wait failed, and
-    /// None where it was interrupted and is asked again.
+    /// Waits so many milliseconds at most, and gives the slots for which something came, and behind them those of links that gave way.
+    /// Where it took as many events as it can, more may have come, and the list is filled up with numbers that no slot has. It answers
+    /// false where the wait failed, and None where it was interrupted and is asked again.
     pub(crate) fn wait(&mut self, longest: Option<u64>, ready: &mut Ready) -> Option<bool>
         ensures none { result ≢ Some true → ready.new ≡ [] }
         ensures few { length ready.new ≤ 256 }
-        ensures full { result ≡ Some true → length (items self.new.events) ≡ 256
+        ensures full { result ≡ Some true → length (items self.new.events) ≡ 192
             → length ready.new ≡ 256 }
         ensures once { IsDistinct (λ a b. a == b) ready.new }
     {
@@ -233,7 +238,8 @@ impl Sockets {
         if woke != Some(true) {
             return woke;
         }
-        let noticed = give_slots(&self.events, &self.marks, ready);
+        let noticed = give_slots(&self.events, &self.marks.room, ready);
+        self.turn = self.marks.way.give(self.turn, ready);
         if self.events.iter().as_slice().len() == MOST_EVENTS {
             fill_up(ready);
         }
