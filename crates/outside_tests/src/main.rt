@@ -9,7 +9,8 @@
 //!   or of the wire that paces it.
 //! - `sink`: an output. Its first row has the writes that fail, the others are pieces that are written. `slow` takes single bytes.
 //! - `files`: files are set and unset. `store`: the same up to a row `--`, then a row with the calls that fail, and calls of the store.
-//! - `editions`: what a file is in one edition after the other. `notes`: whether each note is the last.
+//! - `editions`: what a file is in one edition after the other. `history`: files are set and unset, and editions end, up to a row
+//!   `--`; then calls of the store that has it. `notes`: whether each note is the last.
 #![tactic(auto)]
 
 mod calls;
@@ -40,6 +41,7 @@ fn show_section(rt: &impl Print, alloc: Global, section: Section<'_>) -> io::Res
         "files" => stores::show_files(rt, alloc, rows),
         "store" => stores::show_store(rt, alloc, rows),
         "editions" => stores::show_editions(rt, alloc, rows),
+        "history" => stores::show_history(rt, alloc, rows),
         "notes" => notes::show_notes(rt, alloc, rows),
         _ => links::show_link(rt, alloc, word, rows),
     }

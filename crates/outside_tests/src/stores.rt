@@ -1,7 +1,7 @@
 //! What stores answer.
 use crate::calls::calls_of;
 use mpm_base::{NoMemory, Store};
-use stand_ins::{Calls, Files, MemStore, PlainStore};
+use stand_ins::{Calls, Files, History, MemStore, PlainStore};
 use std::alloc::Global;
 use std::io;
 use test_rows::{grown, number_of, show_bytes, words};
@@ -24,10 +24,12 @@ fn files_of(alloc: Global, rows: &str) -> Result<Files, NoMemory> {
 /// Shows the files that the rows set and unset, in their order.
 pub fn show_files(rt: &impl Print, alloc: Global, rows: &str) -> io::Result<()> {
     let files = grown(files_of(alloc, rows))?;
-    for file in files.as_slice() {
-        let name = String::from_utf8_lossy(alloc, file.name.as_slice())?;
-        show_bytes(rt, alloc, name.as_str(), file.bytes.as_slice())?;
-        println!(rt; "")?;
+    for slot in files.slots() {
+        if let Some(bytes) = &slot.bytes {
+            let name = String::from_utf8_lossy(alloc, slot.name.as_slice())?;
+            show_bytes(rt, alloc, name.as_str(), bytes.as_slice())?;
+            println!(rt; "")?;
+        }
     }
     Ok(())
 }
@@ -100,4 +102,27 @@ pub fn show_editions(rt: &impl Print, alloc: Global, rows: &str) -> io::Result<(
         &mut store,
         "read a 9\nrenew\nread a 9\nrenew\nread a 9\nrenew\nread a 9\nrenew\nread a 9",
     )
+}
+
+/// The history of the changes and ends that the rows say.
+fn history_of(alloc: Global, rows: &str) -> Result<History, NoMemory> {
+    let mut history = History::make(alloc);
+    for row in rows.lines() {
+        let (word, rest) = words(row);
+        let (name, bytes) = words(rest);
+        match word {
+            "set" => history.set(name, bytes.as_bytes())?,
+            "unset" => history.unset(name)?,
+            _ => history.end()?,
+        }
+    }
+    Ok(history)
+}
+
+/// Shows what the store of a history answers.
+pub fn show_history(rt: &impl Print, alloc: Global, rows: &str) -> io::Result<()> {
+    let (changes, calls) = rows.split_once("--\n").unwrap_or((rows, ""));
+    let history = grown(history_of(alloc, changes))?;
+    let mut store = grown(PlainStore::of_history(alloc, history))?;
+    show_calls(rt, alloc, &mut store, calls)
 }

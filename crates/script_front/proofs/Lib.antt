@@ -1,6 +1,7 @@
 pub mod ClientLemmas
 pub mod ComingLemmas
 pub mod CommandLemmas
+pub mod DraftLemmas
 pub mod DueLemmas
 pub mod EditionLemmas
 pub mod FailingLemmas

@@ -1,3 +1,4 @@
+pub mod DraftInside
 pub mod DuePlacesInside
 pub mod Editions
 pub mod FailingFront

@@ -1,22 +1,20 @@
 //! The store of a script: its files at the opening, and at each `command graceful`.
 //!
 //! Which files those are stands in `specs/Editions.antt`. The file `httpd.conf` is always there, empty where no line says
-//! otherwise: it is the configuration.
-ghost use Rattle.std.specs.Prelude.{◌≡◌, ◌≤◌, ℕ, List, Some, ◌∷◌, length, All, IsUtf8, IsSome, IfOk, OnOk};
+//! otherwise: it is the configuration. Each line is read once, and an edition shares with the one before it what didn't change.
+ghost use Rattle.std.specs.Prelude.{◌≡◌, ◌≤◌, List, Some, [], ◌∷◌, ◌++◌, length, All, IsSome, IfOk, OnOk, if◌then◌else◌};
 ghost use Rattle.std.specs.List.{fold, prefix_len};
 ghost use Rattle.mpm_base.specs.Store.{bytes_of};
 ghost use Rattle.mpm_base.specs.declared.store.File.{File as SeenFile};
 ghost use Rattle.mpm_base.specs.declared.script_line.ScriptLine.{ScriptLine as Line};
-ghost use Rattle.mpm_script.specs.FileNames.{HasTextName, HaveTextNames, NamesText};
-ghost use Rattle.script_front.specs.Editions.{conf_after, conf_file, conf_name, conf_of, edition_of, editions_of, files_after, is_conf_name, is_graceful, is_site, opening_lines, site_in, store_of};
+ghost use Rattle.mpm_script.specs.FileNames.{HasTextName, HaveTextNames};
+ghost use Rattle.script_front.specs.Editions.{conf_after, conf_file, conf_name, conf_of, edition_of, editions_behind, editions_of, files_after, files_of, is_graceful, is_site, opening_lines, site_in, store_of};
 
-use mpm_base::{CommandWord, NoMemory, Octets, ScriptLine, SiteLine};
+use crate::draft::Draft;
+use mpm_base::{CommandWord, NoMemory, ScriptLine};
 use mpm_script::Script;
-use stand_ins::{Files, PlainStore};
+use stand_ins::PlainStore;
 use std::alloc::Global;
-
-/// The name of the configuration among the files of a script.
-pub const CONF_NAME: &str = "httpd.conf";
 
 /// The store of the script. Its first edition has the effect of the lines of the site before all others, and is there from
 /// the start; each later one has that of all lines of the site before a `command graceful`, and comes with `renew`. No call
@@ -26,14 +24,11 @@ pub fn script_store(alloc: Global, script: &Script) -> Result<PlainStore, NoMemo
     ensures { IfOk result (λ store. store ≡ store_of script.now) }
 {
     let lines = script.lines();
-    let opening = edition_of(alloc, opening_lines(lines))?;
-    let mut store = PlainStore::make(alloc, opening);
-    for (place, line) in lines.iter().enumerate() {
-        if is_graceful(line) {
-            store.later(edition_of(alloc, &lines[..place])?)?;
-        }
-    }
-    Ok(store)
+    let (opening, behind) = lines.split_at(opening_len(lines));
+    let mut draft = Draft::make(alloc)?;
+    take_opening(&mut draft, opening)?;
+    take_lines(&mut draft, opening, behind)?;
+    PlainStore::of_history(alloc, draft.into_history())
 }
 
 /// A law of the editions of a script: each has the file of the configuration. The first one's is what the lines of the site
@@ -45,13 +40,6 @@ pub fn editions_have_a_configuration()
         All (λ (files : List SeenFile). IsSome (bytes_of conf_name files))
         (editions_of lines).later }
 {}
-
-/// The lines of the site before the first other line.
-fn opening_lines(lines: &[ScriptLine]) -> &[ScriptLine]
-    ensures { result.now ≡ opening_lines lines.now }
-{
-    &lines[..opening_len(lines)]
-}
 
 /// How many lines of the site stand before the first other line.
 fn opening_len(lines: &[ScriptLine]) -> usize
@@ -73,100 +61,67 @@ fn is_graceful(line: &ScriptLine) -> bool
     matches!(line, ScriptLine::Command(CommandWord::Graceful))
 }
 
-/// All files that the lines leave.
-fn edition_of(alloc: Global, lines: &[ScriptLine]) -> Result<Files, NoMemory>
-    requires { HaveTextNames lines.now }
-    ensures { IfOk result (λ files. files ≡ edition_of lines.now) }
+/// The lines of the opening happen to an empty site, and its edition ends.
+fn take_opening(draft: &mut Draft, lines: &[ScriptLine]) -> Result<(), NoMemory>
+    requires names { HaveTextNames lines.now }
+    requires empty { draft.old ≡ record { past = []; conf = []; others = [] } }
+    ensures { OnOk result (draft.new ≡ record {
+      past = edition_of lines.now ∷ [];
+      conf = conf_of lines.now;
+      others = files_of lines.now;
+    }) }
 {
-    let conf = conf_of(alloc, lines)?;
-    let mut files = Files::make(alloc);
-    files.set(CONF_NAME, conf.as_slice())?;
     for line in lines {
-        change_files(&mut files, line)?;
+        change(draft, line)?;
     }
-    Ok(files)
+    draft.end()
 }
 
-/// The configuration that the lines leave.
-fn conf_of(alloc: Global, lines: &[ScriptLine]) -> Result<Octets, NoMemory>
-    ensures { IfOk result (λ conf. conf ≡ conf_of lines.now) }
-{
-    let mut conf = Octets::make(alloc);
-    for line in lines {
-        if let ScriptLine::Site(site) = line {
-            change_conf(&mut conf, site)?;
-        }
-    }
-    Ok(conf)
-}
-
-/// What the line of the site does to the configuration happens.
-fn change_conf(conf: &mut Octets, site: &SiteLine) -> Result<(), NoMemory>
-    ensures { OnOk result (conf.new ≡ conf_after conf.old site.now) }
-{
-    match site {
-        SiteLine::Conf(text) => {
-            conf.add(text.as_slice())?;
-            conf.add(b"\n")
-        }
-        SiteLine::Clear => set_conf(conf, b""),
-        SiteLine::File(name, bytes) if is_conf_name(name) => set_conf(conf, bytes.as_slice()),
-        SiteLine::Unfile(name) if is_conf_name(name) => set_conf(conf, b""),
-        _ => Ok(()),
-    }
-}
-
-fn set_conf(conf: &mut Octets, bytes: &[u8]) -> Result<(), NoMemory>
-    ensures { OnOk result (conf.new ≡ bytes.now) }
-{
-    conf.clear();
-    conf.add(bytes)
-}
-
-/// What the line does to the other files happens; the configuration's file stands before them.
-fn change_files(files: &mut Files, line: &ScriptLine) -> Result<(), NoMemory>
-    requires { HasTextName line.now }
+/// The lines behind the opening happen, and the editions end that end with them.
+fn take_lines(
+    draft: &mut Draft,
+    opening: &[ScriptLine],
+    lines: &[ScriptLine],
+) -> Result<(), NoMemory>
+    requires names { HaveTextNames lines.now }
+    requires conf { draft.old.conf ≡ conf_of opening.now }
+    requires others { draft.old.others ≡ files_of opening.now }
     ensures { OnOk result
-        ((conf : List ℕ) (others : List SeenFile) → files.old ≡ conf_file conf ∷ others →
-        files.new ≡ conf_file conf ∷ fold files_after others (site_in line.now)) }
+        (draft.new.past ≡ draft.old.past ++ editions_behind opening.now lines.now) }
+{
+    for line in lines {
+        take_line(draft, line)?;
+    }
+    Ok(())
+}
+
+/// The same of one line.
+fn take_line(draft: &mut Draft, line: &ScriptLine) -> Result<(), NoMemory>
+    requires { HasTextName line.now }
+    ensures past { OnOk result (draft.new.past ≡ (if is_graceful line.now
+        then draft.old.past ++ (conf_file draft.old.conf ∷ draft.old.others) ∷ []
+        else draft.old.past)) }
+    ensures conf { OnOk result
+        (draft.new.conf ≡ fold conf_after draft.old.conf (site_in line.now)) }
+    ensures others { OnOk result
+        (draft.new.others ≡ fold files_after draft.old.others (site_in line.now)) }
+{
+    if is_graceful(line) {
+        return draft.end();
+    }
+    change(draft, line)
+}
+
+/// What the line does to the site happens.
+fn change(draft: &mut Draft, line: &ScriptLine) -> Result<(), NoMemory>
+    requires { HasTextName line.now }
+    ensures { OnOk result (draft.new ≡ record draft.old {
+      conf = fold conf_after draft.old.conf (site_in line.now);
+      others = fold files_after draft.old.others (site_in line.now);
+    }) }
 {
     match line {
-        ScriptLine::Site(site) => change_site_files(files, site),
+        ScriptLine::Site(site) => draft.change(site),
         _ => Ok(()),
-    }
-}
-
-/// The same of a line of the site.
-fn change_site_files(files: &mut Files, site: &SiteLine) -> Result<(), NoMemory>
-    requires { NamesText site.now }
-    ensures { OnOk result
-        ((conf : List ℕ) (others : List SeenFile) → files.old ≡ conf_file conf ∷ others →
-        files.new ≡ conf_file conf ∷ files_after others site.now) }
-{
-    match site {
-        SiteLine::File(name, bytes) if !is_conf_name(name) => {
-            files.set(text_of(name.as_slice()), bytes.as_slice())
-        }
-        SiteLine::Unfile(name) if !is_conf_name(name) => {
-            files.unset(text_of(name.as_slice()));
-            Ok(())
-        }
-        _ => Ok(()),
-    }
-}
-
-fn is_conf_name(name: &Octets) -> bool
-    ensures { result ≡ is_conf_name name.now }
-{
-    CONF_NAME.as_bytes() == name.as_slice()
-}
-
-fn text_of(bytes: &[u8]) -> &str
-    requires { IsUtf8 bytes.now }
-    ensures { result.now ≡ bytes.now }
-{
-    match std::str::from_utf8(bytes) {
-        Ok(text) => text,
-        Err(_) => unreachable!(),
     }
 }

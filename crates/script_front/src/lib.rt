@@ -11,6 +11,7 @@
 mod client_parts;
 mod client_plans;
 mod coming_lines;
+mod draft;
 mod due_places;
 mod editions;
 mod failing_front;
@@ -24,7 +25,8 @@ mod script_front;
 mod wait_end;
 mod word_log;
 
-pub use editions::{CONF_NAME, editions_have_a_configuration, script_store};
+pub use draft::CONF_NAME;
+pub use editions::{editions_have_a_configuration, script_store};
 pub use failing_front::FailingFront;
 pub use script_bell::ScriptBell;
 pub use script_clock::ScriptClock;

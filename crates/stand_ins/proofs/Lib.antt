@@ -1,3 +1,5 @@
-pub mod FileLemmas
+pub mod HistoryLemmas
 pub mod LookupLemmas
 pub mod NamesLemmas
+pub mod PlaceLemmas
+pub mod SlotLemmas

@@ -1,10 +1,7 @@
--- A list of files by name: what setting and removing one leaves of it.
-use Rattle.std.specs.Prelude.{ℕ, Bool, not, List, [], ◌∷◌, filter, All, IsUtf8, bytes_eq, if◌then◌else◌}
+-- A list of files by name: what setting and removing one leaves of it, and which files there are at places.
+use Rattle.std.specs.Prelude.{ℕ, Bool, not, List, [], ◌∷◌, filter, bytes_eq, if◌then◌else◌, Option, None, Some}
 use Rattle.mpm_base.specs.declared.store.File.{File}
-
--- each name is UTF-8
-abbrev pub AllNamesUtf8 : List File → Type 0
-AllNamesUtf8 files = All (λ (file : File). IsUtf8 file.name) files
+use Rattle.stand_ins.specs.declared.slot.Slot.{Slot}
 
 -- the file is of that name
 abbrev pub is_file_named : List ℕ → File → Bool
@@ -19,3 +16,13 @@ with_file name bytes (file ∷ files) =
 -- the files without that name
 abbrev pub without_file : List ℕ → List File → List File
 without_file name files = filter (λ file. not (is_file_named name file)) files
+
+-- the file of that name, where it has bytes, before the others
+abbrev pub file_ahead : List ℕ → Option (List ℕ) → List File → List File
+file_ahead name None files = files
+file_ahead name (Some bytes) files = record { name = name; bytes = bytes } ∷ files
+
+-- the files that there are at the places, in order
+abbrev pub files_in : List Slot → List File
+files_in [] = []
+files_in (slot ∷ slots) = file_ahead slot.name slot.bytes (files_in slots)

@@ -1,5 +1,8 @@
 pub mod Calls
 pub mod Files
+pub mod FilesInside
+pub mod History
+pub mod HistoryInside
 pub mod MemSink
 pub mod MemStore
 pub mod PlainLink

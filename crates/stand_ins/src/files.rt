@@ -1,29 +1,30 @@
 //! A list of files by name.
-ghost use Rattle.std.specs.Prelude.{◌≡◌, ◌≢◌, ℕ, Some, None, List, [], find, position, OnOk, OnErr, option_map};
+ghost use Rattle.std.specs.Prelude.{◌≡◌, ◌≢◌, ℕ, Some, None, List, [], OnOk, OnErr, option_map};
 ghost use Rattle.mpm_base.specs.Store.{bytes_of};
-ghost use Rattle.stand_ins.specs.Files.{AllNamesUtf8, is_file_named, with_file, without_file};
+ghost use Rattle.stand_ins.specs.Files.{files_in, with_file, without_file};
 
-use mpm_base::{File, NoMemory, Octets};
+use crate::entry::Entry;
+use crate::shelf::Shelf;
+use crate::slot::Slot;
+use mpm_base::{NoMemory, Octets};
 use std::alloc::Global;
 use std::marker::Model;
 
-/// A list of files, as contracts see it. Each name is UTF-8.
+/// A list of files, as contracts see it. Each is found by a map, and so in a time that doesn't grow with their number. Each name is
+/// UTF-8.
 #[derive(Debug, Drop)]
 pub struct Files {
     alloc: Global,
-    items: Vec<File>,
+    shelf: Shelf,
 }
 
 impl Model for Files {
     ghost use Rattle.std.specs.Prelude.{List};
-    ghost use Rattle.stand_ins.specs.Files.{AllNamesUtf8};
     ghost use Rattle.mpm_base.specs.declared.store.File.{File};
 
     ghost Value = { List File };
 
-    ghost view = { λ f. f.items.items };
-
-    ghost invariant = { λ f. AllNamesUtf8 f.items.items };
+    ghost view = { λ f. f.shelf.files };
 }
 
 impl Files {
@@ -33,7 +34,7 @@ impl Files {
     {
         Files {
             alloc,
-            items: Vec::new(alloc),
+            shelf: Shelf::make(alloc),
         }
     }
 
@@ -49,14 +50,8 @@ impl Files {
             ((other : List ℕ) → other ≢ name.now →
             bytes_of other self.new ≡ bytes_of other self.old) }
     {
-        let bytes = Octets::of(self.alloc, bytes)?;
-        if let Some(place) = place_of(&self.items, name) {
-            self.items[place].bytes = bytes;
-            return Ok(());
-        }
-        let name = Octets::of(self.alloc, name.as_bytes())?;
-        self.items.push(File { name, bytes })?;
-        Ok(())
+        let entry = Entry::of(self.alloc, name, bytes)?;
+        self.shelf.set(entry)
     }
 
     /// Removes the file of that name, where there is one.
@@ -68,44 +63,28 @@ impl Files {
         ensures others { (other : List ℕ) → other ≢ name.now →
             bytes_of other self.new ≡ bytes_of other self.old }
     {
-        self.items
-            .retain(|file| file.name.as_slice() != name.as_bytes());
+        self.shelf.unset(name.as_bytes());
     }
 
     /// The bytes of the file of that name.
-    #[tactic(auto, using(crate::proofs::LookupLemmas::bytes_of_found))]
     pub fn get(&self, name: &str) -> Option<&Octets>
         ensures { option_map (λ bytes. bytes.now) result ≡ bytes_of name.now self.now }
     {
-        match file_of(&self.items, name) {
-            Some(file) => Some(&file.bytes),
-            None => None,
-        }
+        self.shelf.get(name.as_bytes())
     }
 
-    /// The files, in order.
-    pub fn as_slice(&self) -> &[File]
-        ensures files { result.now ≡ self.now }
-        ensures utf8 { AllNamesUtf8 self.now }
+    /// The places of the files, in order. At some there may be none any more.
+    pub fn slots(&self) -> &[Slot]
+        ensures { files_in result.now ≡ self.now }
     {
-        self.items.as_slice()
+        self.shelf.slots()
     }
-}
 
-/// The first file of that name.
-fn file_of<'a>(files: &'a [File], name: &str) -> Option<&'a File>
-    ensures { option_map (λ file. file.now) result ≡ find (is_file_named name.now) files.now }
-{
-    files
-        .iter()
-        .find(|file| file.name.as_slice() == name.as_bytes())
-}
-
-/// The place of the first file of that name.
-fn place_of(files: &[File], name: &str) -> Option<usize>
-    ensures { result ≡ position (is_file_named name.now) files.now }
-{
-    files
-        .iter()
-        .position(|file| file.name.as_slice() == name.as_bytes())
+    /// The same, as what keeps them.
+    pub(crate) fn into_shelf(self) -> Shelf
+        ensures { result.files ≡ self }
+    {
+        let Files { alloc: _, shelf } = self;
+        shelf
+    }
 }
