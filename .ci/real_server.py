@@ -1,5 +1,5 @@
-"""What the scenes of .ci/sockets, .ci/restart_scenes.py and .ci/folder_scenes.py are made of: a server with a folder and ports of its own,
-its clients, and what is expected of both. And the list of the scenes."""
+"""What the scenes of .ci/sockets and of the files beside it are made of: a server with a folder and ports of its own, its clients, and what is
+expected of both. And the lists of the scenes."""
 
 import collections
 import contextlib
@@ -13,6 +13,8 @@ import struct
 import subprocess
 import tempfile
 import time
+
+from outside import compiler
 
 PROGRAM = "crates/event_server/out/event_server"
 # What each line on standard error begins with, and the file of a server's folder that has them.
@@ -41,12 +43,27 @@ CONTINUE = b"HTTP/1.1 100 Continue\r\n\r\n"
 FEW = 40
 FEW_DESCRIPTORS = ["sh", "-c", f'ulimit -n {FEW} && exec "$@"', "sh"]
 SCENES = []
+# Those that take long, or try a thing in each of its places. They are played before a release.
+LONG_SCENES = []
+# The names of those that can't be played here, as there is no C compiler.
+LEFT_OUT = []
 
 
 def scene(play):
     """Adds the scene to those that are played."""
     SCENES.append(play)
     return play
+
+
+def long_scene(play):
+    """Adds the scene to those that take long."""
+    LONG_SCENES.append(play)
+    return play
+
+
+def where_compiled(add):
+    """Adds the scene so where there is the C compiler that it needs, to have calls of the system fail."""
+    return add if compiler() else lambda play: LEFT_OUT.append(play.__name__)
 
 
 class Wrong(Exception):
@@ -239,10 +256,11 @@ def configure(folder, *lines):
         file.writelines(f"{line}\n" for line in lines)
 
 
-def run_told(folder, *words, **others):
-    """The status with which the program ends, what it prints, and what it says on standard error, of which each line begins alike."""
+def run_told(folder, *words, before=(), **others):
+    """The status with which the program ends, with these words before its own, what it prints, and what it says on standard error, of which
+    each line begins alike."""
     how = {"stdin": subprocess.DEVNULL, "stdout": subprocess.PIPE, "stderr": subprocess.PIPE, "timeout": DEADLINE, **others}
-    told = subprocess.run([PROGRAM, *words], cwd=folder, **how)
+    told = subprocess.run([*before, PROGRAM, *words], cwd=folder, **how)
     return told.returncode, told.stdout, told_lines(told.stderr)
 
 
@@ -266,10 +284,10 @@ def copy_of_program(folder):
     return copy
 
 
-def begin(folder, before):
-    """Starts a server by the configuration of the folder, with these words before the program's. What it says on standard error comes into
-    a file of its own."""
-    words = [*before, PROGRAM, "-f", "httpd.conf"]
+def begin(folder, before, program=None):
+    """Starts a server by the configuration of the folder, with these words before the program's, which may be a copy of it. What it says on
+    standard error comes into a file of its own."""
+    words = [*before, program or PROGRAM, "-f", "httpd.conf"]
     with open(f"{folder}/{ERRORS}", "wb") as errors:
         return subprocess.Popen(words, cwd=folder, stdin=subprocess.DEVNULL, stdout=subprocess.PIPE, stderr=errors, bufsize=0)
 
@@ -378,14 +396,14 @@ def behind(some, others):
     return list((collections.Counter(some) - collections.Counter(others)).elements())
 
 
-def start(folder, lines, before=(), seconds=DEADLINE):
+def start(folder, lines, before=(), seconds=DEADLINE, program=None):
     """A server that serves the folder by these further lines of configuration, once it has begun to, within these seconds. It is started anew
     where its ports were taken."""
     for _ in range(STARTS):
         port, control = free_ports(2)
         # On a slow machine no client is to be late that isn't meant to be.
         configure(folder, f"Listen {HOST}:{port}", f"ControlListen {control}", CORRECTED, "KeepAliveTimeout 60", *lines)
-        process = begin(folder, before)
+        process = begin(folder, before, program)
         line = b""
         try:
             line = first_line(process, seconds)

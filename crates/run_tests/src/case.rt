@@ -38,6 +38,8 @@ pub struct Case {
     pub bad_waits: Calls,
     /// The accepts of that front that fail.
     pub bad_accepts: Calls,
+    /// The watches of that front that fail.
+    pub bad_watches: Calls,
     /// The calls of `dial` fail.
     pub undialled: bool,
     /// The calls of the store that fail.
@@ -63,6 +65,7 @@ pub fn case_of(alloc: Global, lines: &str) -> Result<Case, NoMemory> {
         front: None,
         bad_waits: Calls::make(alloc),
         bad_accepts: Calls::make(alloc),
+        bad_watches: Calls::make(alloc),
         undialled: false,
         bad_reads: Calls::make(alloc),
         bad_writes: Calls::make(alloc),
@@ -94,6 +97,7 @@ fn take_line(alloc: Global, case: &mut Case, line: &str) -> Result<(), NoMemory>
         "each" => add_each(&mut case.file, rest),
         "wait" => case.bad_waits.add(number_of(rest)),
         "accept" => case.bad_accepts.add(number_of(rest)),
+        "watch" => case.bad_watches.add(number_of(rest)),
         "store" => case.bad_reads.add(number_of(rest)),
         "output" => case.bad_writes.add(number_of(rest)),
         _ => {

@@ -13,12 +13,13 @@ use std::sync::Wait;
 use std::thread::Threads;
 use test_rows::{begin_section, grown, out_of_memory, sections_of};
 
-/// What a front of a script is made of: the script, and which of its waits and accepts fail.
+/// What a front of a script is made of: the script, and which of its waits, accepts and watches fail.
 #[derive(Drop)]
 struct ScriptedFront {
     script: Script,
     waits: Calls,
     accepts: Calls,
+    watches: Calls,
 }
 
 /// Plays each run of the input behind its title. What stands before the first title is no run.
@@ -53,6 +54,7 @@ fn play<R: Print + Threads + Wait + Sync>(rt: &R, alloc: Global, case: Case) -> 
         front,
         bad_waits,
         bad_accepts,
+        bad_watches,
         undialled,
         bad_reads,
         bad_writes,
@@ -61,7 +63,12 @@ fn play<R: Print + Threads + Wait + Sync>(rt: &R, alloc: Global, case: Case) -> 
         ..
     } = case;
     let scripted = match front {
-        Some(name) => Some(front_in(alloc, &files, name.as_str(), bad_waits, bad_accepts)?),
+        Some(name) => Some(ScriptedFront {
+            script: script_in(alloc, &files, name.as_str())?,
+            waits: bad_waits,
+            accepts: bad_accepts,
+            watches: bad_watches,
+        }),
         None => None,
     };
     let mut store = MemStore::make(alloc, files, bad_reads);
@@ -75,22 +82,6 @@ fn play<R: Print + Threads + Wait + Sync>(rt: &R, alloc: Global, case: Case) -> 
         Some(front) => play_over(rt, alloc, &words, &mut store, front, &mut out, view),
         None => play_alone(rt, alloc, &words, &mut store, undialled, &mut out, view),
     }
-}
-
-/// A front that plays the script of the file of that name, and whose listed waits and accepts fail.
-fn front_in(
-    alloc: Global,
-    files: &Files,
-    name: &str,
-    waits: Calls,
-    accepts: Calls,
-) -> io::Result<ScriptedFront> {
-    let script = script_in(alloc, files, name)?;
-    Ok(ScriptedFront {
-        script,
-        waits,
-        accepts,
-    })
 }
 
 /// The script of the file of that name.
@@ -176,8 +167,9 @@ fn end_over<R: Threads + Wait + Sync>(
         script,
         waits,
         accepts,
+        watches,
     } = scripted;
-    let mut front = ScriptFront::failing(alloc, script, waits, accepts)?;
+    let mut front = ScriptFront::failing(alloc, script, waits, accepts, watches)?;
     let mut clock = ScriptClock::make();
     let outcome = run(
         rt, alloc, words, store, &mut front, &mut clock, &OpenGate, out,

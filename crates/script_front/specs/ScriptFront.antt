@@ -9,6 +9,7 @@ use Rattle.stand_ins.specs.ScriptLink.{SeenScriptLink, new_paced_link}
 use Rattle.script_front.specs.Signals.{SeenClient, Gives, client_after_lines, all_closed, new_client}
 use Rattle.script_front.specs.declared.wait_end.WaitEnd.{WaitEnd}
 use Rattle.script_front.specs.declared.wait_end.WaitingCounts.{WaitingCounts}
+use Rattle.script_front.specs.declared.watch_end.WatchEnd.{WatchEnd}
 use Rattle.http_server.specs.declared.log.Log.{Log}
 use Rattle.mpm_base.specs.declared.addr.Addr.{Addr}
 use Rattle.mpm_base.specs.declared.conn.ConnName.{ConnName}
@@ -46,9 +47,9 @@ wait_told wait =
       passed = option_map backlog_of wait.1.passed;
     }
 
--- a watch of it, from the number of the link and the name: none fails
-abbrev pub watch_told : ℕ × ConnName → WatchTold
-watch_told watch = record { rank = watch.0; name = watch.1; answer = true }
+-- a watch of it, from the number of the link and how it ended
+abbrev pub watch_told : ℕ × WatchEnd → WatchTold
+watch_told watch = record { rank = watch.0; name = watch.1.name; answer = watch.1.answer }
 
 -- a link that it turned away, from its number and the link
 abbrev pub turned_told : ℕ × SeenScriptLink → LinkTold

@@ -3,10 +3,10 @@ ghost use Rattle.std.specs.Prelude.{◌≡◌, ◌<◌, ◌&&◌, nat_lt, not, t
 ghost use Rattle.mpm_base.specs.Count.{next_count};
 ghost use Rattle.mpm_base.specs.Front.{Accepts, Binds, Commands, Dials, HasAllTaken, Waits, Watches, accept_failed, after_bind, after_command, after_dial, after_hush, after_turning_away, front_after_turning_away, hushed_front, is_handed};
 ghost use Rattle.mpm_base.specs.Link.{telling_link};
-ghost use Rattle.script_front.specs.FailingFront.{PlaysUnlessListed, failing_front_seen, new_failing_front, next_accept_fails};
+ghost use Rattle.script_front.specs.FailingFront.{PlaysUnlessListed, after_failed_watch, failing_front_seen, new_failing_front, next_accept_fails, next_watch_fails};
 ghost use Rattle.script_front.specs.ScriptFront.{HandsPaced, IsOfScript};
 ghost use Rattle.script_front.specs.Signals.{after_watch_of};
-ghost use Rattle.stand_ins.specs.ScriptLink.{SeenScriptLink};
+ghost use Rattle.stand_ins.specs.ScriptLink.{SeenScriptLink, script_link_after_failed_watch};
 
 use crate::script_bell::ScriptBell;
 use crate::script_front::ScriptFront;
@@ -17,14 +17,16 @@ use std::alloc::Global;
 use std::marker::Model;
 use std::sync::Wait;
 
-/// A front that plays a script, and whose listed waits and accepts fail.
+/// A front that plays a script, and whose listed waits, accepts and watches fail.
 #[derive(Drop)]
 pub struct FailingFront {
     front: ScriptFront,
     bad_waits: Calls,
     bad_accepts: Calls,
+    bad_watches: Calls,
     made_waits: u64,
     made_accepts: u64,
+    made_watches: u64,
     failed_waits: u64,
     failed_accepts: u64,
 }
@@ -38,8 +40,10 @@ impl Model for FailingFront {
       front = f.front;
       fail_waits = f.bad_waits;
       fail_accepts = f.bad_accepts;
+      fail_watches = f.bad_watches;
       waits = f.made_waits;
       accepts = f.made_accepts;
+      watches = f.made_watches;
       faults = f.failed_waits;
       accept_faults = f.failed_accepts;
     } };
@@ -51,23 +55,27 @@ impl Model for FailingFront {
 }
 
 impl ScriptFront {
-    /// A front of the script whose waits and accepts of the listed numbers, from 1, fail. Each call counts, waits among waits and
-    /// accepts among accepts, whatever it answers.
+    /// A front of the script whose waits, accepts and watches of the listed numbers, from 1, fail. Each call counts, waits among waits,
+    /// accepts among accepts and watches among watches, whatever it answers.
     pub fn failing(
         alloc: Global,
         script: Script,
         waits: Calls,
         accepts: Calls,
+        watches: Calls,
     ) -> Result<FailingFront, NoMemory>
-        ensures { IfOk result (λ front. front ≡ new_failing_front script waits accepts) }
+        ensures { IfOk result (λ front.
+            front ≡ new_failing_front script waits accepts watches) }
     {
         let front = ScriptFront::make(alloc, script)?;
         Ok(FailingFront {
             front,
             bad_waits: waits,
             bad_accepts: accepts,
+            bad_watches: watches,
             made_waits: 0,
             made_accepts: 0,
+            made_watches: 0,
             failed_waits: 0,
             failed_accepts: 0,
         })
@@ -180,21 +188,31 @@ impl Front for FailingFront {
         self.front.accept()
     }
 
-    /// A signal is due at once where bytes came before, or the end has.
+    /// A listed watch fails, which the link counts: no signal is given for it. Else a signal is due at once where bytes came before, or
+    /// the end has.
     fn watch(&mut self, name: ConnName, link: &mut ScriptLink) -> bool
         ensures watches { Watches (failing_front_seen self.old) (failing_front_seen self.new) name
             (telling_link link.old.told link.old.counts)
             (telling_link link.new.told link.new.counts) result }
-        ensures sure { result ≡ true }
-        ensures rest { self.new
-            ≡ record self.old {
-              front = record self.old.front {
-                clients = after_watch_of link.old.told.rank self.old.front.clients;
-                names = slice_set self.old.front.names link.old.told.rank (Some name);
-                told = self.new.front.told;
-              };
+        ensures fails { result ≡ not (next_watch_fails self.old) }
+        ensures refused { next_watch_fails self.old ≡ true →
+            (self.new.front ≡ after_failed_watch name link.old.told.rank self.old.front)
+            × (link.new ≡ script_link_after_failed_watch link.old) }
+        ensures watched { next_watch_fails self.old ≡ false →
+            self.new.front
+            ≡ record self.old.front {
+              clients = after_watch_of link.old.told.rank self.old.front.clients;
+              names = slice_set self.old.front.names link.old.told.rank (Some name);
+              told = self.new.front.told;
             } }
+        ensures rest { self.new
+            ≡ record self.old { front = self.new.front; watches = next_count self.old.watches } }
     {
+        self.made_watches = self.made_watches.saturating_add(1);
+        if self.bad_watches.has(self.made_watches) {
+            self.front.fail_watch(name, link);
+            return false;
+        }
         self.front.watch(name, link)
     }
 

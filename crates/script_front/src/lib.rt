@@ -4,7 +4,7 @@
 //! lines come, and time goes from moment to moment while nobody is served. It meets the trait `Front` of `mpm_base`, and no call
 //! of it fails; what it shows of itself and the rules of its waits stand in `specs/ScriptFront.antt`, which signals are due in
 //! `specs/Signals.antt`, and what holds between its parts in `specs/PlayedPartsInside.antt`. `FailingFront` is the same but that its
-//! listed waits and accepts fail (`specs/FailingFront.antt`). `ScriptClock` is the clock that goes with them. `script_store` makes the
+//! listed waits, accepts and watches fail (`specs/FailingFront.antt`). `ScriptClock` is the clock that goes with them. `script_store` makes the
 //! store of a script, with all editions of its files; which these are stands in `specs/Editions.antt`.
 #![tactic(auto)]
 
@@ -23,6 +23,7 @@ mod script_clock;
 mod script_commands;
 mod script_front;
 mod wait_end;
+mod watch_end;
 mod word_log;
 
 pub use draft::CONF_NAME;

@@ -2,14 +2,14 @@
 ghost use Rattle.std.specs.Prelude.{◌≡◌, ◌<◌, ◌≤◌, ◌&&◌, max, nat_lt, not, true, false, None, Some, [], take, drop, length, is_some, slice_get, slice_set, IfOk, IsOk};
 ghost use Rattle.mpm_base.specs.Count.{Rises};
 ghost use Rattle.mpm_base.specs.Front.{Accepts, Binds, Commands, Dials, GoesForward, HasAllTaken, StandsStill, Waits, Watches, accept_failed, after_bind, after_command, after_dial, after_hush, after_turning_away, front_after_turning_away, hushed_front, is_handed, next_coming};
-ghost use Rattle.mpm_base.specs.Link.{telling_link};
+ghost use Rattle.mpm_base.specs.Link.{OnlyFaults, telling_link};
 ghost use Rattle.mpm_base.specs.declared.front.Woke.TheVariants as woke;
 ghost use Rattle.script_front.specs.DuePlacesInside.{AllLook};
-ghost use Rattle.script_front.specs.FailingFront.{after_failed_wait};
+ghost use Rattle.script_front.specs.FailingFront.{after_failed_wait, after_failed_watch, told_watch};
 ghost use Rattle.script_front.specs.PlayedFrontInside.{KeepsRest, gone_to, waiting_counts, with_begun, with_clients, with_end, with_lines, with_moment, with_wait};
 ghost use Rattle.script_front.specs.ScriptFront.{HandsPaced, IsOfScript, Plays, comings_of, front_seen, lines_now, new_front, all_taken_closed, to_come};
 ghost use Rattle.script_front.specs.Signals.{Gives, after_watch_of};
-ghost use Rattle.stand_ins.specs.ScriptLink.{SeenScriptLink};
+ghost use Rattle.stand_ins.specs.ScriptLink.{SeenScriptLink, script_link_after_failed_watch};
 
 use crate::coming_lines::{
     arrivals, commands, earlier, lines_by, lines_now, next_lines, next_moment,
@@ -18,6 +18,7 @@ use crate::script_bell::ScriptBell;
 use crate::script_clients::ScriptClients;
 use crate::script_commands::{ScriptCommands, line_of};
 use crate::wait_end::{WaitEnd, WaitingCounts, passed_between};
+use crate::watch_end::WatchEnd;
 use crate::word_log::log_of;
 use http_server::Log;
 use mpm_base::{
@@ -48,7 +49,7 @@ pub struct ScriptFront {
     // Kept for clauses alone: they take no memory.
     binds: Log<Addr, Option<u16>>,
     dials: Log<u16, Log<u8, bool>>,
-    watches: Log<u64, ConnName>,
+    watches: Log<u64, WatchEnd>,
     turned_away: Log<u64, ScriptLink>,
     waits: Log<Ready, WaitEnd>,
 }
@@ -95,10 +96,9 @@ impl Model for ScriptFront {
 }
 
 impl ScriptFront {
-    /// The front of the script. No line has happened. A line of the site happens with those around it and does nothing to the
-    /// front: it says what the files are, which the store of the script has (`script_store`). A command brings its word as a
-    /// command line. A line that names a client means each connection of that name; a script that was read has no two connections
-    /// of one name.
+    /// The front of the script. No line has happened. A line of the site happens with those around it and does nothing to the front: it
+    /// says what the files are, which the store of the script has (`script_store`). A command brings its word as a command line. A line that
+    /// names a client means each connection of that name; a script that was read has no two connections of one name.
     pub fn make(alloc: Global, script: Script) -> Result<ScriptFront, NoMemory>
         ensures { IfOk result (λ front. front ≡ new_front script) }
     {
@@ -327,6 +327,23 @@ impl ScriptFront {
     {
         self.failed = true;
     }
+
+    /// Puts a watch of the link down that answered this.
+    fn put_down_watch(&mut self, name: ConnName, link: &ScriptLink, answer: bool)
+        ensures { self.new ≡ told_watch name link.now.told.rank answer self.old }
+    {
+        self.watches = self.watches.and(&link.rank(), &WatchEnd { name, answer });
+    }
+
+    /// A watch fails, which the link counts: it is told, and does nothing else.
+    pub(crate) fn fail_watch(&mut self, name: ConnName, link: &mut ScriptLink)
+        ensures front { self.new ≡ after_failed_watch name link.old.told.rank self.old }
+        ensures link { link.new ≡ script_link_after_failed_watch link.old }
+        ensures faults { OnlyFaults true link.old.counts link.new.counts }
+    {
+        link.fail_watch();
+        self.put_down_watch(name, link, false);
+    }
 }
 
 impl Front for ScriptFront {
@@ -424,7 +441,7 @@ impl Front for ScriptFront {
             } }
     {
         self.clients.watch(link.rank() as usize, name);
-        self.watches = self.watches.and(&link.rank(), &name);
+        self.put_down_watch(name, link, true);
         true
     }
 

@@ -20,27 +20,20 @@ struct Play {
 
 /// Shows what a front of the script answers to each call. None of its calls fails.
 pub fn show_front<R: Print + Wait>(rt: &R, alloc: Global, rows: &str) -> io::Result<()> {
-    show_failing(rt, alloc, "", "", rows)
+    show_failing(rt, alloc, "", rows)
 }
 
-/// Shows what a front of the script answers to each call. The first row has the numbers of the waits that are to fail, a semicolon, and
-/// those of the accepts.
+/// Shows what a front of the script answers to each call. The first row has the numbers of the waits that are to fail, a semicolon, those
+/// of the accepts, and perhaps a further one and those of the watches.
 pub fn show_failing_front<R: Print + Wait>(rt: &R, alloc: Global, rows: &str) -> io::Result<()> {
     let (lists, rest) = rows.split_once('\n').unwrap_or((rows, ""));
-    let (waits, accepts) = lists.split_once(';').unwrap_or((lists, ""));
-    show_failing(rt, alloc, waits, accepts, rest)
+    show_failing(rt, alloc, lists, rest)
 }
 
-/// The same where the waits and the accepts of these numbers are to fail.
-fn show_failing<R: Print + Wait>(
-    rt: &R,
-    alloc: Global,
-    waits: &str,
-    accepts: &str,
-    rows: &str,
-) -> io::Result<()> {
+/// The same where the calls of these lists are to fail.
+fn show_failing<R: Print + Wait>(rt: &R, alloc: Global, lists: &str, rows: &str) -> io::Result<()> {
     let (script, calls) = rows.split_once('\n').unwrap_or((rows, ""));
-    let mut play = grown(play_of(alloc, script, waits, accepts))?;
+    let mut play = grown(play_of(alloc, script, lists))?;
     show_calls(rt, alloc, &mut play, calls)
 }
 
@@ -64,10 +57,10 @@ fn show_row<R: Print + Wait>(rt: &R, alloc: Global, play: &mut Play, call: &str)
     show_call(rt, alloc, play, word, rest)
 }
 
-/// A front of the script, of which no line has happened, and whose listed waits and accepts fail.
-fn play_of(alloc: Global, row: &str, waits: &str, accepts: &str) -> Result<Play, NoMemory> {
+/// A front of the script, of which no line has happened, and whose listed calls fail.
+fn play_of(alloc: Global, row: &str, lists: &str) -> Result<Play, NoMemory> {
     let ready = Ready::make(alloc)?;
-    let front = front_of(alloc, row, waits, accepts)?;
+    let front = front_of(alloc, row, lists)?;
     Ok(Play {
         front,
         ready,
@@ -75,16 +68,13 @@ fn play_of(alloc: Global, row: &str, waits: &str, accepts: &str) -> Result<Play,
     })
 }
 
-fn front_of(
-    alloc: Global,
-    row: &str,
-    waits: &str,
-    accepts: &str,
-) -> Result<FailingFront, NoMemory> {
+fn front_of(alloc: Global, row: &str, lists: &str) -> Result<FailingFront, NoMemory> {
     let script = script_by_hand(alloc, row)?;
-    let bad_waits = calls_of(alloc, waits)?;
-    let bad_accepts = calls_of(alloc, accepts)?;
-    ScriptFront::failing(alloc, script, bad_waits, bad_accepts)
+    let mut parts = lists.split(';');
+    let bad_waits = calls_of(alloc, parts.next().unwrap_or(""))?;
+    let bad_accepts = calls_of(alloc, parts.next().unwrap_or(""))?;
+    let bad_watches = calls_of(alloc, parts.next().unwrap_or(""))?;
+    ScriptFront::failing(alloc, script, bad_waits, bad_accepts, bad_watches)
 }
 
 /// The numbers that the words of the text write.

@@ -17,8 +17,8 @@
 //!   - `read LINK ROOM`, with room for eight bytes at most; `write LINK TEXT`, `shut LINK`, `close LINK`, and `show LINK`.
 //!   - `bind`, `hush`, `command`, `dial PORT WORD`, and `bell`, which makes a bell and rings it; `faults` shows how many waits and
 //!     accepts failed.
-//! - `failing`: the same of a front some of whose calls fail. Its first row has the numbers of the waits that fail, a semicolon, and
-//!   those of the accepts; the script stands in the second.
+//! - `failing`: the same of a front some of whose calls fail. Its first row has the numbers of the waits that fail, a semicolon, those
+//!   of the accepts, and perhaps a further one and those of the watches; the script stands in the second.
 #![tactic(auto)]
 
 mod by_hand;

@@ -1,4 +1,5 @@
 pub mod Accepting
+pub mod Addresses
 pub mod Answers
 pub mod AskingInside
 pub mod CommandLines

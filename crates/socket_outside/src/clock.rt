@@ -1,9 +1,10 @@
 //! The clock of the system.
-ghost use Rattle.std.specs.Prelude.{◌≡◌, ◌≤◌, None, IfSome};
+ghost use Rattle.std.specs.Prelude.{◌≡◌, ◌≤◌, None, true, is_some, IfSome};
 ghost use Rattle.std.specs.Duration.{as_nanos};
 ghost use Rattle.mpm_base.specs.Clock.{Answers};
 ghost use Rattle.mpm_base.specs.Moment.{greatest_moment};
-ghost use Rattle.socket_outside.specs.Moments.{moment_behind, clock_answer};
+ghost use Rattle.std.specs.Time.{instant_nanos, system_time_nanos};
+ghost use Rattle.socket_outside.specs.Moments.{moment_behind, moment_since, clock_answer};
 
 use mpm_base::{Clock, GREATEST_MOMENT, Moment};
 use std::marker::Model;
@@ -11,7 +12,7 @@ use std::time::{self, Duration, Instant, SystemTime, UNIX_EPOCH};
 
 /// When a clock began: the system's time since 1970, and what the clock that never goes back said then.
 #[derive(Clone, Copy)]
-struct Start {
+pub struct Start {
     since_1970: Duration,
     at: Instant,
 }
@@ -67,15 +68,33 @@ impl<'a, T: time::Clock> SystemClock<'a, T> {
     {
         let start = self.start?;
         let now = Instant::now(self.time).ok()?;
-        Some(moment_behind(start.since_1970, now.duration_since(start.at)))
+        Some(moment_at(start, now))
     }
 }
 
 /// When a clock begins, where the system says it.
 fn start_of<T: time::Clock>(time: &T) -> Option<Start> {
-    let since_1970 = SystemTime::now(time).ok()?.duration_since(UNIX_EPOCH).ok()?;
+    let started = SystemTime::now(time).ok()?;
     let at = Instant::now(time).ok()?;
+    start_from(started, at)
+}
+
+/// The start at which the system's time was this, and the clock that never goes back said that.
+pub fn start_from(started: SystemTime, at: Instant) -> Option<Start>
+    ensures some { is_some result ≡ true }
+    ensures is { IfSome result (λ start.
+        (as_nanos start.since_1970 ≡ system_time_nanos started) × (start.at ≡ at)) }
+{
+    let since_1970 = started.duration_since(UNIX_EPOCH).ok()?;
     Some(Start { since_1970, at })
+}
+
+/// The moment at which the clock that never goes back says this.
+pub fn moment_at(start: Start, now: Instant) -> Moment
+    ensures is { result ≡ moment_since
+        (as_nanos start.since_1970) (instant_nanos start.at) (instant_nanos now) }
+{
+    moment_behind(start.since_1970, now.duration_since(start.at))
 }
 
 /// The moment so long behind the start.

@@ -1,5 +1,5 @@
 //! The control port: the connections that bring command lines, and the lines that wait.
-ghost use Rattle.std.specs.Prelude.{◌≡◌, ◌++◌, IfOk, [], nat_lt, length, if◌then◌else◌, ◌∷◌, is_some};
+ghost use Rattle.std.specs.Prelude.{◌≡◌, ◌≢◌, ◌++◌, ℕ, List, IfOk, IfErr, None, [], nat_lt, length, true, if◌then◌else◌, ◌∷◌, is_some};
 ghost use Rattle.std.specs.Option.{option_to_list};
 
 use crate::accepting::{NoStream, accept_next};
@@ -35,6 +35,8 @@ pub(crate) struct ControlPort {
     asks: bool,
     callers: ShortQueue<Caller>,
     lines: ShortQueue<Line>,
+    // A descriptor that does nothing. It is given up where the system has none left for a connection.
+    reserve: Option<Registry>,
     ghost few_callers: { callers.most ≡ 16 },
     ghost few_lines: { lines.most ≡ 64 },
 }
@@ -47,6 +49,7 @@ impl ControlPort {
             asks: false,
             callers: ShortQueue::make(alloc, MOST_CALLERS)?,
             lines: ShortQueue::make(alloc, MOST_LINES)?,
+            reserve: None,
         })
     }
 
@@ -55,12 +58,26 @@ impl ControlPort {
         ensures { is_some self.new.listener ≡ is_some listener }
     {
         self.asks = false;
+        self.reserve = None;
         self.listener = listener;
     }
 
     /// Whether a connection may wait that the system is to be asked for again.
-    pub(crate) fn asks(&self) -> bool {
+    pub(crate) fn asks(&self) -> bool
+        ensures { result ≡ self.now.asks }
+    {
         self.asks
+    }
+
+    /// Keeps a descriptor in reserve, where there is none and the system has one to give. It is done before a client is taken, and not where
+    /// a connection was closed: so what its command opens finds the descriptor that it gave back.
+    pub(crate) fn restock(&mut self, registry: &Registry)
+        ensures kept { is_some self.old.reserve ≡ true → self.new ≡ self.old }
+        ensures others { self.new ≡ record self.old { reserve = self.new.reserve } }
+    {
+        if self.reserve.is_none() {
+            self.reserve = registry.try_clone().ok();
+        }
     }
 
     /// The line that waited longest.
@@ -94,7 +111,24 @@ impl ControlPort {
     /// Reads on from a connection, and keeps it behind the others where more is to come.
     fn hear(&mut self, caller: Caller) {
         let mut caller = caller;
-        match caller.spoken.hear(&mut caller.socket) {
+        let heard = caller.spoken.hear(&mut caller.socket);
+        self.take_in(caller, heard);
+    }
+
+    /// Keeps the connection behind the others, while there are fewer than so many, where its line isn't whole. Else it is closed, and its
+    /// line, where there is one, is put behind those that wait, unless there are as many as may.
+    fn take_in(&mut self, caller: Caller, heard: Heard)
+        ensures stays { heard ≡ Heard.More →
+            let callers = self.old.callers.queue.items in
+            let fits = nat_lt (length callers) 16 in
+            self.new.callers.queue.items ≡ (if fits then callers ++ caller ∷ [] else callers) }
+        ensures goes { heard ≢ Heard.More → self.new.callers ≡ self.old.callers }
+        ensures line { (line : List ℕ) → heard ≡ Heard.Line line →
+            let lines = self.old.lines.queue.items in
+            let fits = nat_lt (length lines) 64 in
+            self.new.lines.queue.items ≡ (if fits then lines ++ line ∷ [] else lines) }
+    {
+        match heard {
             Heard::More => {
                 let _ = self.callers.put(caller);
             }
@@ -112,10 +146,13 @@ impl ControlPort {
         }
     }
 
-    /// The next connection that waits. The mark stands until none does.
-    fn next_caller(&mut self) -> Option<TcpStream> {
+    /// The next connection that waits. The mark stands until none does. One is refused only where nothing is left in reserve.
+    fn next_caller(&mut self) -> Option<TcpStream>
+        ensures spent { is_some self.old.listener ≡ true → result ≡ None → self.new.asks ≡ true
+            → self.new.reserve ≡ None }
+    {
         let listener = self.listener.as_ref()?;
-        match accept_next(listener) {
+        match accept_with(listener, &mut self.reserve) {
             Ok(socket) => Some(socket),
             Err(NoStream::NoneWaits) => {
                 self.asks = false;
@@ -138,5 +175,22 @@ impl ControlPort {
                 spoken: Spoken::make(),
             });
         }
+    }
+}
+
+/// The next connection that waits. Where the system refuses it what is kept in reserve is given up, and the system asked once more.
+fn accept_with(
+    listener: &TcpListener,
+    reserve: &mut Option<Registry>,
+) -> Result<TcpStream, NoStream>
+    ensures passed { IfErr result (λ none. none ≢ NoStream.PassedOver) }
+    ensures spent { IfErr result (λ none. none ≡ NoStream.Failed → reserve.new ≡ None) }
+{
+    match accept_next(listener) {
+        Err(NoStream::Failed) if reserve.is_some() => {
+            *reserve = None;
+            accept_next(listener)
+        }
+        answer => answer,
     }
 }

@@ -2,9 +2,10 @@
 ghost use Rattle.std.specs.Prelude.{◌≡◌, ◌<◌, [], ◌∷◌, ◌++◌, true, is_ok, length, IfOk, OnOk};
 ghost use Rattle.std.specs.Io.KnownBytes.{Appends, IsAtEnd};
 
+use crate::addresses::control_address;
 use crate::answers::CALLS;
 use std::io::{self, ErrorKind, Read, Write};
-use std::net::{Ipv4Addr, Net, OpenStream, SocketAddr};
+use std::net::{Net, OpenStream};
 use system_outside::Operator;
 
 /// How many bytes are read at once, and dropped.
@@ -18,7 +19,7 @@ pub(crate) fn dial<R: Net + Eprint>(
     port: u16,
     word: &str,
 ) -> bool {
-    let address = SocketAddr::from((Ipv4Addr::LOCALHOST, port));
+    let address = control_address(port);
     match send_over(net.connect(address), word) {
         Ok(()) => true,
         Err(error) => {
@@ -36,17 +37,21 @@ fn send_over<S: Read + Write + OpenStream + Drop>(
     ensures { OnOk result (is_ok connected ≡ true) }
 {
     match connected {
-        Ok(stream) => exchange(stream, word),
+        Ok(stream) => {
+            let mut stream = stream;
+            exchange(&mut stream, word)
+        }
         Err(error) => Err(error),
     }
 }
 
-/// Sends the line, without a delay between its pieces, and reads to the end.
-fn exchange<S: Read + Write + OpenStream + Drop>(stream: S, word: &str) -> io::Result<()> {
-    let mut stream = stream;
+/// Sends the line, without a delay between its pieces, and reads to the end. It fails where the stream wasn't read to its end.
+pub fn exchange<S: Read + Write + OpenStream>(stream: &mut S, word: &str) -> io::Result<()>
+    ensures { OnOk result (IsAtEnd (S.remaining stream.new)) }
+{
     stream.set_nodelay(true)?;
-    send_line(&mut stream, word)?;
-    read_out(&mut stream)
+    send_line(stream, word)?;
+    read_out(stream)
 }
 
 /// Writes the word and a line feed. It fails where a write failed or wasn't ready.

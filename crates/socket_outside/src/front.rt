@@ -1,7 +1,7 @@
 //! The front over sockets.
-ghost use Rattle.std.specs.Prelude.{◌≡◌, ◌==◌, ◌≤◌, [], None, false, length};
+ghost use Rattle.std.specs.Prelude.{◌≡◌, ◌==◌, ◌≤◌, ◌||◌, [], None, false, length};
 ghost use Rattle.std.specs.List.{IsDistinct};
-ghost use Rattle.mpm_base.specs.Front.{FrontSeen, Waits, accept_failed};
+ghost use Rattle.mpm_base.specs.Front.{Accepts, FrontSeen, Waits, accept_failed};
 
 use crate::answers::CALLS;
 use crate::bell::SocketBell;
@@ -120,6 +120,7 @@ impl<'a, R: Net + time::Clock + Eprint> Front for SocketFront<'a, R> {
             record { script = None; told = None; counts = self.new.counters } in
             Waits old new until _quiet result ready.new }
         ensures once { IsDistinct (λ a b. a == b) ready.new }
+        ensures pressed { self.new.pressed ≡ false }
     {
         let pressed = self.pressed || self.sockets.asks_control();
         self.pressed = false;
@@ -133,13 +134,23 @@ impl<'a, R: Net + time::Clock + Eprint> Front for SocketFront<'a, R> {
         }
     }
 
-    /// Control connections that the system refused before come first: else each descriptor that another connection gives back would
-    /// go to a further one, and no command line would be heard.
-    fn accept(&mut self) -> Arrival<SocketLink> {
+    /// Control connections that the system refused before come first, and what is kept in reserve for further ones: else each descriptor
+    /// that another connection gives back would go to a client, and no command line would be heard. The next wait is short where the call
+    /// fails, or looked for control connections.
+    fn accept(&mut self) -> Arrival<SocketLink>
+        ensures accepts { let old : FrontSeen =
+            record { script = None; told = None; counts = self.old.counters } in
+            let new : FrontSeen =
+            record { script = None; told = None; counts = self.new.counters } in
+            Accepts (⟦<SocketLink as Link>⟧.seen) old new result }
+        ensures pressed { let owes = self.old.sockets.control.asks in
+            self.new.pressed ≡ (self.old.pressed || (accept_failed result || owes)) }
+    {
         let owes = self.sockets.asks_control();
         if owes {
             self.sockets.attend_control();
         }
+        self.sockets.restock();
         let arrival = self.sockets.accept();
         let failed = has_failed(&arrival);
         self.pressed = self.pressed || failed || owes;

@@ -4,10 +4,11 @@
 //! They tell nothing: no clause says what a socket gives or takes. So each step from an answer of the system to one of a trait is
 //! a function of its own, and what it makes of that stands in `specs/`: reads, writes and waits (`Answers`), connections
 //! (`Accepting`), events and how long a wait lasts (`Events`), how a link gives way to others (`GivingWay`), what came on a control
-//! connection (`CommandLines`), and what the clock answers (`Moments`).
+//! connection (`CommandLines`), what the clock answers (`Moments`), and where it listens and sends commands (`Addresses`).
 #![tactic(auto)]
 
 mod accepting;
+mod addresses;
 mod allowance;
 mod answers;
 mod bell;
@@ -28,11 +29,12 @@ mod sockets;
 mod speaker;
 
 pub use accepting::{NoStream, none_for};
+pub use addresses::{control_address, listen_address};
 pub use answers::{got_for, lacks_room, read_some, sent_for, shut_for, woke_for, write_some};
 pub use bell::SocketBell;
-pub use clock::{SystemClock, clock_answer, moment_behind};
+pub use clock::{Start, SystemClock, clock_answer, moment_at, moment_behind, start_from};
 pub use command_lines::{Heard, Spoken, heard_in};
-pub use dial::{read_out, send_line};
+pub use dial::{exchange, read_out, send_line};
 pub use events::{Source, gives_slot, longest_wait, source_of};
 pub use front::SocketFront;
 pub use link::SocketLink;

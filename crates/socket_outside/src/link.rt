@@ -1,6 +1,6 @@
 //! A connection's way to its client over a socket.
 ghost use Rattle.std.specs.Prelude.{◌≡◌, ◌+◌, ◌≤◌, ◌++◌, length, not, true, false, None};
-ghost use Rattle.mpm_base.specs.Link.{FitsBuffer, FitsPiece, LinkSeen, OnlyFaults, Reads, Writes};
+ghost use Rattle.mpm_base.specs.Link.{Closes, FitsBuffer, FitsPiece, LinkSeen, OnlyFaults, Reads, Shuts, Writes};
 ghost use Rattle.socket_outside.specs.Answers.{leaves_some};
 ghost use Rattle.socket_outside.specs.CommandLines.{count_of_got};
 ghost use Rattle.socket_outside.specs.GivingWay.{GivesWay, TakesWay, count_of_sent};
@@ -76,6 +76,7 @@ impl SocketLink {
     /// Reads into the front of the buffer, as far as the link may give since the last wait. Where it may give no more it gives way.
     fn give(&mut self, buffer: &mut [u8]) -> Got
         ensures fits { FitsBuffer result (length buffer.new) }
+        ensures closed { self.old.socket ≡ None → result ≡ Got.Failed }
         ensures few { self.new.allowance.given + count_of_got result ≤ 65536 }
         ensures same { self.new.allowance ≡ self.old.allowance }
         ensures counts { self.new.counters ≡ self.old.counters }
@@ -95,6 +96,7 @@ impl SocketLink {
     /// Writes from the front of the piece, as far as the link may take since the last wait. Where it may take no more it gives way.
     fn take(&mut self, bytes: &[u8]) -> Sent
         ensures fits { FitsPiece result (length bytes.now) }
+        ensures closed { self.old.socket ≡ None → result ≡ Sent.Failed }
         ensures few { self.new.allowance.taken + count_of_sent result ≤ 1048576 }
         ensures same { self.new.allowance ≡ self.old.allowance }
         ensures counts { self.new.counters ≡ self.old.counters }
@@ -116,6 +118,7 @@ impl SocketLink {
     /// no more it gives way.
     fn take_pair(&mut self, first: &[u8], second: &[u8]) -> Sent
         ensures fits { FitsPiece result (length (first.now ++ second.now)) }
+        ensures closed { self.old.socket ≡ None → result ≡ Sent.Failed }
         ensures few { self.new.allowance.taken + count_of_sent result ≤ 1048576 }
         ensures same { self.new.allowance ≡ self.old.allowance }
         ensures counts { self.new.counters ≡ self.old.counters }
@@ -142,6 +145,7 @@ impl Link for SocketLink {
         ensures link { let old : LinkSeen = record { told = None; counts = self.old.counters } in
             let new : LinkSeen = record { told = None; counts = self.new.counters } in
             Reads old new result buffer.new }
+        ensures closed { self.old.socket ≡ None → result ≡ Got.Failed }
         ensures way { GivesWay self.old.allowance self.new.allowance result }
     {
         self.allowance.count_since(self.place.last_wait());
@@ -156,6 +160,7 @@ impl Link for SocketLink {
         ensures link { let old : LinkSeen = record { told = None; counts = self.old.counters } in
             let new : LinkSeen = record { told = None; counts = self.new.counters } in
             Writes old new result bytes.now }
+        ensures closed { self.old.socket ≡ None → result ≡ Sent.Failed }
         ensures room { self.new.place.lacks ≡ leaves_some result (length bytes.now) }
         ensures way { TakesWay self.old.allowance self.new.allowance result }
     {
@@ -173,6 +178,7 @@ impl Link for SocketLink {
         ensures link { let old : LinkSeen = record { told = None; counts = self.old.counters } in
             let new : LinkSeen = record { told = None; counts = self.new.counters } in
             Writes old new result (first.now ++ second.now) }
+        ensures closed { self.old.socket ≡ None → result ≡ Sent.Failed }
         ensures room { self.new.place.lacks ≡ leaves_some result (length (first.now ++ second.now)) }
         ensures way { TakesWay self.old.allowance self.new.allowance result }
     {
@@ -186,7 +192,13 @@ impl Link for SocketLink {
         sent
     }
 
-    fn shut(&mut self) -> bool {
+    /// It answers false where the link was closed.
+    fn shut(&mut self) -> bool
+        ensures link { let old : LinkSeen = record { told = None; counts = self.old.counters } in
+            let new : LinkSeen = record { told = None; counts = self.new.counters } in
+            Shuts old new result }
+        ensures closed { self.old.socket ≡ None → result ≡ false }
+    {
         let shut = match &self.socket {
             Some(socket) => shut_for(socket.shutdown(Shutdown::Write)),
             None => false,
@@ -195,8 +207,13 @@ impl Link for SocketLink {
         shut
     }
 
-    /// Gives the socket back at once.
-    fn close(&mut self) {
+    /// Gives the socket back at once. The link has none from then on.
+    fn close(&mut self)
+        ensures link { let old : LinkSeen = record { told = None; counts = self.old.counters } in
+            let new : LinkSeen = record { told = None; counts = self.new.counters } in
+            Closes old new }
+        ensures gone { self.new.socket ≡ None }
+    {
         self.socket = None;
         self.place.leave();
     }

@@ -7,6 +7,7 @@ ghost use Rattle.mpm_base.specs.Link.{OnlyFaults};
 ghost use Rattle.socket_outside.specs.AskingInside.{asks_again};
 
 use crate::accepting::{NoStream, accept_next};
+use crate::addresses::{control_address, listen_address};
 use crate::answers::woke_for;
 use crate::bell::{SharedBell, SocketBell};
 use crate::control::ControlPort;
@@ -18,7 +19,7 @@ use mio::{Events, Interest, Poll, Registry, Token, Waker};
 use mpm_base::{Addr, Arrival, Line, Link, NoMemory, Ready};
 use std::alloc::Global;
 use std::io;
-use std::net::{Ipv4Addr, Net, SocketAddr};
+use std::net::{Net, SocketAddr};
 use std::sync::Arc;
 use std::time::Duration;
 use system_outside::Operator;
@@ -91,7 +92,7 @@ impl Sockets {
         ensures asks { self.new.asks ≡ result }
     {
         self.give_up();
-        let address = SocketAddr::from((Ipv4Addr::from(listen.host), listen.port));
+        let address = listen_address(listen);
         if let Err(error) = self.begin(net) {
             operator.hear_of_fault("listen on", address, error);
             return false;
@@ -104,6 +105,7 @@ impl Sockets {
             Some(opened) => {
                 self.listener = Some(opened.listener);
                 self.control.open(opened.control);
+                self.restock();
                 self.asks = true;
                 true
             }
@@ -192,8 +194,21 @@ impl Sockets {
     }
 
     /// Whether a control connection may wait of which no event tells again.
-    pub(crate) fn asks_control(&self) -> bool {
+    pub(crate) fn asks_control(&self) -> bool
+        ensures { result ≡ self.now.control.asks }
+    {
         self.control.asks()
+    }
+
+    /// Keeps a descriptor in reserve for control connections, where there is none and the system has one to give.
+    pub(crate) fn restock(&mut self)
+        ensures others { self.new ≡ record self.old { control = self.new.control } }
+        ensures listener { self.new.control.listener ≡ self.old.control.listener }
+        ensures asks { self.new.control.asks ≡ self.old.control.asks }
+    {
+        if let Some(poll) = &self.poll {
+            self.control.restock(poll.registry());
+        }
     }
 
     /// Takes the control connections that wait, and reads on from each.
@@ -250,11 +265,13 @@ impl Sockets {
         Some(true)
     }
 
-    /// The next connection. The mark stands until none waits, and none is asked for where it doesn't stand.
+    /// The next connection. The mark stands until none waits, and none is asked for where it doesn't stand. What is kept in reserve for
+    /// control connections stays.
     pub(crate) fn accept(&mut self) -> Arrival<SocketLink>
         ensures hands { Hands (⟦<SocketLink as Link>⟧.seen) None result }
         ensures asks { self.new.asks ≡ asks_again result self.old.asks }
         ensures none { self.old.asks ≡ false → result ≡ Arrival.None }
+        ensures control { self.new.control ≡ self.old.control }
     {
         if !self.asks {
             return Arrival::None;
@@ -320,7 +337,7 @@ fn open_sockets<R: Net + Eprint>(
     let listener = listen_at(net, operator, registry, address, LISTENER)?;
     let control = match control {
         Some(port) => {
-            let address = SocketAddr::from((Ipv4Addr::LOCALHOST, port));
+            let address = control_address(port);
             Some(listen_at(net, operator, registry, address, CONTROL)?)
         }
         None => None,

@@ -80,6 +80,11 @@ script_link_after_write answer bytes link =
       writes = next_count link.writes;
     }
 
+-- the link after a watch of it failed
+abbrev pub script_link_after_failed_watch : SeenScriptLink → SeenScriptLink
+script_link_after_failed_watch link =
+    record link { counts = record link.counts { faults = next_count link.counts.faults } }
+
 -- the link after a half-close that answered this
 abbrev pub script_link_after_shut : Bool → SeenScriptLink → SeenScriptLink
 script_link_after_shut answer link =

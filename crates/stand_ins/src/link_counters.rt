@@ -82,7 +82,7 @@ impl LinkCounters {
         }
     }
 
-    /// A half-close answered this.
+    /// A half-close or a watch answered this.
     pub(crate) fn shut(&mut self, answer: bool)
         ensures is { self.new ≡ count_shut answer self.old }
         ensures only_faults { OnlyFaults (not answer) self.old self.new }

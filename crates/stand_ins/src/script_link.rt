@@ -1,9 +1,9 @@
 //! A link in memory some of whose calls fail, and whose bytes may come little by little.
 ghost use Rattle.std.specs.Prelude.{◌≡◌, ◌≤◌, true, false, Some, ◌++◌, length, is_some};
-ghost use Rattle.mpm_base.specs.Link.{Reads, Writes, Shuts, Closes, GivesNext, FitsBuffer, FitsPiece, read_failed, after_read, after_write, after_close, telling_link};
+ghost use Rattle.mpm_base.specs.Link.{Reads, Writes, Shuts, Closes, OnlyFaults, GivesNext, FitsBuffer, FitsPiece, read_failed, after_read, after_write, after_close, telling_link};
 ghost use Rattle.stand_ins.specs.Calls.{is_listed, next_is_listed};
 ghost use Rattle.stand_ins.specs.PlainLink.{buffer_after_read, read_answer};
-ghost use Rattle.stand_ins.specs.ScriptLink.{new_script_link, new_paced_link, read_may_fail, script_read_answer, script_link_after_read, TakesWholeUnless, script_link_after_write, script_link_after_shut};
+ghost use Rattle.stand_ins.specs.ScriptLink.{new_script_link, new_paced_link, read_may_fail, script_read_answer, script_link_after_read, TakesWholeUnless, script_link_after_write, script_link_after_shut, script_link_after_failed_watch};
 
 use crate::calls::Calls;
 use crate::link_counters::LinkCounters;
@@ -99,6 +99,14 @@ impl ScriptLink {
             bad_writes: fail_writes,
             drops,
         }
+    }
+
+    /// A watch of the link failed, which it counts.
+    pub fn fail_watch(&mut self)
+        ensures is { self.new ≡ script_link_after_failed_watch self.old }
+        ensures only_faults { OnlyFaults true self.old.counts self.new.counts }
+    {
+        self.counters.shut(false);
     }
 
     /// The bytes of the client that no read gave yet.

@@ -1,10 +1,11 @@
 //! The current folder as a store.
-ghost use Rattle.std.specs.Prelude.{◌≡◌, None, IfErr, OnOk, MatchResult, Ok, Err, length};
+ghost use Rattle.std.specs.Prelude.{◌≡◌, None, IfErr, IfOk, OnOk, MatchResult, Ok, Err, length};
 ghost use Rattle.std.specs.IoError.{error_kind};
+ghost use Rattle.std.specs.Fs.{IsFile, file_type, metadata_len};
 ghost use Rattle.mpm_base.specs.Count.{RisesWhere};
 ghost use Rattle.mpm_base.specs.declared.store.StoreFault.TheVariants as fault;
 ghost use Rattle.mpm_base.specs.Store.{MayRead, is_failure, is_refusal};
-ghost use Rattle.system_outside.specs.Fault.{fault_for};
+ghost use Rattle.system_outside.specs.Fault.{fault_for, size_within};
 
 use crate::fault::{check_file, fault_of};
 use crate::listing::list;
@@ -12,6 +13,7 @@ use crate::operator::Operator;
 use crate::whole_file::{Reading, read_whole};
 use mpm_base::{Names, Octets, Store, StoreFault};
 use std::alloc::Global;
+use std::fs::Metadata;
 use std::rt::Files;
 use std::{fs, io};
 
@@ -95,11 +97,7 @@ fn read_file<R: Files + Eprint>(
 ) -> Result<Octets, StoreFault>
     ensures { MayRead None most result }
 {
-    let metadata = found(operator, name, fs::metadata(rt, name))?;
-    if !metadata.is_file() {
-        operator.hear_of_fault("read", name, "not a regular file");
-    }
-    check_file(&metadata, most)?;
+    check_opening(operator, name, fs::metadata(rt, name), most)?;
     take_room(buffer)?;
     let file = found(operator, name, fs::open(rt, name))?;
     let mut reading = Reading::of(file);
@@ -108,6 +106,26 @@ fn read_file<R: Files + Eprint>(
         operator.hear_of_fault("read", name, error);
     }
     answer
+}
+
+/// Refuses to open what isn't a regular file of at most so many bytes, by what the system told of it just before. The operator hears why, but
+/// for its size.
+pub fn check_opening<R: Eprint>(
+    operator: &Operator<'_, R>,
+    name: &str,
+    told: io::Result<Metadata>,
+    most: u64,
+) -> Result<(), StoreFault>
+    ensures file { IfOk told (λ m. IsFile (file_type m)
+        → result ≡ size_within most (metadata_len m)) }
+    ensures other { IfOk told (λ m. ¬ IsFile (file_type m) → result ≡ Err fault.Missing) }
+    ensures untold { IfErr told (λ e. result ≡ Err (fault_for (error_kind e))) }
+{
+    let metadata = found(operator, name, told)?;
+    if !metadata.is_file() {
+        operator.hear_of_fault("read", name, "not a regular file");
+    }
+    check_file(&metadata, most)
 }
 
 /// What the system told of the file of that name. The operator hears of an error.

@@ -20,7 +20,7 @@ mod words;
 
 pub use entry::{EntryKind, entry_given, kind_behind, kind_in, own_kind};
 pub use fault::{check_file, fault_of};
-pub use folder::Folder;
+pub use folder::{Folder, check_opening};
 pub use listing::{fault_of_entry, fault_of_folder, list};
 pub use open_gate::OpenGate;
 pub use operator::Operator;
