@@ -10,7 +10,7 @@ use Rattle.std.proofs.lemmas.List.{length-drop}
 use Rattle.std.proofs.lemmas.List.Elements.{All-head, All-tail}
 use Rattle.std.proofs.lemmas.List.Sums.{sum_by-cons}
 use Rattle.httparse.specs.Ascii.{crlf_bytes}
-use Rattle.httparse.specs.Grammar.{print_chunk_line}
+use Rattle.httparse.specs.Grammar.{Field, print_field, print_chunk_line}
 use Rattle.httparse.specs.Spans.{name_and_value}
 use Rattle.mpm_base.specs.LetterCase.{is_same_ignoring_case}
 use Rattle.http_read.specs.declared.request.BodyKind.{BodyKind}
@@ -20,7 +20,7 @@ use Rattle.http_read.specs.FieldValues.{values_named, words_of_all, ends_in_word
 use Rattle.http_read.specs.HeadRules.{unless_refused, host_in, length_of, sized_body, coded_body, transfer_body, body_of, expects_of, said_by}
 use Rattle.http_read.specs.RequestParts.{RequestParts}
 use Rattle.http_read.specs.ChunkLines.{Chunk, IsChunk, print_chunk, print_chunks, content_len, AreChunks}
-use Rattle.http_read.specs.TrailerLines.{IsTrailer, print_trailer, print_trailers}
+use Rattle.http_read.specs.TrailerLines.{IsTrailer, print_trailers}
 use Rattle.http_read.specs.FieldLimit.{has_long_field}
 use Rattle.http_read.specs.Head.{BeginsHead}
 use Rattle.http_read.specs.BodyForm.{IsChunkedData, EndsInChunkLine, EndsInChunk, EndsInTrailer, IsBodyFront}
@@ -127,17 +127,13 @@ chunks-few (c ∷ chunks) all =
 are-few : (chunks : List Chunk) → AreChunks chunks → length (print_chunks chunks) ≤ 1102732853248
 are-few chunks are = omega (arith, chunks-few chunks are.each, are.sum)
 
--- a trailer line
-trailer-few : (text : List ℕ) → IsTrailer text → length (print_trailer text) ≤ 8190
-trailer-few text is = omega (arith, is.short, length-append text (10 ∷ []))
-
 -- trailer lines
-trailers-few : (texts : List (List ℕ)) → All IsTrailer texts → length (print_trailers texts) ≤ 8190 * length texts
+trailers-few : (fields : List Field) → All IsTrailer fields → length (print_trailers fields) ≤ 8190 * length fields
 trailers-few [] all = omega arith
-trailers-few (text ∷ texts) all =
-    let first = trailer-few text (All-head IsTrailer text texts all) in
-    let others = trailers-few texts (All-tail IsTrailer text texts all) in
-    let joined = length-append (print_trailer text) (print_trailers texts) in
+trailers-few (f ∷ fields) all =
+    let first : length (print_field f) ≤ 8190 = (All-head IsTrailer f fields all).short in
+    let others = trailers-few fields (All-tail IsTrailer f fields all) in
+    let joined = length-append (print_field f) (print_trailers fields) in
     omega (arith, first, others, joined)
 
 -- the chunks and the line of the last one

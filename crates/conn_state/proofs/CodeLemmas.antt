@@ -8,8 +8,9 @@ use Rattle.mpm_base.specs.LetterCase.{is_same_ignoring_case}
 use Rattle.http_read.specs.declared.request.BodyKind.{BodyKind}
 use Rattle.http_read.specs.declared.request.BodyKind.TheVariants as kind
 use Rattle.http_read.specs.declared.request.Limits.{Limits}
+use Rattle.http_read.specs.Authority.{is_host_value}
 use Rattle.http_read.specs.FieldValues.{values_named, words_of_all, ends_in_word}
-use Rattle.http_read.specs.HeadRules.{unless_refused, is_authority_byte, host_in, length_of, sized_body, coded_body, transfer_body, body_of, has_content, expectation, expects_of, said_by}
+use Rattle.http_read.specs.HeadRules.{unless_refused, host_in, length_of, sized_body, coded_body, transfer_body, body_of, has_content, expectation, expects_of, said_by}
 use Rattle.http_read.specs.FieldLimit.{has_long_field}
 use Rattle.http_read.specs.Head.{IsRefusal}
 use Rattle.http_read.specs.BodyForm.{BreaksBody, BreaksChunked}
@@ -33,7 +34,7 @@ next-code (Err code) next first later = first
 -- Host
 host-code : (minor : ℕ) (values : List (List ℕ)) → HasCode (host_in minor values)
 host-code minor [] = either-code (minor == 1) (Err 400) (Ok []) refl tt
-host-code minor (value ∷ []) = either-code (list_all is_authority_byte value) (Ok value) (Err 400) tt refl
+host-code minor (value ∷ []) = either-code (is_host_value value) (Ok value) (Err 400) tt refl
 host-code minor (value ∷ (other ∷ values)) = refl
 
 -- Content-Length
@@ -92,17 +93,19 @@ is-code code other is listed = ap refuses_head is ∙ listed
 head-code : (limits : Limits) (bytes : List ℕ) (code : ℕ) → IsRefusal limits bytes code → refuses_head code ≡ true
 head-code limits bytes code (inl long) = is-code code 414 long.1 refl
 head-code limits bytes code (inr (inl large)) = is-code code 400 large.1 refl
-head-code limits bytes code (inr (inr (inl none))) = is-code code 400 none.1 refl
-head-code limits bytes code (inr (inr (inr refused))) =
+head-code limits bytes code (inr (inr (inl other))) = is-code code 505 other.1 refl
+head-code limits bytes code (inr (inr (inr (inl none)))) = is-code code 400 none.1 refl
+head-code limits bytes code (inr (inr (inr (inr refused)))) =
     subst HasCode refused.says
     (said-code (has_long_field limits refused.field_lines) refused.head.method refused.head.target refused.head.minor (map name_and_value refused.head.fields))
 
 -- a chunked body is refused by one of them
 chunked-code : (bytes : List ℕ) (code : ℕ) → BreaksChunked bytes code → refuses_head code ≡ true
 chunked-code bytes code (inl b) = is-code code 400 b.code_is refl
-chunked-code bytes code (inr (inl b)) = is-code code 413 b.code_is refl
-chunked-code bytes code (inr (inr (inl b))) = is-code code 400 b.code_is refl
-chunked-code bytes code (inr (inr (inr b))) = is-code code 400 b.code_is refl
+chunked-code bytes code (inr (inl b)) = is-code code 400 b.code_is refl
+chunked-code bytes code (inr (inr (inl b))) = is-code code 413 b.code_is refl
+chunked-code bytes code (inr (inr (inr (inl b)))) = is-code code 400 b.code_is refl
+chunked-code bytes code (inr (inr (inr (inr b)))) = is-code code 400 b.code_is refl
 
 -- a body is refused by one of them
 body_breaks-code : (of : BodyKind) (bytes : List ℕ) (code : ℕ) → BreaksBody of bytes code → refuses_head code ≡ true

@@ -17,6 +17,7 @@ number_of code.UriTooLong = 414
 number_of code.RangeNotSatisfiable = 416
 number_of code.ExpectationFailed = 417
 number_of code.NotImplemented = 501
+number_of code.HttpVersionNotSupported = 505
 
 -- the reason of a code
 abbrev pub reason_of : Code → List ℕ
@@ -31,6 +32,7 @@ reason_of code.UriTooLong = codes "URI Too Long"
 reason_of code.RangeNotSatisfiable = codes "Range Not Satisfiable"
 reason_of code.ExpectationFailed = codes "Expectation Failed"
 reason_of code.NotImplemented = codes "Not Implemented"
+reason_of code.HttpVersionNotSupported = codes "HTTP Version Not Supported"
 
 -- a code as it stands in the first line of a response: its number and its reason (RFC 9112, section 4)
 abbrev pub code_text : Code → List ℕ
@@ -38,7 +40,7 @@ code_text c = decimal (number_of c) ++ codes " " ++ reason_of c
 
 -- the number of a code by which a head is refused
 abbrev pub refuses_head : ℕ → Bool
-refuses_head number = number == 400 || number == 413 || number == 414 || number == 417 || number == 501
+refuses_head number = number == 400 || number == 413 || number == 414 || number == 417 || number == 501 || number == 505
 
 -- the response that tells a client to send its body (RFC 9110, section 15.2.1)
 abbrev pub continue_text : List ℕ

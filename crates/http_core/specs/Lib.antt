@@ -6,3 +6,4 @@ pub mod Reply
 pub mod Served
 pub mod StatusPage
 pub mod Target
+pub mod Location

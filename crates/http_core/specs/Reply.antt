@@ -40,9 +40,9 @@ allow_line (served.Part part) = []
 allow_line (served.Unsatisfied size) = []
 allow_line (served.Moved path) = []
 
--- the path to ask for
+-- what to ask for instead
 abbrev pub location_line : Served → List ℕ
-location_line (served.Moved path) = head_line_of (codes "Location: " ++ path)
+location_line (served.Moved location) = head_line_of (codes "Location: " ++ location)
 location_line served.Options = []
 location_line (served.Refused reason) = []
 location_line (served.Page auto) = []

@@ -7,6 +7,7 @@ use Rattle.file_table.specs.Resource.{resource_of}
 use Rattle.file_table.specs.Site.{SeenSite}
 use Rattle.file_table.specs.declared.found.Found.{Found}
 use Rattle.file_table.specs.declared.found.Found.TheVariants as resource
+use Rattle.http_core.specs.Location.{location_of}
 use Rattle.http_core.specs.Range.{range_in_value, selection_of}
 use Rattle.http_core.specs.StatusPage.{asks_for_text, is_status_path}
 use Rattle.http_core.specs.Target.{path_of}
@@ -76,19 +77,19 @@ abbrev pub range_for : Bool → ℕ → Option (List ℕ) → Option Range
 range_for get size None = None
 range_for get size (Some text) = if not get || size == 0 then None else range_in_value text
 
--- what a resource serves to GET, or else to HEAD
-abbrev pub served_of : SeenSite → Bool → Option (List ℕ) → Found → Served
-served_of site get range resource.BadPath = served.Refused code.BadRequest
-served_of site get range (resource.Redirect path) = served.Moved path
-served_of site get range resource.Missing = served.Refused code.NotFound
-served_of site get range (resource.File place) = served_range place (size_at site place) (range_for get (size_at site place) range)
+-- what the resource of a target serves to GET, or else to HEAD
+abbrev pub served_of : SeenSite → Bool → Option (List ℕ) → List ℕ → Found → Served
+served_of site get range target resource.BadPath = served.Refused code.BadRequest
+served_of site get range target (resource.Redirect path) = served.Moved (location_of target path)
+served_of site get range target resource.Missing = served.Refused code.NotFound
+served_of site get range target (resource.File place) = served_range place (size_at site place) (range_for get (size_at site place) range)
 
 -- what a target serves to GET, or else to HEAD: the status page, where its path is that, for which no range counts; or what it
 -- names in the site
 abbrev pub served_at : SeenSite → Bool → Option (List ℕ) → List ℕ → Served
 served_at site get range target =
     if is_status_path (path_of target) then served.Page (asks_for_text target)
-    else served_of site get range (resource_of_target site target)
+    else served_of site get range target (resource_of_target site target)
 
 -- what a request is served
 abbrev pub served_to : SeenSite → RequestParts → Served

@@ -1,10 +1,9 @@
 -- The status page: where it stands, and which of its two texts a target asks for.
 use Rattle.std.specs.Prelude.{ℕ, Bool, false, List, [], codes, Option, Some, None, if◌then◌else◌}
-use Rattle.std.specs.List.{after_first}
 use Rattle.std.specs.Str.{bytes_eq}
 use Rattle.mpm_base.specs.declared.note.Snapshot.{Snapshot}
 use Rattle.scoreboard.specs.Page.{text_page, html_page}
-use Rattle.http_core.specs.Target.{begins_query}
+use Rattle.http_core.specs.Target.{query_of}
 
 -- the path of the status page
 abbrev pub status_path : List ℕ
@@ -14,10 +13,6 @@ status_path = codes "/server-status"
 abbrev pub is_status_path : Option (List ℕ) → Bool
 is_status_path None = false
 is_status_path (Some path) = bytes_eq path status_path
-
--- the query of a target: all that stands behind its first question mark; nothing where there is none
-abbrev pub query_of : List ℕ → List ℕ
-query_of target = after_first begins_query target
 
 -- the target asks for the plain text: its query is exactly `auto`; every other one, or none, asks for HTML
 abbrev pub asks_for_text : List ℕ → Bool

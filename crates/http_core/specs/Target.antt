@@ -1,7 +1,8 @@
 -- The target of a request (RFC 9112, section 3.2).
-use Rattle.std.specs.Prelude.{ℕ, ◌==◌, ◌||◌, Bool, List, [], ◌∷◌, length, take, drop, codes, Option, Some, None, slice_index, if◌then◌else◌}
-use Rattle.std.specs.List.{before_first, list_any}
+use Rattle.std.specs.Prelude.{ℕ, ◌==◌, Bool, List, [], ◌∷◌, length, take, drop, codes, Option, Some, None, slice_index, if◌then◌else◌}
+use Rattle.std.specs.List.{after_first, before_first, list_any}
 use Rattle.mpm_base.specs.LetterCase.{is_same_ignoring_case}
+use Rattle.http_read.specs.Authority.{is_authority}
 
 -- the byte that begins a query
 abbrev pub begins_query : ℕ → Bool
@@ -15,7 +16,7 @@ before_query target = before_first begins_query target
 abbrev pub begins_path : ℕ → Bool
 begins_path b = b == 47
 
--- the byte that begins a fragment
+-- the byte that begins a fragment, which no target has
 abbrev pub begins_fragment : ℕ → Bool
 begins_fragment b = b == 35
 
@@ -31,14 +32,18 @@ path_or_root path = if length path == 0 then 47 ∷ [] else path
 abbrev pub authority_of : List ℕ → List ℕ
 authority_of text = before_first begins_path text
 
--- the path behind an authority, which isn't empty and has no fragment
+-- the path behind an authority, which is a host with or without a port (RFC 9110, section 4.2.1)
 abbrev pub path_behind : List ℕ → Option (List ℕ)
 path_behind text =
-    if length (authority_of text) == 0 || list_any begins_fragment (authority_of text) then None
-    else Some (path_or_root (drop (length (authority_of text)) text))
+    if is_authority (authority_of text) then Some (path_or_root (drop (length (authority_of text)) text)) else None
 
--- the path of a target in origin form or in absolute form; another one has none
-abbrev pub path_of : List ℕ → Option (List ℕ)
+-- the path of a target in origin form or in absolute form; another one, and one with a fragment, has none
+unfoldable pub path_of : List ℕ → Option (List ℕ)
 path_of target =
-    if begins_path (slice_index target 0) then Some (before_query target)
-    else (if has_scheme target then path_behind (before_query (drop 7 target)) else None)
+    if list_any begins_fragment target then None
+    else (if begins_path (slice_index target 0) then Some (before_query target)
+    else (if has_scheme target then path_behind (before_query (drop 7 target)) else None))
+
+-- the query of a target: all that stands behind its first question mark; nothing where there is none
+abbrev pub query_of : List ℕ → List ℕ
+query_of target = after_first begins_query target

@@ -28,6 +28,8 @@ pub enum Code {
     ExpectationFailed,
     /// Section 15.6.2.
     NotImplemented,
+    /// Section 15.6.6.
+    HttpVersionNotSupported,
 }
 
 impl Code {
@@ -47,6 +49,7 @@ impl Code {
             Code::RangeNotSatisfiable => 416,
             Code::ExpectationFailed => 417,
             Code::NotImplemented => 501,
+            Code::HttpVersionNotSupported => 505,
         }
     }
 
@@ -66,6 +69,7 @@ impl Code {
             Code::RangeNotSatisfiable => b"416 Range Not Satisfiable",
             Code::ExpectationFailed => b"417 Expectation Failed",
             Code::NotImplemented => b"501 Not Implemented",
+            Code::HttpVersionNotSupported => b"505 HTTP Version Not Supported",
         }
     }
 }
@@ -81,6 +85,7 @@ pub fn refusal_code(number: u16) -> Code
         414 => Code::UriTooLong,
         417 => Code::ExpectationFailed,
         501 => Code::NotImplemented,
+        505 => Code::HttpVersionNotSupported,
         _ => unreachable!(),
     }
 }

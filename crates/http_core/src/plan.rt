@@ -27,7 +27,7 @@ pub enum Served {
     Part(FilePart),
     /// A range that a file of so many bytes hasn't (section 15.5.17).
     Unsatisfied(u64),
-    /// The path of the folder (section 15.4.2).
+    /// What to ask for instead: the path of the folder, with the query (section 15.4.2).
     Moved(Octets),
     /// The methods that are served (section 9.3.7).
     Options,

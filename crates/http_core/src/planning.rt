@@ -9,6 +9,7 @@ ghost use Rattle.http_core.specs.RangeInside.{HasSmallBound, IsPartWithin};
 ghost use Rattle.http_core.specs.Served.{is_disallowed, is_get, is_head, is_options, options_of, range_for, served_range, resource_at, resource_of_target, served_at, served_of, served_to, size_at};
 
 use crate::code::Code;
+use crate::location::location_of;
 use crate::plan::{FilePart, Plan, Served};
 use crate::range::{Range, Selection, range_of, selection_of};
 use crate::status_page::{asks_for_text, is_status_path};
@@ -76,19 +77,26 @@ fn size_at(site: &Site, place: u32) -> u64
     bytes(site, place).len() as u64
 }
 
-/// What the resource serves to GET, or else to HEAD.
-fn served_of(site: &Site, get: bool, range: Option<&[u8]>, found: Found) -> Served
+/// What the resource of the target serves to GET, or else to HEAD.
+fn served_of(
+    site: &Site,
+    get: bool,
+    range: Option<&[u8]>,
+    target: &[u8],
+    found: Found,
+) -> Result<Served, NoMemory>
     requires { IsFoundIn site.now found }
-    ensures value { result ≡ served_of site.now get (option_map (λ t. t.now) range.entry) found }
-    ensures of { IsServedOf site.now result }
+    ensures value { IfOk result (λ served. served
+        ≡ served_of site.now get (option_map (λ t. t.now) range.entry) target.now found) }
+    ensures of { IfOk result (IsServedOf site.now) }
 {
     match found {
-        Found::BadPath => Served::Refused(Code::BadRequest),
-        Found::Redirect(path) => Served::Moved(path),
-        Found::Missing => Served::Refused(Code::NotFound),
+        Found::BadPath => Ok(Served::Refused(Code::BadRequest)),
+        Found::Redirect(path) => Ok(Served::Moved(location_of(target, path)?)),
+        Found::Missing => Ok(Served::Refused(Code::NotFound)),
         Found::File(place) => {
             let size = size_at(site, place);
-            ranged(place, size, range_for(get, size, range))
+            Ok(ranged(place, size, range_for(get, size, range)))
         }
     }
 }
@@ -101,6 +109,27 @@ fn options_of(found: Found) -> Served
         Found::BadPath => Served::Refused(Code::BadRequest),
         _ => Served::Options,
     }
+}
+
+/// Whether the method is GET.
+fn is_get(method: &[u8]) -> bool
+    ensures { result ≡ is_get method.now }
+{
+    method == b"GET".as_slice()
+}
+
+/// Whether the method is HEAD.
+fn is_head(method: &[u8]) -> bool
+    ensures { result ≡ is_head method.now }
+{
+    method == b"HEAD".as_slice()
+}
+
+/// Whether the method is OPTIONS.
+fn is_options(method: &[u8]) -> bool
+    ensures { result ≡ is_options method.now }
+{
+    method == b"OPTIONS".as_slice()
 }
 
 /// Whether the method is known and not allowed.
@@ -125,7 +154,7 @@ fn served_at(alloc: Global, site: &Site, request: &Request, get: bool) -> Result
         return Ok(Served::Page(asks_for_text(target)));
     }
     let found = resource_at(alloc, site, path)?;
-    Ok(served_of(site, get, request.range(), found))
+    served_of(site, get, request.range(), target, found)
 }
 
 /// What is served to OPTIONS.
@@ -147,20 +176,17 @@ fn served_to(alloc: Global, site: &Site, request: &Request) -> Result<Served, No
     ensures value { IfOk result (λ served. served ≡ served_to site.now request.now) }
     ensures of { IfOk result (IsServedOf site.now) }
 {
-    match request.method() {
-        b"GET" => served_at(alloc, site, request, true),
-        b"HEAD" => served_at(alloc, site, request, false),
-        b"OPTIONS" => serve_options(alloc, site, request.target()),
-        method if is_disallowed(method) => Ok(Served::Refused(Code::MethodNotAllowed)),
-        _ => Ok(Served::Refused(Code::NotImplemented)),
+    let method = request.method();
+    let get = is_get(method);
+    if get || is_head(method) {
+        served_at(alloc, site, request, get)
+    } else if is_options(method) {
+        serve_options(alloc, site, request.target())
+    } else if is_disallowed(method) {
+        Ok(Served::Refused(Code::MethodNotAllowed))
+    } else {
+        Ok(Served::Refused(Code::NotImplemented))
     }
-}
-
-/// Whether the method is HEAD.
-fn is_head(method: &[u8]) -> bool
-    ensures { result ≡ is_head method.now }
-{
-    matches!(method, b"HEAD")
 }
 
 /// What a request asks for, and the plan of its response. NoMemory where memory lacks for its path.

@@ -3,7 +3,7 @@ ghost use Rattle.std.specs.Prelude.{◌≡◌, IfSome};
 ghost use Rattle.http_core.specs.Range.{range_between, range_in_value, range_of_bytes, selection_of};
 ghost use Rattle.http_core.specs.RangeInside.{HasSmallBound, IsWithinSize};
 
-use crate::target::place_of_byte;
+use http_read::place_of_byte;
 use mpm_base::{is_same_ignoring_case, number_in_digits};
 
 /// The most digits of a position.

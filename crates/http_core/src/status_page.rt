@@ -2,7 +2,7 @@
 ghost use Rattle.std.specs.Prelude.{◌≡◌, IfOk, option_map};
 ghost use Rattle.http_core.specs.StatusPage as spec;
 
-use crate::target::after_byte;
+use crate::target::query_of;
 use mpm_base::{NoMemory, Octets, Page};
 use scoreboard::{page_auto, page_html};
 use std::alloc::Global;
@@ -21,7 +21,7 @@ pub fn is_status_path(path: Option<&[u8]>) -> bool
 pub fn asks_for_text(target: &[u8]) -> bool
     ensures { result ≡ spec.asks_for_text target.now }
 {
-    after_byte(target, b'?') == b"auto".as_slice()
+    query_of(target) == b"auto".as_slice()
 }
 
 /// The media type of the page.

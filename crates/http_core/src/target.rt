@@ -1,33 +1,20 @@
 //! The path of a target.
-ghost use Rattle.std.specs.Prelude.{◌≡◌, ◌==◌, position, slice_index, option_map};
-ghost use Rattle.std.specs.List.{after_first, before_first, list_any, position_or_len};
-ghost use Rattle.http_core.specs.Target.{begins_fragment, begins_path, has_scheme, path_behind, path_of, path_or_root};
+ghost use Rattle.std.specs.Prelude.{◌≡◌, ◌==◌, slice_index, option_map};
+ghost use Rattle.std.specs.List.{after_first, before_first, list_any};
+ghost use Rattle.http_core.specs.Target.{begins_fragment, begins_path, begins_query, has_scheme, path_behind, path_of, path_or_root, query_of};
 
+use http_read::{is_authority, place_of_byte};
 use mpm_base::is_same_ignoring_case;
 
-/// The place of the first such byte, where there is one.
-fn find_byte(text: &[u8], byte: u8) -> Option<usize>
-    ensures { result ≡ position (λ b. b == byte) text.now }
-{
-    text.iter().position(|b| *b == byte)
-}
-
-/// The place of the first such byte, or the length where there is none.
-pub fn place_of_byte(text: &[u8], byte: u8) -> usize
-    ensures { result ≡ position_or_len (λ b. b == byte) text.now }
-{
-    find_byte(text, byte).unwrap_or(text.len())
-}
-
 /// What stands before the first such byte.
-pub fn before_byte(text: &[u8], byte: u8) -> &[u8]
+fn before_byte(text: &[u8], byte: u8) -> &[u8]
     ensures { result.now ≡ before_first (λ b. b == byte) text.now }
 {
     text.split_at(place_of_byte(text, byte)).0
 }
 
 /// What stands behind the first such byte; nothing where there is none.
-pub fn after_byte(text: &[u8], byte: u8) -> &[u8]
+fn after_byte(text: &[u8], byte: u8) -> &[u8]
     ensures { result.now ≡ after_first (λ b. b == byte) text.now }
 {
     let place = place_of_byte(text, byte);
@@ -71,16 +58,21 @@ fn path_behind(text: &[u8]) -> Option<&[u8]>
     ensures { option_map (λ path. path.now) result ≡ path_behind text.now }
 {
     let authority = before_byte(text, b'/');
-    if authority.is_empty() || has_fragment(authority) {
+    if !is_authority(authority) {
         return None;
     }
     Some(path_or_root(&text[authority.len()..]))
 }
 
-/// The path of a target in origin form or in absolute form (RFC 9112, section 3.2), without its query.
+/// The path of a target in origin form or in absolute form (RFC 9112, section 3.2), without its query. One with a fragment has
+/// none.
+#[tactic(auto, unfolding(crate::specs::Target::path_of))]
 pub fn path_of(target: &[u8]) -> Option<&[u8]>
     ensures { option_map (λ path. path.now) result ≡ path_of target.now }
 {
+    if has_fragment(target) {
+        return None;
+    }
     if begins_path(target) {
         return Some(before_byte(target, b'?'));
     }
@@ -88,4 +80,18 @@ pub fn path_of(target: &[u8]) -> Option<&[u8]>
         return path_behind(before_byte(&target[7..], b'?'));
     }
     None
+}
+
+/// Whether a query begins in the target.
+pub fn has_query(target: &[u8]) -> bool
+    ensures { result ≡ list_any begins_query target.now }
+{
+    target.iter().any(|b| *b == b'?')
+}
+
+/// What stands behind the first question mark; nothing where there is none.
+pub fn query_of(target: &[u8]) -> &[u8]
+    ensures { result.now ≡ query_of target.now }
+{
+    after_byte(target, b'?')
 }

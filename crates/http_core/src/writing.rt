@@ -27,7 +27,7 @@ const TEXT: &[u8] = b"Content-Type: text/plain\r\n";
 /// How much room the head takes.
 fn room_of(served: &Served) -> usize {
     match served {
-        Served::Moved(path) => USUAL_ROOM.saturating_add(path.len()),
+        Served::Moved(location) => USUAL_ROOM.saturating_add(location.len()),
         _ => USUAL_ROOM,
     }
 }
@@ -73,12 +73,12 @@ fn add_allow(head: &mut Octets, served: &Served) -> Result<(), NoMemory>
     }
 }
 
-/// Adds the line of the path to ask for.
+/// Adds the line of what to ask for instead.
 fn add_location(head: &mut Octets, served: &Served) -> Result<(), NoMemory>
     ensures { OnOk result (head.new ≡ head.old ++ spec.location_line served.now) }
 {
     match served {
-        Served::Moved(path) => add_line(head, b"Location: ", path.as_slice()),
+        Served::Moved(location) => add_line(head, b"Location: ", location.as_slice()),
         _ => Ok(()),
     }
 }

@@ -4,12 +4,14 @@ use Rattle.std.proofs.lemmas.List.{append-nil, take-append-le, length-replicate}
 use Rattle.std.specs.Prelude.{All, replicate}
 use Rattle.httparse.specs.Grammar.{print_chunk_line, HasNoChunkLine}
 use Rattle.httparse.proofs.PieceLemmas.{front-append}
+use Rattle.http_read.specs.declared.trailer_line.TrailerFront.{TrailerFront}
+use Rattle.http_read.specs.declared.chunked.ChunkTotals.{ChunkTotals}
 use Rattle.http_read.specs.declared.chunked.ChunkedPlace.{ChunkedPlace}
-use Rattle.http_read.specs.declared.chunked.ChunkedPlace.TheVariants.{Line, Data, DataLineFeed, Trailer, LastLineFeed}
+use Rattle.http_read.specs.declared.chunked.ChunkedPlace.TheVariants.{Line, Data, DataLineFeed, Trailer}
 use Rattle.http_read.specs.declared.chunked.ChunkedMove.{ChunkedMove}
 use Rattle.http_read.specs.declared.chunked.ChunkedMove.TheVariants.{On, Done, Bad}
 use Rattle.http_read.specs.ChunkLines.{IsChunk, Chunk, BreaksChunkLine, print_chunks}
-use Rattle.http_read.specs.TrailerLines.{HasNoLineFeed, IsTrailer, AreTrailers, IsTrailerTooLong, print_trailers}
+use Rattle.http_read.specs.TrailerLines.{HasNoLineFeed, IsTrailer, AreTrailers, IsTrailerTooLong, HasNoTrailer, print_trailers}
 use Rattle.http_read.specs.BodyForm.{IsChunkedBody, BreaksChunked, IsChunkedFront}
 use Rattle.http_read.specs.BodyPlaces.{StandsInData, StandsInTrailers, StandsInChunked, chunked_begun_len}
 use Rattle.http_read.specs.ChunkStepsInside.{chunked_step, Outcome, Open, Ended, Breaks, run, run_on}
@@ -26,6 +28,16 @@ trailer_too_long_more : (rest more : List ℕ) → IsTrailerTooLong rest → IsT
 trailer_too_long_more rest more h = record {
   long = omega (arith, length-append rest more, h.long);
   one_line = subst HasNoLineFeed (sym (take-append-le 8190 rest more h.long)) h.one_line;
+}
+
+no_trailer_more : (rest more : List ℕ) → HasNoTrailer rest → HasNoTrailer (rest ++ more)
+no_trailer_more rest more h = record {
+  line = h.line;
+  behind = h.behind ++ more;
+  begun = h.begun;
+  no_field = h.no_field;
+  no_end = h.no_end;
+  bytes_are = ap (λ t. t ++ more) h.bytes_are ∙ append_assoc h.line (10 ∷ h.behind) more;
 }
 
 behind_two : (t more first second rest : List ℕ) → t ≡ first ++ (second ++ rest) → t ++ more ≡ first ++ (second ++ (rest ++ more))
@@ -54,6 +66,17 @@ breaks_more t more code (inr (inl h)) = inr (inl (record {
 }))
 breaks_more t more code (inr (inr (inl h))) = inr (inr (inl (record {
   chunks = h.chunks;
+  line = h.line;
+  rest = h.rest ++ more;
+  are_chunks = h.are_chunks;
+  is_line = h.is_line;
+  extensions = h.extensions;
+  above = h.above;
+  printed = behind_two t more (print_chunks h.chunks) (print_chunk_line h.line) h.rest h.printed;
+  code_is = h.code_is;
+})))
+breaks_more t more code (inr (inr (inr (inl h)))) = inr (inr (inr (inl (record {
+  chunks = h.chunks;
   chunk = h.chunk;
   rest = h.rest ++ more;
   are_chunks = h.are_chunks;
@@ -61,8 +84,8 @@ breaks_more t more code (inr (inr (inl h))) = inr (inr (inl (record {
   printed = behind_two t more (print_chunks h.chunks) (print_chunk_line h.chunk.line) (h.chunk.content ++ h.rest) h.printed
       ∙ ap (λ xs. print_chunks h.chunks ++ (print_chunk_line h.chunk.line ++ xs)) (append_assoc h.chunk.content h.rest more);
   code_is = h.code_is;
-})))
-breaks_more t more code (inr (inr (inr h))) = inr (inr (inr (record {
+}))))
+breaks_more t more code (inr (inr (inr (inr h)))) = inr (inr (inr (inr (record {
   before = h.before;
   trailers = h.trailers;
   rest = h.rest ++ more;
@@ -70,11 +93,12 @@ breaks_more t more code (inr (inr (inr h))) = inr (inr (inr (record {
   breaks = trailer_breaks h.breaks;
   printed = behind_two t more h.before (print_trailers h.trailers) h.rest h.printed;
   code_is = h.code_is;
-})))
+}))))
   where
-    trailer_breaks : ((AreTrailers h.trailers × IsTrailerTooLong h.rest) ⊎ ((length h.trailers ≡ 101) × All IsTrailer h.trailers))
-        → (AreTrailers h.trailers × IsTrailerTooLong (h.rest ++ more)) ⊎ ((length h.trailers ≡ 101) × All IsTrailer h.trailers)
-    trailer_breaks (inl (are, long)) = inl (are, trailer_too_long_more h.rest more long)
+    trailer_breaks : ((AreTrailers h.trailers × (IsTrailerTooLong h.rest ⊎ HasNoTrailer h.rest)) ⊎ ((length h.trailers ≡ 101) × All IsTrailer h.trailers))
+        → (AreTrailers h.trailers × (IsTrailerTooLong (h.rest ++ more) ⊎ HasNoTrailer (h.rest ++ more))) ⊎ ((length h.trailers ≡ 101) × All IsTrailer h.trailers)
+    trailer_breaks (inl (are, inl long)) = inl (are, inl (trailer_too_long_more h.rest more long))
+    trailer_breaks (inl (are, inr none)) = inl (are, inr (no_trailer_more h.rest more none))
     trailer_breaks (inr many) = inr many
 
 -- ---- what bytes make of the body
@@ -117,25 +141,25 @@ pub record EndsInLine (t : List ℕ) (n : ℕ) : Type 0 where
 nothing_begun : (t : List ℕ) → IsChunkedFront t [] → EndsInLine t 0
 nothing_begun t front = record { line = []; before = t; front = front; len = refl; split = sym (append-nil t) }
 
-in_trailer : (t : List ℕ) (count n : ℕ) (line : List ℕ) (h : StandsInTrailers t count line) → length line ≡ n → EndsInLine t n
-in_trailer t count n line h len = record {
-  line = line;
+in_trailer : (t : List ℕ) (count : ℕ) (f : TrailerFront) (h : StandsInTrailers t count f) → EndsInLine t f.len
+in_trailer t count f h = record {
+  line = h.line;
   before = h.before ++ print_trailers h.trailers;
   front = inr (inr (record {
     before = h.before;
     trailers = h.trailers;
     is_data = h.is_data;
     are_trailers = h.are_trailers;
-    begun = h.begun;
+    begun = h.front.begun;
     printed = h.printed;
   }));
-  len = len;
-  split = h.printed ∙ sym (append_assoc h.before (print_trailers h.trailers) line);
+  len = sym h.front.len;
+  split = h.printed ∙ sym (append_assoc h.before (print_trailers h.trailers) h.line);
 }
 
-in_data : (t : List ℕ) (sum left : ℕ) → StandsInData t sum left → IsChunkedFront t []
-in_data t sum left h =
-    let filler = replicate left 0 in
+in_data : (t : List ℕ) (totals : ChunkTotals) (left : ℕ) → StandsInData t totals left → IsChunkedFront t []
+in_data t totals left h =
+    let filler : List ℕ = replicate left 0 in
     let len : length (h.here ++ filler) ≡ length h.here + left = length-append h.here filler ∙ ap (λ n. length h.here + n) (length-replicate left 0) in
     let c : Chunk = record { line = h.line; content = h.here ++ filler } in
     let is_chunk : IsChunk c = record { line = h.is_line; size = omega (arith, len, h.size); some = omega (arith, len, h.size, h.some) } in
@@ -145,7 +169,7 @@ in_data t sum left h =
         chunk = c;
         here = h.here;
         missing = filler ++ (13 ∷ 10 ∷ []);
-        are_chunks = chunks_push h.chunks c h.are_chunks is_chunk (omega (arith, len, h.size, h.sum_is, h.fits));
+        are_chunks = chunks_push h.chunks c h.are_chunks is_chunk (omega (arith, len, h.size, h.content_is, h.content_fits)) (omega (arith, h.extensions_is, h.extensions_fit));
         whole = append_assoc h.here filler (13 ∷ 10 ∷ []);
         some = omega (arith, length-append filler (13 ∷ 10 ∷ []));
         printed = h.printed;
@@ -154,15 +178,15 @@ in_data t sum left h =
     ))
 
 pub stands_in_line : (t : List ℕ) (p : ChunkedPlace) → StandsInChunked t p → EndsInLine t (chunked_begun_len p)
-stands_in_line t (Line sum f) h = record {
+stands_in_line t (Line totals f) h = record {
   line = h.line;
   before = print_chunks h.chunks;
   front = inl (record { chunks = h.chunks; are_chunks = h.are_chunks; begun = front_begun h.line f h.front; printed = h.printed });
   len = sym h.front.len;
   split = h.printed;
 }
-stands_in_line t (Data sum left) h = nothing_begun t (in_data t sum left h)
-stands_in_line t (DataLineFeed sum) h = nothing_begun t (inr (inl (
+stands_in_line t (Data totals left) h = nothing_begun t (in_data t totals left h)
+stands_in_line t (DataLineFeed totals) h = nothing_begun t (inr (inl (
   record {
     chunks = h.chunks;
     chunk = h.chunk;
@@ -175,5 +199,4 @@ stands_in_line t (DataLineFeed sum) h = nothing_begun t (inr (inl (
   },
   refl,
 )))
-stands_in_line t (Trailer count len) (line, h, len_is, no_cr) = in_trailer t count len line h len_is
-stands_in_line t (LastLineFeed count) h = in_trailer t count 1 (13 ∷ []) h refl
+stands_in_line t (Trailer count f) h = in_trailer t count f h

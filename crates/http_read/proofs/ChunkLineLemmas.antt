@@ -2,6 +2,7 @@
 use Rattle.std.proofs.Common.{◌≡◌, ◌≢◌, ℕ, ◌+◌, ◌*◌, ◌<◌, ◌≤◌, inl, inr, Bool, true, false, List, [], ◌∷◌, ◌++◌, length, refl, sym, ap, ◌∙◌, subst, arith, append_assoc, Option, Some, None, length-append}
 use Rattle.std.specs.Prelude.{if◌then◌else◌, ◌==◌, ◌||◌, nat_lt}
 use Rattle.std.specs.Char.{is_ascii_hexdigit, digit_value}
+use Rattle.std.specs.Str.Parse.{digits_value}
 use Rattle.std.proofs.lemmas.Bool.Decides.{nat_tests}
 use Rattle.std.proofs.lemmas.List.{append-nil, take_all}
 use Rattle.std.proofs.lemmas.List.Elements.{All-push, All-nil, All-head}
@@ -15,7 +16,7 @@ use Rattle.http_read.specs.declared.chunk_line.ChunkLinePart.TheVariants.{Digits
 use Rattle.http_read.specs.declared.chunk_line.ChunkLineFront.{ChunkLineFront}
 use Rattle.http_read.specs.declared.chunk_line.ChunkLineMove.{ChunkLineMove}
 use Rattle.http_read.specs.declared.chunk_line.ChunkLineMove.TheVariants.{Front, Whole, Broken}
-use Rattle.http_read.specs.ChunkLines.{IsShortLine, IsChunkLineBegun, BreaksChunkLine}
+use Rattle.http_read.specs.ChunkLines.{IsShortLine, extension_len, IsChunkLineBegun, BreaksChunkLine}
 use Rattle.http_read.specs.BodyPlaces.{IsSizeBefore, EndsInPart, IsChunkLineFront}
 use Rattle.http_read.specs.ChunkStepsInside.{longer, pad_step, digit_step, extension_step, part_step, line_step}
 
@@ -57,8 +58,8 @@ open_then size s tail more t e is_extension ends some =
     record { more = more; line = line_of t.digits t.pad e; some = some; reads = reads_then size s tail more t e is_extension ends }
 
 -- digits alone, some of them
-size_alone : (s : List ℕ) (size : ℕ) → 0 < length s → EndsInPart Digits s size → IsSizeBefore size s []
-size_alone s size some (few, each, value) = record {
+size_alone : (s : List ℕ) (size : ℕ) → 0 < length s → length s ≤ 16 → AllPass is_ascii_hexdigit s → size ≡ digits_value 16 s → IsSizeBefore size s []
+size_alone s size some few each value = record {
   digits = s;
   pad = [];
   writes = record { some = some; few = few; each = each; value = value };
@@ -66,15 +67,15 @@ size_alone s size some (few, each, value) = record {
   printed = sym (append-nil s);
 }
 
-front_open : (part : ChunkLinePart) (s : List ℕ) (size : ℕ) → EndsInPart part s size → IsOpenFront s
+front_open : (part : ChunkLinePart) (s : List ℕ) (size extension : ℕ) → EndsInPart part s size extension → IsOpenFront s
 unfolding size_alone
-front_open Digits [] size h =
-    let zero_digit : IsSizeBefore 0 (48 ∷ []) [] = size_alone (48 ∷ []) 0 (omega arith) (omega arith, All-push (λ b. is_ascii_hexdigit b ≡ true) [] 48 (All-nil _) refl, refl) in
+front_open Digits [] size extension h =
+    let zero_digit : IsSizeBefore 0 (48 ∷ []) [] = size_alone (48 ∷ []) 0 (omega arith) (omega arith) (All-push (λ b. is_ascii_hexdigit b ≡ true) [] 48 (All-nil _) refl) refl in
     record { more = 48 ∷ 13 ∷ 10 ∷ []; line = line_of (48 ∷ []) [] None; some = omega arith; reads = reads_then 0 (48 ∷ []) [] (13 ∷ 10 ∷ []) zero_digit None tt refl }
-front_open Digits (b ∷ s) size h = open_then size (b ∷ s) [] (13 ∷ 10 ∷ []) (size_alone (b ∷ s) size (omega arith) h) None tt refl (omega arith)
-front_open Pad s size h = open_then size s [] (13 ∷ 10 ∷ []) h.0 None tt refl (omega arith)
-front_open InExtension s size (text, passes, t) = open_then size s (59 ∷ text) (13 ∷ 10 ∷ []) t (Some text) passes refl (omega arith)
-front_open CarriageReturn s size (e, is_extension, t) =
+front_open Digits (b ∷ s) size extension h = open_then size (b ∷ s) [] (13 ∷ 10 ∷ []) (size_alone (b ∷ s) size (omega arith) h.0 h.1 h.2) None tt refl (omega arith)
+front_open Pad s size extension h = open_then size s [] (13 ∷ 10 ∷ []) h.0 None tt refl (omega arith)
+front_open InExtension s size extension (text, passes, t, count) = open_then size s (59 ∷ text) (13 ∷ 10 ∷ []) t (Some text) passes refl (omega arith)
+front_open CarriageReturn s size extension (e, is_extension, t, count) =
     open_then size s (print_extension e ++ 13 ∷ []) (10 ∷ []) t e is_extension (append_assoc (print_extension e) (13 ∷ []) (10 ∷ [])) (omega arith)
 
 open_no_line : (s : List ℕ) → IsOpenFront s → HasNoChunkLine s
@@ -85,7 +86,7 @@ open_no_line s o k rest x =
 -- the front of a chunk line is one that isn't whole
 pub front_begun : (s : List ℕ) (f : ChunkLineFront) → IsChunkLineFront s f → IsChunkLineBegun s
 front_begun s f h =
-    let o = front_open f.part s f.size h.ends in
+    let o = front_open f.part s f.size f.extension h.ends in
     record { unfinished = (o.more, o.line, o.reads); no_line = open_no_line s o; short = h.short }
 
 -- ---- a byte more
@@ -93,15 +94,15 @@ front_begun s f h =
 -- what a move means of the bytes up to it
 abbrev pub LineMeans : List ℕ → ChunkLineMove → Type 0
 LineMeans t (Front f) = IsChunkLineFront t f
-LineMeans t (Whole size) = (l : ChunkLine) × IsShortLine l × (chunk_size l ≡ size) × (t ≡ print_chunk_line l)
+LineMeans t (Whole size extension) = (l : ChunkLine) × IsShortLine l × (chunk_size l ≡ size) × (extension_len l ≡ extension) × (t ≡ print_chunk_line l)
 LineMeans t Broken = BreaksChunkLine t
 
-longer_means : (t : List ℕ) (f : ChunkLineFront) (size : ℕ) (part : ChunkLinePart) → f.len + 1 ≡ length t
-    → length t ≤ 1024 → EndsInPart part t size → LineMeans t (longer f size part)
-longer_means t f size part len most ends =
+longer_means : (t : List ℕ) (f : ChunkLineFront) (size extension : ℕ) (part : ChunkLinePart) → f.len + 1 ≡ length t
+    → length t ≤ 1024 → EndsInPart part t size extension → LineMeans t (longer f size extension part)
+longer_means t f size extension part len most ends =
     on_test (LineMeans t) (nat_lt (f.len + 1) 1024) _ _
     (λ below. record { len = len; short = grind (arith, nat_tests); ends = ends })
-    (λ above. inr (grind (arith, nat_tests), subst HasNoChunkLine (sym (take_all 1024 t most)) (open_no_line t (front_open part t size ends))))
+    (λ above. inr (grind (arith, nat_tests), subst HasNoChunkLine (sym (take_all 1024 t most)) (open_no_line t (front_open part t size extension ends))))
 
 length_more : (s : List ℕ) (b n : ℕ) → n ≡ length s → n + 1 ≡ length (s ++ b ∷ [])
 length_more s b n e = omega (arith, length-append s (b ∷ []))
@@ -115,7 +116,7 @@ then_push size s tail b t = record {
   printed = ap (λ xs. xs ++ b ∷ []) t.printed ∙ append_assoc t.digits (t.pad ++ tail) (b ∷ []) ∙ ap (λ xs. t.digits ++ xs) (append_assoc t.pad tail (b ∷ []));
 }
 
-pad_push : (size : ℕ) (s : List ℕ) (b : ℕ) → is_ows b ≡ true → IsSizeBefore size s [] → EndsInPart Pad (s ++ b ∷ []) size
+pad_push : (size : ℕ) (s : List ℕ) (b : ℕ) → is_ows b ≡ true → IsSizeBefore size s [] → EndsInPart Pad (s ++ b ∷ []) size 0
 pad_push size s b ows t = (
   record {
     digits = t.digits;
@@ -125,6 +126,7 @@ pad_push size s b ows t = (
     printed = ap (λ xs. xs ++ b ∷ []) (t.printed ∙ ap (λ xs. t.digits ++ xs) (append-nil t.pad)) ∙ append_assoc t.digits t.pad (b ∷ []) ∙ ap (λ xs. t.digits ++ xs) (sym (append-nil (t.pad ++ b ∷ [])));
   },
   omega (arith, length-append t.pad (b ∷ [])),
+  refl,
 )
 
 -- a line that begins so has the same digits and padding
@@ -230,63 +232,65 @@ module _ (s : List ℕ) (f : ChunkLineFront) (b : ℕ) (len_is : f.len ≡ lengt
   most : length (s ++ b ∷ []) ≤ 1024
   most = omega (arith, length-append s (b ∷ []))
 
-  longer_front : (size : ℕ) (part : ChunkLinePart) → EndsInPart part (s ++ b ∷ []) size → LineMeans (s ++ b ∷ []) (longer f size part)
-  longer_front size part = longer_means (s ++ b ∷ []) f size part (length_more s b f.len len_is) most
+  longer_front : (size extension : ℕ) (part : ChunkLinePart) → EndsInPart part (s ++ b ∷ []) size extension → LineMeans (s ++ b ∷ []) (longer f size extension part)
+  longer_front size extension part = longer_means (s ++ b ∷ []) f size extension part (length_more s b f.len len_is) most
 
   pad_means : (t : IsSizeBefore f.size s []) → (t.pad ≡ [] → is_ascii_hexdigit b ≡ false) → LineMeans (s ++ b ∷ []) (pad_step f b)
   pad_means t stops =
       on_test (LineMeans (s ++ b ∷ [])) (b == 32 || b == 9) _ _
-      (λ ows. longer_front f.size Pad (pad_push f.size s b ows t))
+      (λ ows. longer_front f.size 0 Pad (pad_push f.size s b ows t))
       (λ no_pad. on_test (LineMeans (s ++ b ∷ [])) (b == 59) _ _
-      (λ is. longer_front f.size InExtension ([], All-nil (λ c. is_extension_byte c ≡ true), subst (λ c. IsSizeBefore f.size (s ++ b ∷ []) (c ∷ [])) (grind (arith, nat_tests)) (then_push f.size s [] b t)))
+      (λ is. longer_front f.size 1 InExtension ([], All-nil (λ c. is_extension_byte c ≡ true), subst (λ c. IsSizeBefore f.size (s ++ b ∷ []) (c ∷ [])) (grind (arith, nat_tests)) (then_push f.size s [] b t), refl))
       (λ no_semicolon. on_test (LineMeans (s ++ b ∷ [])) (b == 13) _ _
-      (λ is. longer_front f.size CarriageReturn (None, tt, subst (λ c. IsSizeBefore f.size (s ++ b ∷ []) (c ∷ [])) (grind (arith, nat_tests)) (then_push f.size s [] b t)))
+      (λ is. longer_front f.size 0 CarriageReturn (None, tt, subst (λ c. IsSizeBefore f.size (s ++ b ∷ []) (c ∷ [])) (grind (arith, nat_tests)) (then_push f.size s [] b t), refl))
       (λ no_cr. inl (never_behind_pad f.size s b t stops no_pad (grind (arith, nat_tests)) (grind (arith, nat_tests))))))
 
-  digits_mean : EndsInPart Digits s f.size → LineMeans (s ++ b ∷ []) (digit_step f b)
-  digits_mean (few, each, value) =
+  digits_mean : EndsInPart Digits s f.size f.extension → LineMeans (s ++ b ∷ []) (digit_step f b)
+  digits_mean (few, each, value, none) =
       on_test (LineMeans (s ++ b ∷ [])) (is_ascii_hexdigit b) _ _
       (λ digit. on_test (LineMeans (s ++ b ∷ [])) (nat_lt f.len 16) _ _
-      (λ fits. longer_front (f.size * 16 + digit_value b) Digits (
+      (λ fits. longer_front (f.size * 16 + digit_value b) 0 Digits (
         grind (arith, nat_tests, length_more s b f.len len_is),
         All-push (λ c. is_ascii_hexdigit c ≡ true) s b each digit,
         ap (λ n. n * 16 + digit_value b) value ∙ sym (digits_value_after_push 16 0 s b),
+        refl,
       ))
       (λ full. inl (never_long s b (grind (arith, nat_tests)) few each digit)))
       (λ no_digit. on_test (LineMeans (s ++ b ∷ [])) (f.len == 0) _ _
       (λ none. inl (subst (λ xs. NeverHasChunkLine (xs ++ b ∷ [])) (sym (no_bytes s (grind (arith, nat_tests)))) (never_empty b no_digit)))
-      (λ some. pad_means (size_alone s f.size (grind (arith, nat_tests)) (few, each, value)) (λ _. no_digit)))
+      (λ some. pad_means (size_alone s f.size (grind (arith, nat_tests)) few each value) (λ _. no_digit)))
     where
       no_bytes : (xs : List ℕ) → length xs ≡ 0 → xs ≡ []
       no_bytes [] e = refl
       no_bytes (x ∷ xs) e = absurd (omega arith)
 
-  extension_means : EndsInPart InExtension s f.size → LineMeans (s ++ b ∷ []) (extension_step f b)
-  extension_means (text, passes, t) =
+  extension_means : EndsInPart InExtension s f.size f.extension → LineMeans (s ++ b ∷ []) (extension_step f b)
+  extension_means (text, passes, t, count) =
       on_test (LineMeans (s ++ b ∷ [])) (b == 13) _ _
-      (λ cr. longer_front f.size CarriageReturn (Some text, passes, subst (λ c. IsSizeBefore f.size (s ++ b ∷ []) ((59 ∷ text) ++ c ∷ [])) (grind (arith, nat_tests)) (then_push f.size s (59 ∷ text) b t)))
+      (λ cr. longer_front f.size f.extension CarriageReturn (Some text, passes, subst (λ c. IsSizeBefore f.size (s ++ b ∷ []) ((59 ∷ text) ++ c ∷ [])) (grind (arith, nat_tests)) (then_push f.size s (59 ∷ text) b t), count))
       (λ no_cr. on_test (LineMeans (s ++ b ∷ [])) (b == 10) _ _
       (λ lf. inl (subst (λ c. NeverHasChunkLine (s ++ c ∷ [])) (grind (arith, nat_tests)) (never_in_extension f.size s text passes t)))
-      (λ no_lf. longer_front f.size InExtension (
+      (λ no_lf. longer_front f.size (f.extension + 1) InExtension (
         text ++ b ∷ [],
         All-push (λ c. is_extension_byte c ≡ true) text b passes (grind (arith, nat_tests)),
         then_push f.size s (59 ∷ text) b t,
+        omega (arith, count, length-append text (b ∷ [])),
       )))
 
-  whole_line : EndsInPart CarriageReturn s f.size → LineMeans (s ++ 10 ∷ []) (Whole f.size)
-  whole_line (e, is_extension, t) =
+  whole_line : EndsInPart CarriageReturn s f.size f.extension → LineMeans (s ++ 10 ∷ []) (Whole f.size f.extension)
+  whole_line (e, is_extension, t, count) =
       let reads = reads_then f.size s (print_extension e ++ 13 ∷ []) (10 ∷ []) t e is_extension (append_assoc (print_extension e) (13 ∷ []) (10 ∷ [])) in
       let l = line_of t.digits t.pad e in
       let printed : s ++ 10 ∷ [] ≡ print_chunk_line l = reads.1 ∙ append-nil (print_chunk_line l) in
-      (l, record { line = reads.0; short = omega (arith, length-append s (10 ∷ []), ap length printed) }, sym t.writes.value, printed)
+      (l, record { line = reads.0; short = omega (arith, length-append s (10 ∷ []), ap length printed) }, sym t.writes.value, sym count, printed)
 
-  end_means : EndsInPart CarriageReturn s f.size → LineMeans (s ++ b ∷ []) (if b == 10 then Whole f.size else Broken)
+  end_means : EndsInPart CarriageReturn s f.size f.extension → LineMeans (s ++ b ∷ []) (if b == 10 then Whole f.size f.extension else Broken)
   end_means ends =
       on_test (LineMeans (s ++ b ∷ [])) (b == 10) _ _
-      (λ lf. subst (λ c. LineMeans (s ++ c ∷ []) (Whole f.size)) (grind (arith, nat_tests)) (whole_line ends))
+      (λ lf. subst (λ c. LineMeans (s ++ c ∷ []) (Whole f.size f.extension)) (grind (arith, nat_tests)) (whole_line ends))
       (λ no_lf. inl (never_behind_cr f.size s ends.0 b ends.1 ends.2 (grind (arith, nat_tests))))
 
-  part_means : (part : ChunkLinePart) → EndsInPart part s f.size → LineMeans (s ++ b ∷ []) (part_step part f b)
+  part_means : (part : ChunkLinePart) → EndsInPart part s f.size f.extension → LineMeans (s ++ b ∷ []) (part_step part f b)
   part_means Digits ends = digits_mean ends
   part_means Pad ends = pad_means ends.0 (some_pad ends.0 ends.1)
     where

@@ -9,22 +9,23 @@ use Rattle.httparse.proofs.ChunkLemmas.{chunk_line_unique}
 use Rattle.http_read.specs.declared.chunk_line.ChunkLineFront.{ChunkLineFront}
 use Rattle.http_read.specs.declared.chunk_line.ChunkLineMove.{ChunkLineMove}
 use Rattle.http_read.specs.declared.chunk_line.ChunkLineMove.TheVariants.{Front, Whole, Broken}
+use Rattle.http_read.specs.declared.chunked.ChunkTotals.{ChunkTotals}
 use Rattle.http_read.specs.declared.chunked.ChunkedPlace.TheVariants.{Line}
-use Rattle.http_read.specs.ChunkLines.{IsShortLine, IsChunkLineBegun, BreaksChunkLine}
+use Rattle.http_read.specs.ChunkLines.{IsShortLine, extension_len, IsChunkLineBegun, BreaksChunkLine}
 use Rattle.http_read.specs.BodyPlaces.{IsChunkLineFront}
-use Rattle.http_read.specs.ChunkStepsInside.{Outcome, Open, Breaks, first_front, line_step, behind_line, run, run_on}
+use Rattle.http_read.specs.ChunkStepsInside.{Outcome, Open, Breaks, first_front, line_step, behind_whole, behind_line, run, run_on}
 use Rattle.http_read.proofs.ChunkLineLemmas.{LineMeans, line_means, front_begun}
 use Rattle.http_read.proofs.BodyFormLemmas.{line_breaks_more}
 
 -- what bytes make of a chunk line: it stays a front, or it is whole before the rest, or no line
 pub data LineOutcome : Type 0 where
   Still : ChunkLineFront → LineOutcome
-  Found : ℕ → List ℕ → LineOutcome
+  Found : ℕ → ℕ → List ℕ → LineOutcome
   Lost : LineOutcome
 
 abbrev pub then_line : (ChunkLineFront → LineOutcome) → ChunkLineMove → List ℕ → LineOutcome
 then_line further (Front f) rest = further f
-then_line further (Whole size) rest = Found size rest
+then_line further (Whole size extension) rest = Found size extension rest
 then_line further Broken rest = Lost
 
 abbrev pub line_run : List ℕ → ChunkLineFront → LineOutcome
@@ -32,40 +33,40 @@ line_run [] f = Still f
 line_run (b ∷ bytes) f = then_line (λ g. line_run bytes g) (line_step f b) bytes
 
 -- what becomes of the body
-abbrev pub body_of_line : ℕ → LineOutcome → Outcome
-body_of_line sum (Still f) = Open (Line sum f)
-body_of_line sum (Found size rest) = run_on (behind_line sum (Whole size)) rest
-body_of_line sum Lost = Breaks 400
+abbrev pub body_of_line : ChunkTotals → LineOutcome → Outcome
+body_of_line totals (Still f) = Open (Line totals f)
+body_of_line totals (Found size extension rest) = run_on (behind_whole totals size extension) rest
+body_of_line totals Lost = Breaks 400
 
-after_line_move : (sum : ℕ) (bytes : List ℕ) (m : ChunkLineMove)
-    → ((g : ChunkLineFront) → run bytes (Line sum g) ≡ body_of_line sum (line_run bytes g))
-    → run_on (behind_line sum m) bytes ≡ body_of_line sum (then_line (λ g. line_run bytes g) m bytes)
-after_line_move sum bytes (Front g) further = further g
-after_line_move sum bytes (Whole size) further = refl
-after_line_move sum bytes Broken further = refl
+after_line_move : (totals : ChunkTotals) (bytes : List ℕ) (m : ChunkLineMove)
+    → ((g : ChunkLineFront) → run bytes (Line totals g) ≡ body_of_line totals (line_run bytes g))
+    → run_on (behind_line totals m) bytes ≡ body_of_line totals (then_line (λ g. line_run bytes g) m bytes)
+after_line_move totals bytes (Front g) further = further g
+after_line_move totals bytes (Whole size extension) further = refl
+after_line_move totals bytes Broken further = refl
 
-pub run_line : (bytes : List ℕ) (sum : ℕ) (f : ChunkLineFront) → run bytes (Line sum f) ≡ body_of_line sum (line_run bytes f)
-run_line [] sum f = refl
-run_line (b ∷ bytes) sum f = after_line_move sum bytes (line_step f b) (λ g. run_line bytes sum g)
+pub run_line : (bytes : List ℕ) (totals : ChunkTotals) (f : ChunkLineFront) → run bytes (Line totals f) ≡ body_of_line totals (line_run bytes f)
+run_line [] totals f = refl
+run_line (b ∷ bytes) totals f = after_line_move totals bytes (line_step f b) (λ g. run_line bytes totals g)
 
 -- ---- what the outcome means
 
 abbrev LineOutcomeMeans : List ℕ → List ℕ → LineOutcome → Type 0
 LineOutcomeMeans s bytes (Still f) = IsChunkLineFront (s ++ bytes) f
-LineOutcomeMeans s bytes (Found size rest) = (here : List ℕ) × (l : ChunkLine) × (bytes ≡ here ++ rest) × IsShortLine l × (chunk_size l ≡ size) × (s ++ here ≡ print_chunk_line l)
+LineOutcomeMeans s bytes (Found size extension rest) = (here : List ℕ) × (l : ChunkLine) × (bytes ≡ here ++ rest) × IsShortLine l × (chunk_size l ≡ size) × (extension_len l ≡ extension) × (s ++ here ≡ print_chunk_line l)
 LineOutcomeMeans s bytes Lost = BreaksChunkLine (s ++ bytes)
 
 after_line_byte : (s : List ℕ) (b : ℕ) (bytes : List ℕ) (o : LineOutcome) → LineOutcomeMeans (s ++ b ∷ []) bytes o → LineOutcomeMeans s (b ∷ bytes) o
 after_line_byte s b bytes (Still f) h = subst (λ xs. IsChunkLineFront xs f) (append_assoc s (b ∷ []) bytes) h
-after_line_byte s b bytes (Found size rest) (here, l, split, is_line, size_is, printed) =
-    (b ∷ here, l, ap (λ xs. b ∷ xs) split, is_line, size_is, sym (append_assoc s (b ∷ []) here) ∙ printed)
+after_line_byte s b bytes (Found size extension rest) (here, l, split, is_line, size_is, extension_is, printed) =
+    (b ∷ here, l, ap (λ xs. b ∷ xs) split, is_line, size_is, extension_is, sym (append_assoc s (b ∷ []) here) ∙ printed)
 after_line_byte s b bytes Lost h = subst BreaksChunkLine (append_assoc s (b ∷ []) bytes) h
 
 after_line_means : (s : List ℕ) (b : ℕ) (bytes : List ℕ) (m : ChunkLineMove) → LineMeans (s ++ b ∷ []) m
     → ((g : ChunkLineFront) → IsChunkLineFront (s ++ b ∷ []) g → LineOutcomeMeans (s ++ b ∷ []) bytes (line_run bytes g))
     → LineOutcomeMeans s (b ∷ bytes) (then_line (λ g. line_run bytes g) m bytes)
 after_line_means s b bytes (Front g) h further = after_line_byte s b bytes (line_run bytes g) (further g h)
-after_line_means s b bytes (Whole size) (l, is_line, size_is, printed) further = (b ∷ [], l, refl, is_line, size_is, printed)
+after_line_means s b bytes (Whole size extension) (l, is_line, size_is, extension_is, printed) further = (b ∷ [], l, refl, is_line, size_is, extension_is, printed)
 after_line_means s b bytes Broken h further = subst BreaksChunkLine (append_assoc s (b ∷ []) bytes) (line_breaks_more (s ++ b ∷ []) bytes h)
 
 line_run_means : (bytes s : List ℕ) (f : ChunkLineFront) → IsChunkLineFront s f → LineOutcomeMeans s bytes (line_run bytes f)
@@ -74,7 +75,7 @@ line_run_means (b ∷ bytes) s f h =
     after_line_means s b bytes (line_step f b) (line_means s f b h) (λ g front. line_run_means bytes (s ++ b ∷ []) g front)
 
 first_is_front : IsChunkLineFront [] first_front
-first_is_front = record { len = refl; short = omega arith; ends = (omega arith, All-nil (λ b. is_ascii_hexdigit b ≡ true), refl) }
+first_is_front = record { len = refl; short = omega arith; ends = (omega arith, All-nil (λ b. is_ascii_hexdigit b ≡ true), refl, refl) }
 
 line_outcome : (bytes : List ℕ) → LineOutcomeMeans [] bytes (line_run bytes first_front)
 line_outcome bytes = line_run_means bytes [] first_front first_is_front
@@ -100,15 +101,16 @@ breaks_no_line bytes rest l is_line printed (inr (long, none)) =
         ap (λ zs. x ∷ zs) (take_over n xs ys (omega arith)) ∙ ap (λ k. x ∷ xs ++ take k ys) (omega arith)
 
 pub found_line : (bytes rest : List ℕ) (l : ChunkLine) → IsShortLine l → bytes ≡ print_chunk_line l ++ rest
-    → line_run bytes first_front ≡ Found (chunk_size l) rest
+    → line_run bytes first_front ≡ Found (chunk_size l) (extension_len l) rest
 found_line bytes rest l is_line printed = found (line_run bytes first_front) (line_outcome bytes)
   where
-    found : (o : LineOutcome) → LineOutcomeMeans [] bytes o → o ≡ Found (chunk_size l) rest
+    found : (o : LineOutcome) → LineOutcomeMeans [] bytes o → o ≡ Found (chunk_size l) (extension_len l) rest
     found (Still f) h = absurd ((front_begun bytes f h).no_line l rest (reads_short bytes rest l is_line printed))
-    found (Found size left) (here, k, split, is_other, size_is, other) =
+    found (Found size extension left) (here, k, split, is_other, size_is, extension_is, other) =
         let same = chunk_line_unique bytes l k rest left (reads_short bytes rest l is_line printed)
         (reads_short bytes left k is_other (split ∙ ap (λ xs. xs ++ left) other)) in
         let sizes : chunk_size l ≡ size = ap chunk_size same.0 ∙ size_is in
+        let extensions : extension_len l ≡ extension = ap extension_len same.0 ∙ extension_is in
         let rests : rest ≡ left = same.1 in
         cc
     found Lost h = absurd (breaks_no_line bytes rest l is_line printed h)
@@ -118,7 +120,7 @@ still_line bytes begun = still (line_run bytes first_front) refl (line_outcome b
   where
     still : (o : LineOutcome) → line_run bytes first_front ≡ o → LineOutcomeMeans [] bytes o → (f : ChunkLineFront) × (line_run bytes first_front ≡ Still f) × (f.len ≡ length bytes)
     still (Still f) e h = (f, e, h.len)
-    still (Found size left) e (here, k, split, is_other, size_is, other) =
+    still (Found size extension left) e (here, k, split, is_other, size_is, extension_is, other) =
         absurd (begun.no_line k left (reads_short bytes left k is_other (split ∙ ap (λ xs. xs ++ left) other)))
     still Lost e (inl never) =
         let (more, l, reads) = begun.unfinished in
@@ -133,6 +135,6 @@ lost_line bytes breaks = lost (line_run bytes first_front) (line_outcome bytes) 
         let (more, l, reads) = (front_begun bytes f h).unfinished in
         absurd (never more l [] reads)
     lost (Still f) h (inr (long, none)) = absurd (omega (arith, h.short))
-    lost (Found size left) (here, k, split, is_other, size_is, other) b =
+    lost (Found size extension left) (here, k, split, is_other, size_is, extension_is, other) b =
         absurd (breaks_no_line bytes left k is_other (split ∙ ap (λ xs. xs ++ left) other) b)
     lost Lost h b = refl

@@ -1,215 +1,224 @@
 -- What the bytes of chunks and of trailer lines make of a chunked body.
-use Rattle.std.proofs.Common.{◌≡◌, ◌≢◌, ℕ, ◌+◌, ◌-◌, ◌<◌, ◌≤◌, inl, inr, List, [], ◌∷◌, ◌++◌, length, refl, ap, ◌∙◌, arith, append_assoc, length-append}
-use Rattle.std.specs.Prelude.{All, if◌then◌else◌, ◌==◌}
+use Rattle.std.proofs.Common.{◌≡◌, ◌≢◌, ℕ, ◌+◌, ◌-◌, ◌<◌, ◌≤◌, inl, inr, List, [], ◌∷◌, ◌++◌, length, refl, sym, ap, ◌∙◌, subst, arith, append_assoc, length-append}
+use Rattle.std.specs.Prelude.{All}
 use Rattle.std.proofs.lemmas.Bool.{cases_lt}
 use Rattle.std.proofs.lemmas.Bool.Decides.{nat_tests}
+use Rattle.std.proofs.lemmas.List.{append-nil}
 use Rattle.std.proofs.lemmas.List.Elements.{All-head, All-tail}
 use Rattle.std.proofs.lemmas.List.Sums.{sum_by-cons}
 use Rattle.std.proofs.Math.Seq.{drop-append_seam}
 use Rattle.std.proofs.Math.Nat.{sub_self}
-use Rattle.httparse.specs.Grammar.{LineEnd, crlf, lf, print_end, ChunkLine, print_chunk_line, chunk_size}
-use Rattle.http_read.specs.declared.chunk_line.ChunkLineMove.TheVariants.{Whole}
-use Rattle.http_read.specs.declared.chunked.ChunkedPlace.{ChunkedPlace}
-use Rattle.http_read.specs.declared.chunked.ChunkedPlace.TheVariants.{Line, Data, Trailer, LastLineFeed}
+use Rattle.httparse.specs.Grammar.{LineEnd, print_end, Field, print_field, ChunkLine, print_chunk_line, chunk_size}
+use Rattle.http_read.specs.declared.trailer_line.TrailerFront.{TrailerFront}
+use Rattle.http_read.specs.declared.trailer_line.TrailerMove.TheVariants.{Field as IsWholeField}
+use Rattle.http_read.specs.declared.chunked.ChunkTotals.{ChunkTotals}
+use Rattle.http_read.specs.declared.chunked.ChunkedPlace.TheVariants.{Line, Data, Trailer}
 use Rattle.http_read.specs.declared.chunked.ChunkedMove.TheVariants.{On, Bad}
-use Rattle.http_read.specs.ChunkLines.{IsShortLine, Chunk, IsChunk, print_chunk, print_chunks, content_len, AreChunks}
-use Rattle.http_read.specs.TrailerLines.{HasNoLineFeed, IsTrailer, print_trailer, print_trailers, AreTrailers}
+use Rattle.http_read.specs.ChunkLines.{IsShortLine, Chunk, IsChunk, print_chunk, print_chunks, content_len, extension_len, extensions_len, AreChunks}
+use Rattle.http_read.specs.TrailerLines.{HasNoLineFeed, IsTrailer, print_trailers, AreTrailers, IsTrailerBegun, HasNoTrailer}
 use Rattle.http_read.specs.BodyForm.{IsChunkedData}
-use Rattle.http_read.specs.BodyPlaces.{chunked_begun_len}
-use Rattle.http_read.specs.ChunkStepsInside.{Breaks, Ended, first_front, first_place, behind_line, behind_trailer, trailer_step, chunked_step, run, run_on}
+use Rattle.http_read.specs.BodyPlaces.{IsTrailerFront}
+use Rattle.http_read.specs.ChunkStepsInside.{Breaks, Ended, first_front, first_place, first_trailer, no_totals, behind_whole, behind_trailer, trailer_step, run, run_on}
 use Rattle.http_read.proofs.ChunkStepLemmas.{run_data}
-use Rattle.http_read.proofs.ChunkLineLemmas.{on_test}
 use Rattle.http_read.proofs.ChunkLineRuns.{body_of_line, run_line, found_line}
+use Rattle.http_read.proofs.TrailerLemmas.{trailer_means, first_is_trailer, goes_on, full_step, text_of_field, field_move, empty_move, broken_move, cr_begun}
 
 -- ---- chunks
 
 -- a chunk line
-pub run_whole_line : (l : ChunkLine) (sum : ℕ) (rest : List ℕ) → IsShortLine l
-    → run (print_chunk_line l ++ rest) (Line sum first_front) ≡ run_on (behind_line sum (Whole (chunk_size l))) rest
-run_whole_line l sum rest is_line =
-    run_line (print_chunk_line l ++ rest) sum first_front
-    ∙ ap (body_of_line sum) (found_line (print_chunk_line l ++ rest) rest l is_line refl)
+pub run_whole_line : (l : ChunkLine) (totals : ChunkTotals) (rest : List ℕ) → IsShortLine l
+    → run (print_chunk_line l ++ rest) (Line totals first_front) ≡ run_on (behind_whole totals (chunk_size l) (extension_len l)) rest
+run_whole_line l totals rest is_line =
+    run_line (print_chunk_line l ++ rest) totals first_front
+    ∙ ap (body_of_line totals) (found_line (print_chunk_line l ++ rest) rest l is_line refl)
 
-line_within : (sum size : ℕ) → 0 < size → sum + size ≤ 1073741824 → behind_line sum (Whole size) ≡ On (Data (sum + size) size)
-line_within sum size some fits = grind (arith, nat_tests)
+-- what the chunks have with one more
+abbrev pub with_chunk : ChunkTotals → ℕ → ℕ → ChunkTotals
+with_chunk totals size extension = record { content = totals.content + size; extensions = totals.extensions + extension }
 
-pub line_above : (sum size : ℕ) → sum ≤ 1073741824 → 1073741824 < sum + size → behind_line sum (Whole size) ≡ Bad 413
-line_above sum size within above = grind (arith, nat_tests)
+-- both totals stay within their limits
+abbrev pub FitsMore : ChunkTotals → ℕ → ℕ → Type 0
+FitsMore totals size extension = (totals.content + size ≤ 1073741824) × (totals.extensions + extension ≤ 16384)
+
+line_within : (totals : ChunkTotals) (size extension : ℕ) → 0 < size → FitsMore totals size extension → behind_whole totals size extension ≡ On (Data (with_chunk totals size extension) size)
+line_within totals size extension some fits = grind (arith, nat_tests, fits.0, fits.1)
+
+pub line_above : (totals : ChunkTotals) (size extension : ℕ) → totals.content ≤ 1073741824 → totals.extensions + extension ≤ 16384 → 1073741824 < totals.content + size → behind_whole totals size extension ≡ Bad 413
+line_above totals size extension within few above = grind (arith, nat_tests)
+
+pub line_beyond : (totals : ChunkTotals) (size extension : ℕ) → totals.extensions ≤ 16384 → 16384 < totals.extensions + extension → behind_whole totals size extension ≡ Bad 400
+line_beyond totals size extension within above = grind (arith, nat_tests)
 
 -- the line of a chunk
-pub run_chunk_line : (l : ChunkLine) (sum : ℕ) (rest : List ℕ) → IsShortLine l → 0 < chunk_size l → sum + chunk_size l ≤ 1073741824
-    → run (print_chunk_line l ++ rest) (Line sum first_front) ≡ run rest (Data (sum + chunk_size l) (chunk_size l))
-run_chunk_line l sum rest is_line some fits =
-    run_whole_line l sum rest is_line ∙ ap (λ m. run_on m rest) (line_within sum (chunk_size l) some fits)
+pub run_chunk_line : (l : ChunkLine) (totals : ChunkTotals) (rest : List ℕ) → IsShortLine l → 0 < chunk_size l → FitsMore totals (chunk_size l) (extension_len l)
+    → run (print_chunk_line l ++ rest) (Line totals first_front) ≡ run rest (Data (with_chunk totals (chunk_size l) (extension_len l)) (chunk_size l))
+run_chunk_line l totals rest is_line some fits =
+    run_whole_line l totals rest is_line ∙ ap (λ m. run_on m rest) (line_within totals (chunk_size l) (extension_len l) some fits)
 
 -- the data of a chunk
-pub run_content : (content rest : List ℕ) (sum : ℕ) → run (content ++ rest) (Data sum (length content)) ≡ run rest (Data sum 0)
-run_content content rest sum =
-    run_data (content ++ rest) (length content) sum (length content) (omega (arith, length-append content rest)) (omega arith)
-    ∙ ap (λ xs. run xs (Data sum (length content - length content))) (drop-append_seam content rest)
-    ∙ ap (λ n. run rest (Data sum n)) (sub_self (length content))
+pub run_content : (content rest : List ℕ) (totals : ChunkTotals) → run (content ++ rest) (Data totals (length content)) ≡ run rest (Data totals 0)
+run_content content rest totals =
+    run_data (content ++ rest) (length content) totals (length content) (omega (arith, length-append content rest)) (omega arith)
+    ∙ ap (λ xs. run xs (Data totals (length content - length content))) (drop-append_seam content rest)
+    ∙ ap (λ n. run rest (Data totals n)) (sub_self (length content))
 
 -- the line and the data of a chunk
-pub run_to_end : (c : Chunk) (sum : ℕ) (rest : List ℕ) → IsChunk c → sum + length c.content ≤ 1073741824
-    → run (print_chunk_line c.line ++ (c.content ++ rest)) (Line sum first_front) ≡ run rest (Data (sum + length c.content) 0)
-run_to_end c sum rest is fits =
-    run_chunk_line c.line sum (c.content ++ rest) is.line (omega (arith, is.size, is.some)) (omega (arith, is.size))
-    ∙ ap (λ n. run (c.content ++ rest) (Data (sum + n) n)) is.size
-    ∙ run_content c.content rest (sum + length c.content)
+pub run_to_end : (c : Chunk) (totals : ChunkTotals) (rest : List ℕ) → IsChunk c → FitsMore totals (length c.content) (extension_len c.line)
+    → run (print_chunk_line c.line ++ (c.content ++ rest)) (Line totals first_front) ≡ run rest (Data (with_chunk totals (length c.content) (extension_len c.line)) 0)
+run_to_end c totals rest is fits =
+    let extension = extension_len c.line in
+    run_chunk_line c.line totals (c.content ++ rest) is.line (omega (arith, is.size, is.some)) (subst (λ n. FitsMore totals n extension) (sym is.size) fits)
+    ∙ ap (λ n. run (c.content ++ rest) (Data (with_chunk totals n extension) n)) is.size
+    ∙ run_content c.content rest (with_chunk totals (length c.content) extension)
 
-run_chunk : (c : Chunk) (sum : ℕ) (rest : List ℕ) → IsChunk c → sum + length c.content ≤ 1073741824
-    → run (print_chunk c ++ rest) (Line sum first_front) ≡ run rest (Line (sum + length c.content) first_front)
-run_chunk c sum rest is fits =
-    ap (λ xs. run xs (Line sum first_front)) (append_assoc (print_chunk_line c.line) (c.content ++ 13 ∷ 10 ∷ []) rest
+run_chunk : (c : Chunk) (totals : ChunkTotals) (rest : List ℕ) → IsChunk c → FitsMore totals (length c.content) (extension_len c.line)
+    → run (print_chunk c ++ rest) (Line totals first_front) ≡ run rest (Line (with_chunk totals (length c.content) (extension_len c.line)) first_front)
+run_chunk c totals rest is fits =
+    ap (λ xs. run xs (Line totals first_front)) (append_assoc (print_chunk_line c.line) (c.content ++ 13 ∷ 10 ∷ []) rest
     ∙ ap (λ xs. print_chunk_line c.line ++ xs) (append_assoc c.content (13 ∷ 10 ∷ []) rest))
-    ∙ run_to_end c sum (13 ∷ 10 ∷ rest) is fits
+    ∙ run_to_end c totals (13 ∷ 10 ∷ rest) is fits
 
 content_cons : (c : Chunk) (chunks : List Chunk) → content_len (c ∷ chunks) ≡ length c.content + content_len chunks
 content_cons c chunks = sum_by-cons (λ (d : Chunk). length d.content) c chunks
 
-run_chunks_from : (chunks : List Chunk) (sum : ℕ) (rest : List ℕ) → All IsChunk chunks → sum + content_len chunks ≤ 1073741824
-    → run (print_chunks chunks ++ rest) (Line sum first_front) ≡ run rest (Line (sum + content_len chunks) first_front)
-run_chunks_from [] sum rest all fits = ap (λ n. run rest (Line n first_front)) (omega arith)
-run_chunks_from (c ∷ chunks) sum rest all fits =
-    ap (λ xs. run xs (Line sum first_front)) (append_assoc (print_chunk c) (print_chunks chunks) rest)
-    ∙ run_chunk c sum (print_chunks chunks ++ rest) (All-head IsChunk c chunks all) (omega (arith, fits, content_cons c chunks))
-    ∙ run_chunks_from chunks (sum + length c.content) rest (All-tail IsChunk c chunks all) (omega (arith, fits, content_cons c chunks))
-    ∙ ap (λ n. run rest (Line n first_front)) (omega (arith, content_cons c chunks))
+extensions_cons : (c : Chunk) (chunks : List Chunk) → extensions_len (c ∷ chunks) ≡ extension_len c.line + extensions_len chunks
+extensions_cons c chunks = sum_by-cons (λ (d : Chunk). extension_len d.line) c chunks
+
+-- what the chunks have in all
+abbrev pub totals_of : List Chunk → ChunkTotals
+totals_of chunks = record { content = content_len chunks; extensions = extensions_len chunks }
+
+-- equal counts are equal totals
+same_totals : (a b c d : ℕ) (rest : List ℕ) → a ≡ b → c ≡ d → run rest (Line (record { content = a; extensions = c }) first_front) ≡ run rest (Line (record { content = b; extensions = d }) first_front)
+same_totals a b c d rest contents extensions = λ i. run rest (Line (record { content = contents i; extensions = extensions i }) first_front)
+
+run_chunks_from : (chunks : List Chunk) (totals : ChunkTotals) (rest : List ℕ) → All IsChunk chunks → FitsMore totals (content_len chunks) (extensions_len chunks)
+    → run (print_chunks chunks ++ rest) (Line totals first_front) ≡ run rest (Line (with_chunk totals (content_len chunks) (extensions_len chunks)) first_front)
+run_chunks_from [] totals rest all fits = same_totals totals.content (totals.content + 0) totals.extensions (totals.extensions + 0) rest (omega arith) (omega arith)
+run_chunks_from (c ∷ chunks) totals rest all fits =
+    let size = length c.content in
+    let extension = extension_len c.line in
+    let first : FitsMore totals size extension = (omega (arith, fits.0, content_cons c chunks), omega (arith, fits.1, extensions_cons c chunks)) in
+    let others : FitsMore (with_chunk totals size extension) (content_len chunks) (extensions_len chunks) =
+    (omega (arith, fits.0, content_cons c chunks), omega (arith, fits.1, extensions_cons c chunks)) in
+    ap (λ xs. run xs (Line totals first_front)) (append_assoc (print_chunk c) (print_chunks chunks) rest)
+    ∙ run_chunk c totals (print_chunks chunks ++ rest) (All-head IsChunk c chunks all) first
+    ∙ run_chunks_from chunks (with_chunk totals size extension) rest (All-tail IsChunk c chunks all) others
+    ∙ same_totals (totals.content + size + content_len chunks) (totals.content + content_len (c ∷ chunks)) (totals.extensions + extension + extensions_len chunks) (totals.extensions + extensions_len (c ∷ chunks)) rest
+    (omega (arith, content_cons c chunks)) (omega (arith, extensions_cons c chunks))
 
 -- chunks
 pub run_chunks : (chunks : List Chunk) (rest : List ℕ) → AreChunks chunks
-    → run (print_chunks chunks ++ rest) first_place ≡ run rest (Line (content_len chunks) first_front)
+    → run (print_chunks chunks ++ rest) first_place ≡ run rest (Line (totals_of chunks) first_front)
 run_chunks chunks rest are =
-    run_chunks_from chunks 0 rest are.each (omega (arith, are.sum)) ∙ ap (λ n. run rest (Line n first_front)) (omega arith)
+    run_chunks_from chunks no_totals rest are.each (omega (arith, are.sum), omega (arith, are.extensions))
+    ∙ same_totals (0 + content_len chunks) (content_len chunks) (0 + extensions_len chunks) (extensions_len chunks) rest (omega arith) (omega arith)
 
-no_size : (sum size : ℕ) → size ≡ 0 → behind_line sum (Whole size) ≡ On (Trailer 0 0)
-no_size sum size none = grind (arith, nat_tests)
+no_size : (totals : ChunkTotals) (size extension : ℕ) → size ≡ 0 → totals.extensions + extension ≤ 16384 → behind_whole totals size extension ≡ On (Trailer 0 first_trailer)
+no_size totals size extension none fits = grind (arith, nat_tests)
 
 -- the chunks and the last line
-pub run_all_chunks : (before rest : List ℕ) → IsChunkedData before → run (before ++ rest) first_place ≡ run rest (Trailer 0 0)
+pub run_all_chunks : (before rest : List ℕ) → IsChunkedData before → run (before ++ rest) first_place ≡ run rest (Trailer 0 first_trailer)
 run_all_chunks before rest h =
+    let totals = totals_of h.chunks in
     ap (λ xs. run (xs ++ rest) first_place) h.printed
     ∙ ap (λ xs. run xs first_place) (append_assoc (print_chunks h.chunks) (print_chunk_line h.last) rest)
     ∙ run_chunks h.chunks (print_chunk_line h.last ++ rest) h.are_chunks
-    ∙ run_whole_line h.last (content_len h.chunks) rest h.is_line
-    ∙ ap (λ m. run_on m rest) (no_size (content_len h.chunks) (chunk_size h.last) h.zero)
+    ∙ run_whole_line h.last totals rest h.is_line
+    ∙ ap (λ m. run_on m rest) (no_size totals (chunk_size h.last) (extension_len h.last) h.zero h.extensions)
 
 -- ---- trailer lines
 
-inside_step : (count len b : ℕ) → b ≢ 10 → 0 < len → len + 1 < 8190 → trailer_step count len b ≡ On (Trailer count (len + 1))
-inside_step count len b no_lf some short = grind (arith, nat_tests)
+-- the front of a line behind the last chunk, and where it leads
+pub record LeadsTo (line : List ℕ) (count : ℕ) (from : TrailerFront) (before rest : List ℕ) : Type 0 where
+  pub to : TrailerFront
+  pub front : IsTrailerFront (before ++ line) to
+  pub runs : run (line ++ rest) (Trailer count from) ≡ run rest (Trailer count to)
 
-run_text : (text rest : List ℕ) (count len : ℕ) → HasNoLineFeed text → 0 < len → len + length text < 8190
-    → run (text ++ rest) (Trailer count len) ≡ run rest (Trailer count (len + length text))
-run_text [] rest count len none some short = ap (λ n. run rest (Trailer count n)) (omega arith)
-run_text (b ∷ text) rest count len none some short =
-    ap (λ m. run_on m (text ++ rest)) (inside_step count len b (All-head (λ c. c ≢ 10) b text none) some (omega (arith, short)))
-    ∙ run_text text rest count (len + 1) (All-tail (λ c. c ≢ 10) b text none) (omega arith) (omega (arith, short))
-    ∙ ap (λ n. run rest (Trailer count n)) (omega arith)
+run_front : (line : List ℕ) (count : ℕ) (from : TrailerFront) (before rest : List ℕ) → IsTrailerFront before from → HasNoLineFeed line → length before + length line < 8190 → LeadsTo line count from before rest
+run_front [] count from before rest h none short =
+    record { to = from; front = subst (λ t. IsTrailerFront t from) (sym (append-nil before)) h; runs = refl }
+run_front (b ∷ line) count from before rest h none short =
+    let on = goes_on before from b h (All-head (λ c. c ≢ 10) b line none) (omega (arith, short)) in
+    let further = run_front line count on.on (before ++ b ∷ []) rest on.front (All-tail (λ c. c ≢ 10) b line none) (omega (arith, short, length-append before (b ∷ []))) in
+    record {
+      to = further.to;
+      front = subst (λ t. IsTrailerFront t further.to) (append_assoc before (b ∷ []) line) further.front;
+      runs = ap (λ m. run_on (behind_trailer count m) (line ++ rest)) on.step_is ∙ further.runs;
+    }
 
--- where a trailer line leads that isn't whole
-abbrev pub trailer_place : ℕ → List ℕ → ChunkedPlace
-trailer_place count [] = Trailer count 0
-trailer_place count (b ∷ []) = if b == 13 then LastLineFeed count else Trailer count 1
-trailer_place count (b ∷ d ∷ line) = Trailer count (length (b ∷ d ∷ line))
+-- the front of such a line, from its first byte on
+pub run_begun : (line rest : List ℕ) (count : ℕ) → IsTrailerBegun line → LeadsTo line count first_trailer [] rest
+run_begun line rest count begun = run_front line count first_trailer [] rest first_is_trailer begun.one_line (omega (arith, begun.short))
 
-first_step : (count b : ℕ) → b ≢ 10 → trailer_step count 0 b ≡ On (trailer_place count (b ∷ []))
-first_step count b no_lf = grind (arith, nat_tests)
+-- a trailer line
+run_trailer : (f : Field) (rest : List ℕ) (count : ℕ) → IsTrailer f
+    → run (print_field f ++ rest) (Trailer count first_trailer) ≡ run_on (behind_trailer count IsWholeField) rest
+run_trailer f rest count is =
+    let text = text_of_field f is.is_field in
+    let begun : IsTrailerBegun text.line = record { one_line = text.one_line; short = omega (arith, is.short, ap length text.printed, length-append text.line (10 ∷ [])) } in
+    let leads = run_begun text.line (10 ∷ rest) count begun in
+    ap (λ xs. run xs (Trailer count first_trailer)) (ap (λ xs. xs ++ rest) text.printed ∙ append_assoc text.line (10 ∷ []) rest)
+    ∙ leads.runs
+    ∙ ap (λ m. run_on (behind_trailer count m) rest)
+    (field_move text.line f (trailer_step leads.to 10) begun is.is_field (sym text.printed) (trailer_means text.line leads.to 10 leads.front))
 
-second_step : (count b d : ℕ) (rest : List ℕ) → d ≢ 10 → run (d ∷ rest) (trailer_place count (b ∷ [])) ≡ run rest (Trailer count 2)
-second_step count b d rest no_lf =
-    on_test (λ p. run (d ∷ rest) p ≡ run rest (Trailer count 2)) (b == 13) _ _
-    (λ cr. ap (λ m. run_on m rest) (behind_cr count d no_lf))
-    (λ other. ap (λ m. run_on m rest) (inside_step count 1 d no_lf (omega arith) (omega arith)))
-  where
-    behind_cr : (count d : ℕ) → d ≢ 10 → chunked_step (LastLineFeed count) d ≡ On (Trailer count 2)
-    behind_cr count d no_lf = grind (arith, nat_tests)
-
--- the front of a trailer line
-pub run_line_front : (line rest : List ℕ) (count : ℕ) → HasNoLineFeed line → length line < 8190
-    → run (line ++ rest) (Trailer count 0) ≡ run rest (trailer_place count line)
-run_line_front [] rest count none short = refl
-run_line_front (b ∷ []) rest count none short = ap (λ m. run_on m rest) (first_step count b (All-head (λ c. c ≢ 10) b [] none))
-run_line_front (b ∷ d ∷ line) rest count none short =
-    let none_behind = All-tail (λ c. c ≢ 10) b (d ∷ line) none in
-    ap (λ m. run_on m ((d ∷ line) ++ rest)) (first_step count b (All-head (λ c. c ≢ 10) b (d ∷ line) none))
-    ∙ second_step count b d (line ++ rest) (All-head (λ c. c ≢ 10) d line none_behind)
-    ∙ run_text line rest count 2 (All-tail (λ c. c ≢ 10) d line none_behind) (omega arith) (omega (arith, short))
-    ∙ ap (λ n. run rest (Trailer count n)) (omega arith)
-
-pub trailer_place_begun : (count : ℕ) (line : List ℕ) → chunked_begun_len (trailer_place count line) ≡ length line
-trailer_place_begun count [] = refl
-trailer_place_begun count (b ∷ []) = on_test (λ p. chunked_begun_len p ≡ 1) (b == 13) _ _ (λ cr. refl) (λ other. refl)
-trailer_place_begun count (b ∷ d ∷ line) = refl
-
--- the line feed of a trailer line
-line_feed_step : (count : ℕ) (line : List ℕ) → line ≢ [] → line ≢ 13 ∷ [] → chunked_step (trailer_place count line) 10 ≡ behind_trailer count
-line_feed_step count [] some no_cr = absurd (some refl)
-line_feed_step count (b ∷ []) some no_cr =
-    on_test (λ p. chunked_step p 10 ≡ behind_trailer count) (b == 13) _ _
-    (λ cr. let is : b ≡ 13 = grind (arith, nat_tests) in absurd (no_cr (ap (λ v. v ∷ []) is)))
-    (λ other. refl)
-line_feed_step count (b ∷ d ∷ line) some no_cr = longer count (length (b ∷ d ∷ line)) (omega arith)
-  where
-    longer : (count len : ℕ) → 0 < len → trailer_step count len 10 ≡ behind_trailer count
-    longer count len some = grind (arith, nat_tests)
-
-run_trailer : (line rest : List ℕ) (count : ℕ) → IsTrailer line
-    → run (print_trailer line ++ rest) (Trailer count 0) ≡ run_on (behind_trailer count) rest
-run_trailer line rest count is =
-    ap (λ xs. run xs (Trailer count 0)) (append_assoc line (10 ∷ []) rest)
-    ∙ run_line_front line (10 ∷ rest) count is.one_line (omega (arith, is.short))
-    ∙ ap (λ m. run_on m rest) (line_feed_step count line is.some is.no_cr)
-
-fits_step : (count : ℕ) → count < 100 → behind_trailer count ≡ On (Trailer (count + 1) 0)
+fits_step : (count : ℕ) → count < 100 → behind_trailer count IsWholeField ≡ On (Trailer (count + 1) first_trailer)
 fits_step count few = grind (arith, nat_tests)
 
-run_trailers_from : (lines : List (List ℕ)) (rest : List ℕ) (count : ℕ) → All IsTrailer lines → count + length lines ≤ 100
-    → run (print_trailers lines ++ rest) (Trailer count 0) ≡ run rest (Trailer (count + length lines) 0)
-run_trailers_from [] rest count all few = ap (λ n. run rest (Trailer n 0)) (omega arith)
-run_trailers_from (line ∷ lines) rest count all few =
-    ap (λ xs. run xs (Trailer count 0)) (append_assoc (print_trailer line) (print_trailers lines) rest)
-    ∙ run_trailer line (print_trailers lines ++ rest) count (All-head IsTrailer line lines all)
-    ∙ ap (λ m. run_on m (print_trailers lines ++ rest)) (fits_step count (omega (arith, few)))
-    ∙ run_trailers_from lines rest (count + 1) (All-tail IsTrailer line lines all) (omega (arith, few))
-    ∙ ap (λ n. run rest (Trailer n 0)) (omega arith)
+run_trailers_from : (fields : List Field) (rest : List ℕ) (count : ℕ) → All IsTrailer fields → count + length fields ≤ 100
+    → run (print_trailers fields ++ rest) (Trailer count first_trailer) ≡ run rest (Trailer (count + length fields) first_trailer)
+run_trailers_from [] rest count all few = ap (λ n. run rest (Trailer n first_trailer)) (omega arith)
+run_trailers_from (f ∷ fields) rest count all few =
+    ap (λ xs. run xs (Trailer count first_trailer)) (append_assoc (print_field f) (print_trailers fields) rest)
+    ∙ run_trailer f (print_trailers fields ++ rest) count (All-head IsTrailer f fields all)
+    ∙ ap (λ m. run_on m (print_trailers fields ++ rest)) (fits_step count (omega (arith, few)))
+    ∙ run_trailers_from fields rest (count + 1) (All-tail IsTrailer f fields all) (omega (arith, few))
+    ∙ ap (λ n. run rest (Trailer n first_trailer)) (omega arith)
 
 -- trailer lines
-pub run_trailers : (lines : List (List ℕ)) (rest : List ℕ) → AreTrailers lines
-    → run (print_trailers lines ++ rest) (Trailer 0 0) ≡ run rest (Trailer (length lines) 0)
-run_trailers lines rest are = run_trailers_from lines rest 0 are.each (omega (arith, are.few)) ∙ ap (λ n. run rest (Trailer n 0)) (omega arith)
+pub run_trailers : (fields : List Field) (rest : List ℕ) → AreTrailers fields
+    → run (print_trailers fields ++ rest) (Trailer 0 first_trailer) ≡ run rest (Trailer (length fields) first_trailer)
+run_trailers fields rest are = run_trailers_from fields rest 0 are.each (omega (arith, are.few)) ∙ ap (λ n. run rest (Trailer n first_trailer)) (omega arith)
 
 -- one trailer line too many
-pub run_too_many : (lines : List (List ℕ)) (rest : List ℕ) (count : ℕ) → All IsTrailer lines → count + length lines ≡ 101 → count ≤ 100
-    → run (print_trailers lines ++ rest) (Trailer count 0) ≡ Breaks 400
+pub run_too_many : (fields : List Field) (rest : List ℕ) (count : ℕ) → All IsTrailer fields → count + length fields ≡ 101 → count ≤ 100
+    → run (print_trailers fields ++ rest) (Trailer count first_trailer) ≡ Breaks 400
 run_too_many [] rest count all many few = absurd (omega arith)
-run_too_many (line ∷ lines) rest count all many few =
-    ap (λ xs. run xs (Trailer count 0)) (append_assoc (print_trailer line) (print_trailers lines) rest)
-    ∙ run_trailer line (print_trailers lines ++ rest) count (All-head IsTrailer line lines all)
+run_too_many (f ∷ fields) rest count all many few =
+    ap (λ xs. run xs (Trailer count first_trailer)) (append_assoc (print_field f) (print_trailers fields) rest)
+    ∙ run_trailer f (print_trailers fields ++ rest) count (All-head IsTrailer f fields all)
     ∙ elim (cases_lt count 100) [
-      | inl fits ↦ ap (λ m. run_on m (print_trailers lines ++ rest)) (fits_step count fits)
-          ∙ run_too_many lines rest (count + 1) (All-tail IsTrailer line lines all) (omega (arith, many)) (omega arith)
-      | inr full ↦ ap (λ m. run_on m (print_trailers lines ++ rest)) (full_step count full)
+      | inl fits ↦ ap (λ m. run_on m (print_trailers fields ++ rest)) (fits_step count fits)
+          ∙ run_too_many fields rest (count + 1) (All-tail IsTrailer f fields all) (omega (arith, many)) (omega arith)
+      | inr full ↦ ap (λ m. run_on m (print_trailers fields ++ rest)) (full_count count full)
     ]
   where
-    full_step : (count : ℕ) → 100 ≤ count → behind_trailer count ≡ Bad 400
-    full_step count full = grind (arith, nat_tests)
+    full_count : (count : ℕ) → 100 ≤ count → behind_trailer count IsWholeField ≡ Bad 400
+    full_count count full = grind (arith, nat_tests)
 
--- a trailer line that is too long
+-- a line that is too long
 pub run_too_long : (line : List ℕ) (z : ℕ) (rest : List ℕ) (count : ℕ) → HasNoLineFeed line → z ≢ 10 → length line ≡ 8189
-    → run (line ++ (z ∷ rest)) (Trailer count 0) ≡ Breaks 400
+    → run (line ++ (z ∷ rest)) (Trailer count first_trailer) ≡ Breaks 400
 run_too_long line z rest count none no_lf len =
-    run_line_front line (z ∷ rest) count none (omega (arith, len)) ∙ last_byte line len
-  where
-    full : (count n z : ℕ) → z ≢ 10 → n ≡ 8189 → trailer_step count n z ≡ Bad 400
-    full count n z no_lf is = grind (arith, nat_tests)
+    let leads = run_begun line (z ∷ rest) count (record { one_line = none; short = omega (arith, len) }) in
+    leads.runs ∙ ap (λ m. run_on (behind_trailer count m) rest) (full_step leads.to z no_lf (omega (arith, leads.front.len, len)))
 
-    last_byte : (line : List ℕ) → length line ≡ 8189 → run (z ∷ rest) (trailer_place count line) ≡ Breaks 400
-    last_byte [] len = absurd (omega arith)
-    last_byte (b ∷ []) len = absurd (omega arith)
-    last_byte (b ∷ d ∷ line) len = ap (λ m. run_on m rest) (full count (length (b ∷ d ∷ line)) z no_lf len)
+-- a line that is neither a field line nor the empty line
+pub run_no_trailer : (bytes : List ℕ) (count : ℕ) → HasNoTrailer bytes → run bytes (Trailer count first_trailer) ≡ Breaks 400
+run_no_trailer bytes count h =
+    let leads = run_begun h.line (10 ∷ h.behind) count h.begun in
+    ap (λ xs. run xs (Trailer count first_trailer)) h.bytes_are
+    ∙ leads.runs
+    ∙ ap (λ m. run_on (behind_trailer count m) h.behind)
+    (broken_move h.line (trailer_step leads.to 10) h.begun h.no_field h.no_end (trailer_means h.line leads.to 10 leads.front))
 
 -- the empty line
-pub run_empty_line : (end : LineEnd) (rest : List ℕ) (count : ℕ) → run (print_end end ++ rest) (Trailer count 0) ≡ Ended rest
-run_empty_line crlf rest count = refl
-run_empty_line lf rest count = refl
+pub run_empty_line : (end : LineEnd) (rest : List ℕ) (count : ℕ) → run (print_end end ++ rest) (Trailer count first_trailer) ≡ Ended rest
+run_empty_line end rest count =
+    let (line, begun, printed) = cr_begun end in
+    let leads = run_begun line (10 ∷ rest) count begun in
+    ap (λ xs. run xs (Trailer count first_trailer)) (ap (λ xs. xs ++ rest) printed ∙ append_assoc line (10 ∷ []) rest)
+    ∙ leads.runs
+    ∙ ap (λ m. run_on (behind_trailer count m) rest)
+    (empty_move line end (trailer_step leads.to 10) begun (sym printed) (trailer_means line leads.to 10 leads.front))

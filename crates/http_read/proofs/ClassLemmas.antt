@@ -29,7 +29,7 @@ behind_field line Unended = Unended
 behind_field line (Ends n fields) = Ends (length line + 1 + n) (line ∷ fields)
 
 -- the lines of bytes, the last of which isn't whole
-abbrev parts : List ℕ → List (List ℕ)
+abbrev pub parts : List ℕ → List (List ℕ)
 parts bytes = slice_split (λ b. b == 10) bytes
 
 abbrev is_last : List (List ℕ) → Bool
@@ -53,7 +53,7 @@ class_of limits bytes = class_first limits.line (parts bytes)
 
 -- ## One line
 
-parts_line : (line x : List ℕ) → IsHeadLine line → parts (line ++ 10 ∷ x) ≡ line ∷ parts x
+pub parts_line : (line x : List ℕ) → IsHeadLine line → parts (line ++ 10 ∷ x) ≡ line ∷ parts x
 parts_line line x is = slice_split_at (λ b. b == 10) line 10 x is refl
 
 not_last : (x : List ℕ) → is_last (parts x) ≡ false

@@ -7,10 +7,11 @@ use Rattle.http_read.specs.declared.request.BodyKind.{BodyKind}
 use Rattle.http_read.specs.declared.body.BodyAnswer.{BodyAnswer}
 use Rattle.http_read.specs.declared.body.BodyAnswer.TheVariants.{Took, Done, Bad}
 use Rattle.http_read.specs.declared.body.BodyPlace.{BodyPlace}
+use Rattle.http_read.specs.declared.body.BodyPlace.TheVariants.{Ended, Broken}
 use Rattle.http_read.specs.BodyForm.{IsBody, IsBodyFront, BreaksBody, BodyForm, WholeBody, BodyFront, BrokenBody, HasForm}
 use Rattle.http_read.specs.BodyPlaces.{StandsAt, begun_len}
 use Rattle.http_read.specs.BodyAnswers.{CountsBytes, AnswersBody, AnswersPieces, answer_behind}
-use Rattle.http_read.proofs.FormLemmas.{same_forms}
+use Rattle.http_read.proofs.FormLemmas.{same_forms, broken_more}
 
 -- the bytes behind the taken ones, and those that follow
 both_pieces : (past bytes more : List ℕ) (n : ℕ) → (past ++ take n bytes) ++ (drop n bytes ++ more) ≡ past ++ (bytes ++ more)
@@ -140,3 +141,13 @@ pub same_body_answers : (of : BodyKind) (past bytes : List ℕ) (a b : BodyAnswe
 same_body_answers of past bytes a b p q x h y k =
     same_by_form past bytes a b p q x y
     (same_forms of (past ++ bytes) (form_of_answer past bytes a) (form_of_answer past bytes b) (has_answer of past bytes a p x h) (has_answer of past bytes b q y k))
+
+-- ---- behind the end, and behind a break
+
+pub ends_again : (place : BodyPlace) → place ≡ Ended → (of : BodyKind) (past bytes : List ℕ) → StandsAt of (past ++ take (begun_len place) bytes) place → IsBody of (past ++ take 0 bytes)
+ends_again place is of past bytes = subst (λ p. StandsAt of (past ++ take (begun_len p) bytes) p) is
+
+pub breaks_again : (place : BodyPlace) (code : ℕ) → place ≡ Broken code → (of : BodyKind) (past bytes : List ℕ) → StandsAt of (past ++ take (begun_len place) bytes) place → BreaksBody of (past ++ bytes) code
+breaks_again place code is of past bytes stands =
+    let broken : BreaksBody of (past ++ []) code = subst (λ p. StandsAt of (past ++ take (begun_len p) bytes) p) is stands in
+    subst (λ xs. BreaksBody of (xs ++ bytes) code) (append-nil past) (broken_more of (past ++ []) bytes code broken)

@@ -11,18 +11,19 @@ use Rattle.http_read.specs.declared.request.BodyKind.{BodyKind}
 use Rattle.http_read.specs.declared.request.BodyKind.TheVariants as kind
 use Rattle.http_read.specs.declared.chunked.ChunkedPlace.{ChunkedPlace}
 use Rattle.http_read.specs.declared.chunked.ChunkedPlace.TheVariants.{Line, Data, DataLineFeed, Trailer}
-use Rattle.http_read.specs.ChunkLines.{Chunk, IsChunk, print_chunks, content_len, AreChunks}
-use Rattle.http_read.specs.TrailerLines.{HasNoLineFeed, IsTrailer, AreTrailers, IsTrailerTooLong, print_trailers}
-use Rattle.http_read.specs.BodyForm.{IsChunkedBody, IsBody, BeginsBody, EndsInChunkLine, EndsInChunk, EndsInTrailer, IsChunkedFront, BreaksAtLine, BreaksAtSum, BreaksAtChunkEnd, BreaksAtTrailer, BreaksBody, BodyForm, WholeBody, BodyFront, BrokenBody, HasForm}
+use Rattle.http_read.specs.declared.chunked.ChunkTotals.{ChunkTotals}
+use Rattle.http_read.specs.ChunkLines.{Chunk, IsChunk, print_chunks, content_len, extension_len, extensions_len, AreChunks}
+use Rattle.http_read.specs.TrailerLines.{HasNoLineFeed, IsTrailer, AreTrailers, IsTrailerTooLong, HasNoTrailer, print_trailers}
+use Rattle.http_read.specs.BodyForm.{IsChunkedBody, IsBody, BeginsBody, EndsInChunkLine, EndsInChunk, EndsInTrailer, IsChunkedFront, BreaksAtLine, BreaksAtExtension, BreaksAtSum, BreaksAtChunkEnd, BreaksAtTrailer, BreaksBody, BodyForm, WholeBody, BodyFront, BrokenBody, HasForm}
 use Rattle.http_read.specs.BodyPlaces.{chunked_begun_len}
-use Rattle.http_read.specs.ChunkStepsInside.{Outcome, Open, Ended, Breaks, first_front, first_place, run, run_on}
+use Rattle.http_read.specs.ChunkStepsInside.{Outcome, Open, Ended, Breaks, first_front, first_place, first_trailer, no_totals, run, run_on}
 use Rattle.http_read.proofs.ChunkStepLemmas.{run_data}
 use Rattle.http_read.proofs.ChunkLineLemmas.{on_test}
 use Rattle.http_read.proofs.ChunkLineRuns.{body_of_line, run_line, still_line, lost_line}
-use Rattle.http_read.proofs.ChunkedLemmas.{first_stands, content_push}
+use Rattle.http_read.proofs.ChunkedLemmas.{first_stands, content_push, extensions_push}
 use Rattle.http_read.proofs.BodyFormLemmas.{OutcomeMeans, run_means, stands_in_line, breaks_more}
 use Rattle.http_read.proofs.FeedLemmas.{line_left}
-use Rattle.http_read.proofs.ChunkedRuns.{run_whole_line, line_above, run_chunk_line, run_content, run_to_end, run_chunks, run_all_chunks, run_line_front, trailer_place, trailer_place_begun, run_trailers, run_too_many, run_too_long, run_empty_line}
+use Rattle.http_read.proofs.ChunkedRuns.{FitsMore, with_chunk, totals_of, run_whole_line, line_above, line_beyond, run_chunk_line, run_content, run_to_end, run_chunks, run_all_chunks, run_begun, run_trailers, run_too_many, run_too_long, run_no_trailer, run_empty_line}
 
 -- the form of bytes by what became of the body
 abbrev form_by : List ℕ → Outcome → BodyForm
@@ -56,7 +57,7 @@ chunked_has : (bytes : List ℕ) → HasForm kind.Chunked bytes (chunked_form by
 unfolding chunked_form
 chunked_has bytes =
     has_by bytes (run bytes first_place)
-    (run_means bytes [] first_place (first_stands [] [] 0 (record { each = λ k d h. absurd (omega arith); sum = omega arith }) refl refl))
+    (run_means bytes [] first_place (first_stands [] [] no_totals (record { each = λ k d h. absurd (omega arith); sum = omega arith; extensions = omega arith }) (record { content_is = refl; extensions_is = refl }) refl))
 
 -- ---- it has no other
 
@@ -87,49 +88,52 @@ front_by bytes before line p split is begun =
 one_line_front : (bytes line : List ℕ) → EndsInChunkLine bytes line → BodyFront line ≡ chunked_form bytes
 one_line_front bytes line h =
     let (f, still, len) = still_line line h.begun in
-    front_by bytes (print_chunks h.chunks) line (Line (content_len h.chunks) f) h.printed
+    front_by bytes (print_chunks h.chunks) line (Line (totals_of h.chunks) f) h.printed
     (ap (λ xs. run xs first_place) h.printed ∙ run_chunks h.chunks line h.are_chunks
-    ∙ run_line line (content_len h.chunks) first_front ∙ ap (body_of_line (content_len h.chunks)) still)
+    ∙ run_line line (totals_of h.chunks) first_front ∙ ap (body_of_line (totals_of h.chunks)) still)
     len
 
 one_trailer_front : (bytes line : List ℕ) → EndsInTrailer bytes line → BodyFront line ≡ chunked_form bytes
 one_trailer_front bytes line h =
     let count = length h.trailers in
-    front_by bytes (h.before ++ print_trailers h.trailers) line (trailer_place count line)
+    let leads = run_begun line [] count h.begun in
+    front_by bytes (h.before ++ print_trailers h.trailers) line (Trailer count leads.to)
     (h.printed ∙ sym (append_assoc h.before (print_trailers h.trailers) line))
     (ap (λ xs. run xs first_place) h.printed ∙ run_all_chunks h.before (print_trailers h.trailers ++ line) h.is_data
     ∙ run_trailers h.trailers line h.are_trailers
-    ∙ ap (λ xs. run xs (Trailer count 0)) (sym (append-nil line))
-    ∙ run_line_front line [] count h.begun.one_line h.begun.short)
-    (trailer_place_begun count line)
+    ∙ ap (λ xs. run xs (Trailer count first_trailer)) (sym (append-nil line))
+    ∙ leads.runs)
+    leads.front.len
 
 -- the last of the chunks
 last_chunk : (chunks : List Chunk) (c : Chunk) → AreChunks (chunks ++ c ∷ [])
-    → AreChunks chunks × IsChunk c × (content_len chunks + length c.content ≤ 1073741824)
+    → AreChunks chunks × IsChunk c × ((content_len chunks + length c.content ≤ 1073741824) × (extensions_len chunks + extension_len c.line ≤ 16384))
 last_chunk chunks c are =
-    let sums : content_len chunks + length c.content ≤ 1073741824 = omega (arith, are.sum, content_push chunks c) in (
+    let sums : content_len chunks + length c.content ≤ 1073741824 = omega (arith, are.sum, content_push chunks c) in
+    let extended : extensions_len chunks + extension_len c.line ≤ 16384 = omega (arith, are.extensions, extensions_push chunks c) in (
       record {
         each = subst (All IsChunk) (take-append_seam chunks (c ∷ [])) (All-take IsChunk (length chunks) (chunks ++ c ∷ []) are.each);
         sum = omega arith;
+        extensions = omega arith;
       },
       All-head IsChunk c [] (subst (All IsChunk) (drop-append_seam chunks (c ∷ [])) (All-drop IsChunk (length chunks) (chunks ++ c ∷ []) are.each)),
-      sums,
+      (sums, extended),
     )
 
 -- the front of the data and its CRLF leads to a place with nothing behind it
-data_front : (here missing content : List ℕ) (sum : ℕ) → content ++ (13 ∷ 10 ∷ []) ≡ here ++ missing → 0 < length missing
-    → (p : ChunkedPlace) × (run here (Data sum (length content)) ≡ Open p) × (chunked_begun_len p ≡ 0)
-data_front here missing content sum whole some =
+data_front : (here missing content : List ℕ) (totals : ChunkTotals) → content ++ (13 ∷ 10 ∷ []) ≡ here ++ missing → 0 < length missing
+    → (p : ChunkedPlace) × (run here (Data totals (length content)) ≡ Open p) × (chunked_begun_len p ≡ 0)
+data_front here missing content totals whole some =
     let lens = ap length whole in
     elim (cases_lt (length content) (length here)) [
       | inl beyond ↦
           let n : length here ≡ length content + 1 = omega (arith, lens, length-append content (13 ∷ 10 ∷ []), length-append here missing) in
           let is : here ≡ content ++ 13 ∷ [] = front_of here missing (content ++ 13 ∷ []) (10 ∷ []) (sym whole ∙ sym (append_assoc content (13 ∷ []) (10 ∷ []))) (omega (arith, n, length-append content (13 ∷ []))) in
-          (DataLineFeed sum, ap (λ xs. run xs (Data sum (length content))) is ∙ run_content content (13 ∷ []) sum, refl)
+          (DataLineFeed totals, ap (λ xs. run xs (Data totals (length content))) is ∙ run_content content (13 ∷ []) totals, refl)
       | inr within ↦ (
-        Data sum (length content - length here),
-        run_data here (length here) sum (length content) (omega arith) within
-            ∙ ap (λ xs. run xs (Data sum (length content - length here))) (drop_all (length here) here (omega arith)),
+        Data totals (length content - length here),
+        run_data here (length here) totals (length content) (omega arith) within
+            ∙ ap (λ xs. run xs (Data totals (length content - length here))) (drop_all (length here) here (omega arith)),
         refl,
       )
     ]
@@ -140,13 +144,15 @@ data_front here missing content sum whole some =
 one_data_front : (bytes : List ℕ) → EndsInChunk bytes → BodyFront [] ≡ chunked_form bytes
 one_data_front bytes h =
     let (are, is, fits) = last_chunk h.chunks h.chunk h.are_chunks in
-    let sum = content_len h.chunks in
+    let totals = totals_of h.chunks in
     let c = h.chunk in
-    let (p, runs, begun) = data_front h.here h.missing c.content (sum + length c.content) h.whole h.some in
+    let extension = extension_len c.line in
+    let size : FitsMore totals (chunk_size c.line) extension = subst (λ n. FitsMore totals n extension) (sym is.size) fits in
+    let (p, runs, begun) = data_front h.here h.missing c.content (with_chunk totals (length c.content) extension) h.whole h.some in
     front_by bytes bytes [] p (sym (append-nil bytes))
     (ap (λ xs. run xs first_place) h.printed ∙ run_chunks h.chunks (print_chunk_line c.line ++ h.here) are
-    ∙ run_chunk_line c.line sum h.here is.line (omega (arith, is.size, is.some)) (omega (arith, is.size))
-    ∙ ap (λ n. run h.here (Data (sum + n) n)) is.size ∙ runs)
+    ∙ run_chunk_line c.line totals h.here is.line (omega (arith, is.size, is.some)) size
+    ∙ ap (λ n. run h.here (Data (with_chunk totals n extension) n)) is.size ∙ runs)
     begun
 
 broken_by : (bytes : List ℕ) (code : ℕ) → run bytes first_place ≡ Breaks code → BrokenBody code ≡ chunked_form bytes
@@ -156,22 +162,30 @@ broken_by bytes code is = sym (ap (form_by bytes) is)
 at_line : (bytes : List ℕ) (code : ℕ) → BreaksAtLine bytes code → run bytes first_place ≡ Breaks 400
 at_line bytes code h =
     ap (λ xs. run xs first_place) h.printed ∙ run_chunks h.chunks h.rest h.are_chunks
-    ∙ run_line h.rest (content_len h.chunks) first_front ∙ ap (body_of_line (content_len h.chunks)) (lost_line h.rest h.breaks)
+    ∙ run_line h.rest (totals_of h.chunks) first_front ∙ ap (body_of_line (totals_of h.chunks)) (lost_line h.rest h.breaks)
+
+at_extension : (bytes : List ℕ) (code : ℕ) → BreaksAtExtension bytes code → run bytes first_place ≡ Breaks 400
+at_extension bytes code h =
+    let totals = totals_of h.chunks in
+    ap (λ xs. run xs first_place) h.printed ∙ run_chunks h.chunks (print_chunk_line h.line ++ h.rest) h.are_chunks
+    ∙ run_whole_line h.line totals h.rest h.is_line
+    ∙ ap (λ m. run_on m h.rest) (line_beyond totals (chunk_size h.line) (extension_len h.line) h.are_chunks.extensions h.above)
 
 at_sum : (bytes : List ℕ) (code : ℕ) → BreaksAtSum bytes code → run bytes first_place ≡ Breaks 413
 at_sum bytes code h =
+    let totals = totals_of h.chunks in
     ap (λ xs. run xs first_place) h.printed ∙ run_chunks h.chunks (print_chunk_line h.line ++ h.rest) h.are_chunks
-    ∙ run_whole_line h.line (content_len h.chunks) h.rest h.is_line
-    ∙ ap (λ m. run_on m h.rest) (line_above (content_len h.chunks) (chunk_size h.line) h.are_chunks.sum h.above)
+    ∙ run_whole_line h.line totals h.rest h.is_line
+    ∙ ap (λ m. run_on m h.rest) (line_above totals (chunk_size h.line) (extension_len h.line) h.are_chunks.sum h.extensions h.above)
 
 -- other bytes than CRLF
-no_crlf : (rest : List ℕ) (sum : ℕ) → ((more behind : List ℕ) → ¬ (rest ++ more ≡ 13 ∷ 10 ∷ behind)) → run rest (Data sum 0) ≡ Breaks 400
-no_crlf [] sum none = absurd (none (13 ∷ 10 ∷ []) [] refl)
-no_crlf (b ∷ []) sum none =
+no_crlf : (rest : List ℕ) (totals : ChunkTotals) → ((more behind : List ℕ) → ¬ (rest ++ more ≡ 13 ∷ 10 ∷ behind)) → run rest (Data totals 0) ≡ Breaks 400
+no_crlf [] totals none = absurd (none (13 ∷ 10 ∷ []) [] refl)
+no_crlf (b ∷ []) totals none =
     on_test (λ m. run_on m [] ≡ Breaks 400) (b == 13) _ _
     (λ cr. let is : b ≡ 13 = grind (arith, nat_tests) in absurd (none (10 ∷ []) [] (ap (λ v. v ∷ 10 ∷ []) is)))
     (λ other. refl)
-no_crlf (b ∷ d ∷ rest) sum none =
+no_crlf (b ∷ d ∷ rest) totals none =
     on_test (λ m. run_on m (d ∷ rest) ≡ Breaks 400) (b == 13) _ _
     (λ cr. let is : b ≡ 13 = grind (arith, nat_tests) in
     on_test (λ m. run_on m rest ≡ Breaks 400) (d == 10) _ _
@@ -184,12 +198,12 @@ at_chunk_end bytes code h =
     let (are, is, fits) = last_chunk h.chunks h.chunk h.are_chunks in
     let c = h.chunk in
     ap (λ xs. run xs first_place) h.printed ∙ run_chunks h.chunks (print_chunk_line c.line ++ (c.content ++ h.rest)) are
-    ∙ run_to_end c (content_len h.chunks) h.rest is fits ∙ no_crlf h.rest (content_len h.chunks + length c.content) h.no_end
+    ∙ run_to_end c (totals_of h.chunks) h.rest is fits ∙ no_crlf h.rest (with_chunk (totals_of h.chunks) (length c.content) (extension_len c.line)) h.no_end
 
-too_long_run : (rest : List ℕ) (count : ℕ) → IsTrailerTooLong rest → run rest (Trailer count 0) ≡ Breaks 400
+too_long_run : (rest : List ℕ) (count : ℕ) → IsTrailerTooLong rest → run rest (Trailer count first_trailer) ≡ Breaks 400
 too_long_run rest count h = split_last (take 8189 rest) (drop 8189 rest) (sym (take-append-drop 8189 rest)) (length-take-le 8189 rest (omega (arith, h.long)))
   where
-    split_last : (front behind : List ℕ) → rest ≡ front ++ behind → length front ≡ 8189 → run rest (Trailer count 0) ≡ Breaks 400
+    split_last : (front behind : List ℕ) → rest ≡ front ++ behind → length front ≡ 8189 → run rest (Trailer count first_trailer) ≡ Breaks 400
     split_last front [] e len = absurd (omega (arith, ap length e, length-append front [], h.long))
     split_last front (z ∷ behind) e len =
         let seam : length (front ++ z ∷ []) ≡ 8190 = omega (arith, len, length-append front (z ∷ [])) in
@@ -198,15 +212,16 @@ too_long_run rest count h = split_last (take 8189 rest) (drop 8189 rest) (sym (t
         let none = subst HasNoLineFeed shown h.one_line in
         let none_front = subst HasNoLineFeed (take-append_seam front (z ∷ [])) (All-take (λ c. c ≢ 10) (length front) (front ++ z ∷ []) none) in
         let none_last = subst HasNoLineFeed (drop-append_seam front (z ∷ [])) (All-drop (λ c. c ≢ 10) (length front) (front ++ z ∷ []) none) in
-        ap (λ xs. run xs (Trailer count 0)) e ∙ run_too_long front z behind count none_front (All-head (λ c. c ≢ 10) z [] none_last) len
+        ap (λ xs. run xs (Trailer count first_trailer)) e ∙ run_too_long front z behind count none_front (All-head (λ c. c ≢ 10) z [] none_last) len
 
 at_trailer : (bytes : List ℕ) (code : ℕ) → BreaksAtTrailer bytes code → run bytes first_place ≡ Breaks 400
 at_trailer bytes code h =
     ap (λ xs. run xs first_place) h.printed ∙ run_all_chunks h.before (print_trailers h.trailers ++ h.rest) h.is_data ∙ by_break h.breaks
   where
-    by_break : ((AreTrailers h.trailers × IsTrailerTooLong h.rest) ⊎ ((length h.trailers ≡ 101) × All IsTrailer h.trailers))
-        → run (print_trailers h.trailers ++ h.rest) (Trailer 0 0) ≡ Breaks 400
-    by_break (inl (are, long)) = run_trailers h.trailers h.rest are ∙ too_long_run h.rest (length h.trailers) long
+    by_break : ((AreTrailers h.trailers × (IsTrailerTooLong h.rest ⊎ HasNoTrailer h.rest)) ⊎ ((length h.trailers ≡ 101) × All IsTrailer h.trailers))
+        → run (print_trailers h.trailers ++ h.rest) (Trailer 0 first_trailer) ≡ Breaks 400
+    by_break (inl (are, inl long)) = run_trailers h.trailers h.rest are ∙ too_long_run h.rest (length h.trailers) long
+    by_break (inl (are, inr none)) = run_trailers h.trailers h.rest are ∙ run_no_trailer h.rest (length h.trailers) none
     by_break (inr (many, each)) = run_too_many h.trailers h.rest 0 each (omega (arith, many)) (omega arith)
 
 chunked_one : (bytes : List ℕ) (form : BodyForm) → HasForm kind.Chunked bytes form → form ≡ chunked_form bytes
@@ -215,9 +230,10 @@ chunked_one bytes (BodyFront line) (inl h) = one_line_front bytes line h
 chunked_one bytes (BodyFront line) (inr (inl (h, empty))) = ap BodyFront empty ∙ one_data_front bytes h
 chunked_one bytes (BodyFront line) (inr (inr h)) = one_trailer_front bytes line h
 chunked_one bytes (BrokenBody code) (inl h) = ap BrokenBody h.code_is ∙ broken_by bytes 400 (at_line bytes code h)
-chunked_one bytes (BrokenBody code) (inr (inl h)) = ap BrokenBody h.code_is ∙ broken_by bytes 413 (at_sum bytes code h)
-chunked_one bytes (BrokenBody code) (inr (inr (inl h))) = ap BrokenBody h.code_is ∙ broken_by bytes 400 (at_chunk_end bytes code h)
-chunked_one bytes (BrokenBody code) (inr (inr (inr h))) = ap BrokenBody h.code_is ∙ broken_by bytes 400 (at_trailer bytes code h)
+chunked_one bytes (BrokenBody code) (inr (inl h)) = ap BrokenBody h.code_is ∙ broken_by bytes 400 (at_extension bytes code h)
+chunked_one bytes (BrokenBody code) (inr (inr (inl h))) = ap BrokenBody h.code_is ∙ broken_by bytes 413 (at_sum bytes code h)
+chunked_one bytes (BrokenBody code) (inr (inr (inr (inl h)))) = ap BrokenBody h.code_is ∙ broken_by bytes 400 (at_chunk_end bytes code h)
+chunked_one bytes (BrokenBody code) (inr (inr (inr (inr h)))) = ap BrokenBody h.code_is ∙ broken_by bytes 400 (at_trailer bytes code h)
 
 -- ---- the laws
 

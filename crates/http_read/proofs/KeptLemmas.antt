@@ -4,10 +4,12 @@ use Rattle.std.specs.Prelude.{IsFalse, ◌==◌}
 use Rattle.std.proofs.lemmas.Bool.{eqb-true}
 use Rattle.std.proofs.lemmas.List.{append_assoc, length-append, take-append-le}
 use Rattle.std.proofs.lemmas.List.Elements.{All-nil, All-cons, All-append}
-use Rattle.httparse.specs.Grammar.{RequestHead}
 use Rattle.http_read.specs.declared.request.Limits.{Limits}
+use Rattle.http_read.specs.RequestParts.{RequestParts}
 use Rattle.http_read.specs.HeadLines.{IsHeadLine, print_lines, line_len, HasLongFront, BreaksLineLimit, IsUnended, IsHeadText}
-use Rattle.http_read.specs.Head.{head_window, IsHead, EndsAt, IsRefusal}
+use Rattle.http_read.specs.Versions.{text_as_read}
+use Rattle.http_read.specs.Head.{head_window, EndsAt, BeginsHead, IsRefusal}
+use Rattle.http_read.proofs.VersionLemmas.{same_lines_of}
 
 -- ## The first bytes of a longer list
 
@@ -82,14 +84,15 @@ long_kept limits bytes more (inl h) = inl (record {
 })
 long_kept limits bytes more (inr h) = front_kept limits bytes more h (feed_in more)
 
-ends_kept : (limits : Limits) (bytes more : List ℕ) (n : ℕ) (fields : List (List ℕ)) → EndsAt limits bytes n fields → EndsAt limits (bytes ++ more) n fields
+abbrev ends_kept : (limits : Limits) (bytes more : List ℕ) (n : ℕ) (fields : List (List ℕ)) → EndsAt limits bytes n fields → EndsAt limits (bytes ++ more) n fields
 ends_kept limits bytes more n fields h = record {
   within = omega (arith, h.within, length-append bytes more);
   fits = h.fits;
-  text = subst (λ x. IsHeadText limits x fields) (sym (take-append-le n bytes more h.within)) h.text;
+  text = same_lines_of (sym (take-append-le n bytes more h.within)) h.text;
 }
 
 pub refusal_kept : (limits : Limits) (bytes more : List ℕ) (code : ℕ) → IsRefusal limits bytes code → IsRefusal limits (bytes ++ more) code
+unfolding text_as_read
 refusal_kept limits bytes more code (inl h) =
     inl (subst (BreaksLineLimit limits) (sym (take_of_append 65537 bytes more)) (long_kept limits (head_window bytes) (take (65537 - length bytes) more) h.0), h.1)
 refusal_kept limits bytes more code (inr (inl h)) =
@@ -101,24 +104,42 @@ refusal_kept limits bytes more code (inr (inl h)) =
       },
       h.1,
     ))
-refusal_kept limits bytes more code (inr (inr (inl h))) =
-    let same : take h.0.size bytes ≡ take h.0.size (bytes ++ more) = sym (take-append-le h.0.size bytes more h.0.ends.within) in
-    inr (inr (inl (
-      record {
-        size = h.0.size;
-        field_lines = h.0.field_lines;
-        ends = ends_kept limits bytes more h.0.size h.0.field_lines h.0.ends;
-        no_head = subst (λ t. (head : RequestHead) → ¬ (IsHead limits.fields t head)) same h.0.no_head;
-      },
-      h.1,
-    )))
-refusal_kept limits bytes more code (inr (inr (inr h))) =
-    let same : take h.size bytes ≡ take h.size (bytes ++ more) = sym (take-append-le h.size bytes more h.ends.within) in
-    inr (inr (inr (record {
-      size = h.size;
-      field_lines = h.field_lines;
-      head = h.head;
-      ends = ends_kept limits bytes more h.size h.field_lines h.ends;
-      is_head = subst (λ t. IsHead limits.fields t h.head) same h.is_head;
-      says = h.says;
-    })))
+refusal_kept limits bytes more code (inr (inr (inl h))) = inr (inr (inl (
+  record {
+    size = h.0.size;
+    field_lines = h.0.field_lines;
+    ends = ends_kept limits bytes more h.0.size h.0.field_lines h.0.ends;
+    is_other = h.0.is_other;
+  },
+  h.1,
+)))
+refusal_kept limits bytes more code (inr (inr (inr (inl h)))) = inr (inr (inr (inl (
+  record {
+    size = h.0.size;
+    field_lines = h.0.field_lines;
+    ends = ends_kept limits bytes more h.0.size h.0.field_lines h.0.ends;
+    is_one = h.0.is_one;
+    no_head = h.0.no_head;
+  },
+  h.1,
+))))
+refusal_kept limits bytes more code (inr (inr (inr (inr h)))) = inr (inr (inr (inr (record {
+  size = h.size;
+  field_lines = h.field_lines;
+  head = h.head;
+  ends = ends_kept limits bytes more h.size h.field_lines h.ends;
+  is_one = h.is_one;
+  is_head = h.is_head;
+  says = h.says;
+}))))
+
+pub head_kept : (limits : Limits) (bytes more : List ℕ) (request : RequestParts) (n : ℕ) → BeginsHead limits bytes request n → BeginsHead limits (bytes ++ more) request n
+unfolding text_as_read
+head_kept limits bytes more request n h = record {
+  field_lines = h.field_lines;
+  head = h.head;
+  ends = ends_kept limits bytes more n h.field_lines h.ends;
+  is_one = h.is_one;
+  is_head = h.is_head;
+  says = h.says;
+}

@@ -5,10 +5,13 @@ pub mod FieldLemmas
 pub mod TextLemmas
 pub mod WindowLemmas
 pub mod ClassLemmas
+pub mod VersionLemmas
+pub mod PlaceLemmas
 pub mod OneAnswerLemmas
 pub mod KeptLemmas
 pub mod ChunkStepLemmas
 pub mod ChunkLineLemmas
+pub mod TrailerLemmas
 pub mod ChunkedLemmas
 pub mod BodyFormLemmas
 pub mod FeedLemmas
@@ -17,3 +20,6 @@ pub mod ChunkedRuns
 pub mod FormLemmas
 pub mod CutLemmas
 pub mod RequestLemmas
+pub mod DecisionLemmas
+pub mod SomeAnswerLemmas
+pub mod SomeItemsLemmas

@@ -2,12 +2,12 @@
 -- break its form.
 use Rattle.std.specs.Prelude.{◌≡◌, ℕ, ◌+◌, ◌<◌, ◌≤◌, ◌⊎◌, List, [], ◌∷◌, ◌++◌, length, take, All}
 use Rattle.httparse.specs.Ascii.{crlf_bytes}
-use Rattle.httparse.specs.Grammar.{LineEnd, print_end, ChunkLine, print_chunk_line, chunk_size}
+use Rattle.httparse.specs.Grammar.{LineEnd, print_end, Field, ChunkLine, print_chunk_line, chunk_size}
 use Rattle.http_read.specs.declared.request.BodyKind.{BodyKind}
 use Rattle.http_read.specs.declared.request.BodyKind.TheVariants as kind
-use Rattle.http_read.specs.ChunkLines.{IsShortLine, Chunk, print_chunks, content_len, AreChunks, IsChunkLineBegun, BreaksChunkLine}
-use Rattle.http_read.specs.TrailerLines.{IsTrailer, print_trailers, AreTrailers, IsTrailerBegun, IsTrailerTooLong}
-use Rattle.http_read.specs.Sizes.{greatest_body, most_trailers}
+use Rattle.http_read.specs.ChunkLines.{IsShortLine, Chunk, print_chunks, content_len, extension_len, extensions_len, AreChunks, IsChunkLineBegun, BreaksChunkLine}
+use Rattle.http_read.specs.TrailerLines.{IsTrailer, print_trailers, AreTrailers, IsTrailerBegun, IsTrailerTooLong, HasNoTrailer}
+use Rattle.http_read.specs.Sizes.{greatest_body, greatest_extensions, most_trailers}
 
 -- the chunks and the line of the last chunk, which says 0
 pub record IsChunkedData (bytes : List ℕ) : Type 0 where
@@ -16,12 +16,13 @@ pub record IsChunkedData (bytes : List ℕ) : Type 0 where
   pub are_chunks : AreChunks chunks
   pub is_line : IsShortLine last
   pub zero : chunk_size last ≡ 0
+  pub extensions : extensions_len chunks + extension_len last ≤ greatest_extensions
   pub printed : bytes ≡ print_chunks chunks ++ print_chunk_line last
 
 -- a chunked body: the chunks, few enough trailer lines, and an empty line (CRLF or LF)
 pub record IsChunkedBody (bytes : List ℕ) : Type 0 where
   pub before : List ℕ
-  pub trailers : List (List ℕ)
+  pub trailers : List Field
   pub end : LineEnd
   pub is_data : IsChunkedData before
   pub are_trailers : AreTrailers trailers
@@ -59,7 +60,7 @@ pub record EndsInChunk (bytes : List ℕ) : Type 0 where
 -- the bytes end in a trailer line, or in the empty line, that isn't whole
 pub record EndsInTrailer (bytes line : List ℕ) : Type 0 where
   pub before : List ℕ
-  pub trailers : List (List ℕ)
+  pub trailers : List Field
   pub is_data : IsChunkedData before
   pub are_trailers : AreTrailers trailers
   pub begun : IsTrailerBegun line
@@ -85,13 +86,25 @@ pub record BreaksAtLine (bytes : List ℕ) (code : ℕ) : Type 0 where
   pub printed : bytes ≡ print_chunks chunks ++ rest
   pub code_is : code ≡ 400
 
--- the sizes add up to more than the greatest size of a body: 413
+-- the extensions add up to more bytes than those of a body may have: 400
+pub record BreaksAtExtension (bytes : List ℕ) (code : ℕ) : Type 0 where
+  pub chunks : List Chunk
+  pub line : ChunkLine
+  pub rest : List ℕ
+  pub are_chunks : AreChunks chunks
+  pub is_line : IsShortLine line
+  pub above : greatest_extensions < extensions_len chunks + extension_len line
+  pub printed : bytes ≡ print_chunks chunks ++ (print_chunk_line line ++ rest)
+  pub code_is : code ≡ 400
+
+-- the sizes add up to more than the greatest size of a body, and the extensions don't: 413
 pub record BreaksAtSum (bytes : List ℕ) (code : ℕ) : Type 0 where
   pub chunks : List Chunk
   pub line : ChunkLine
   pub rest : List ℕ
   pub are_chunks : AreChunks chunks
   pub is_line : IsShortLine line
+  pub extensions : extensions_len chunks + extension_len line ≤ greatest_extensions
   pub above : greatest_body < content_len chunks + chunk_size line
   pub printed : bytes ≡ print_chunks chunks ++ (print_chunk_line line ++ rest)
   pub code_is : code ≡ 413
@@ -106,13 +119,13 @@ pub record BreaksAtChunkEnd (bytes : List ℕ) (code : ℕ) : Type 0 where
   pub printed : bytes ≡ print_chunks chunks ++ (print_chunk_line chunk.line ++ (chunk.content ++ rest))
   pub code_is : code ≡ 400
 
--- a trailer line is too long, or is one too many: 400
+-- a trailer line is too long, or no field line, or is one too many: 400
 pub record BreaksAtTrailer (bytes : List ℕ) (code : ℕ) : Type 0 where
   pub before : List ℕ
-  pub trailers : List (List ℕ)
+  pub trailers : List Field
   pub rest : List ℕ
   pub is_data : IsChunkedData before
-  pub breaks : (AreTrailers trailers × IsTrailerTooLong rest) ⊎ ((length trailers ≡ most_trailers + 1) × All IsTrailer trailers)
+  pub breaks : (AreTrailers trailers × (IsTrailerTooLong rest ⊎ HasNoTrailer rest)) ⊎ ((length trailers ≡ most_trailers + 1) × All IsTrailer trailers)
   pub printed : bytes ≡ before ++ (print_trailers trailers ++ rest)
   pub code_is : code ≡ 400
 
@@ -120,7 +133,8 @@ pub record BreaksAtTrailer (bytes : List ℕ) (code : ℕ) : Type 0 where
 abbrev pub BreaksChunked : List ℕ → ℕ → Type 0
 BreaksChunked bytes code =
     BreaksAtLine bytes code
-    ⊎ (BreaksAtSum bytes code ⊎ (BreaksAtChunkEnd bytes code ⊎ BreaksAtTrailer bytes code))
+    ⊎ (BreaksAtExtension bytes code
+    ⊎ (BreaksAtSum bytes code ⊎ (BreaksAtChunkEnd bytes code ⊎ BreaksAtTrailer bytes code)))
 
 -- the bytes break the form of a body of that kind, for that code
 abbrev pub BreaksBody : BodyKind → List ℕ → ℕ → Type 0

@@ -2,8 +2,8 @@
 use Rattle.std.specs.Prelude.{◌≡◌, ℕ, ◌<◌, ◌≤◌, ◌⊎◌, List, ◌++◌, length, take, sum_by, All}
 use Rattle.std.specs.List.{flat_map}
 use Rattle.httparse.specs.Ascii.{crlf_bytes}
-use Rattle.httparse.specs.Grammar.{ChunkLine, IsChunkLine, print_chunk_line, chunk_size, HasNoChunkLine, NeverHasChunkLine, MayBecomeChunkLine}
-use Rattle.http_read.specs.Sizes.{greatest_body, greatest_chunk_line}
+use Rattle.httparse.specs.Grammar.{ChunkLine, IsChunkLine, print_extension, print_chunk_line, chunk_size, HasNoChunkLine, NeverHasChunkLine, MayBecomeChunkLine}
+use Rattle.http_read.specs.Sizes.{greatest_body, greatest_chunk_line, greatest_extensions}
 
 -- a chunk line that is short enough with its line end
 pub record IsShortLine (l : ChunkLine) : Type 0 where
@@ -33,10 +33,19 @@ print_chunks chunks = flat_map print_chunk chunks
 abbrev pub content_len : List Chunk → ℕ
 content_len chunks = sum_by (λ (c : Chunk). length c.content) chunks
 
--- chunks whose data is no more than a body may have
+-- how many bytes the extension of a chunk line has, from its semicolon to its CR
+abbrev pub extension_len : ChunkLine → ℕ
+extension_len l = length (print_extension l.extension)
+
+-- how many bytes the extensions of the chunks have in all
+abbrev pub extensions_len : List Chunk → ℕ
+extensions_len chunks = sum_by (λ (c : Chunk). extension_len c.line) chunks
+
+-- chunks whose data and whose extensions are no more than a body may have
 pub record AreChunks (chunks : List Chunk) : Type 0 where
   pub each : All IsChunk chunks
   pub sum : content_len chunks ≤ greatest_body
+  pub extensions : extensions_len chunks ≤ greatest_extensions
 
 -- a chunk line that isn't whole: its end may still come, and it is shorter than a chunk line may be
 pub record IsChunkLineBegun (bytes : List ℕ) : Type 0 where

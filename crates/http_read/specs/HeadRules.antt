@@ -1,11 +1,12 @@
 -- What a head of the grammar says of its request, or the code by which it is refused.
-use Rattle.std.specs.Prelude.{ℕ, Bool, true, false, not, ◌&&◌, ◌||◌, List, [], ◌∷◌, length, Option, Some, None, Result, Ok, Err, if◌then◌else◌, ◌==◌, nat_lt, nat_le, codes}
-use Rattle.std.specs.List.{list_all, list_any}
+use Rattle.std.specs.Prelude.{ℕ, Bool, true, false, not, ◌&&◌, ◌||◌, List, [], ◌∷◌, length, Option, Some, None, Result, Ok, Err, if◌then◌else◌, ◌==◌, nat_lt, codes}
+use Rattle.std.specs.List.{list_all}
 use Rattle.std.specs.Char.{is_ascii_digit}
 use Rattle.std.specs.Str.Parse.{digits_value}
 use Rattle.mpm_base.specs.LetterCase.{is_same_ignoring_case}
 use Rattle.http_read.specs.declared.request.BodyKind.{BodyKind}
 use Rattle.http_read.specs.declared.request.BodyKind.TheVariants as kind
+use Rattle.http_read.specs.Authority.{is_host_value}
 use Rattle.http_read.specs.FieldValues.{values_named, words_of_all, has_word, ends_in_word}
 use Rattle.http_read.specs.RequestParts.{RequestParts}
 use Rattle.http_read.specs.Sizes.{greatest_body}
@@ -15,15 +16,11 @@ abbrev pub unless_refused : {A B : Type 0} → Result A ℕ → (A → Result B 
 unless_refused (Ok answer) next = next answer
 unless_refused (Err code) next = Err code
 
--- a byte that may stand in a Host: visible ASCII, and none of / ? # @ \ (RFC 9110, section 7.2; RFC 3986, section 3.2)
-abbrev pub is_authority_byte : ℕ → Bool
-is_authority_byte b = nat_le 33 b && (nat_le b 126 && not (list_any (λ c. c == b) (codes "/?#@\\")))
-
--- the one Host, 400 where its value has another byte
+-- the one Host, 400 where its value is none (RFC 9110, section 7.2)
 abbrev pub one_host : List ℕ → Result (List ℕ) ℕ
-one_host value = if list_all is_authority_byte value then Ok value else Err 400
+one_host value = if is_host_value value then Ok value else Err 400
 
--- the Host of a request (RFC 9112, section 3.2): 400 in HTTP/1.1 without exactly one, in HTTP/1.0 with more than one, and where the one has another byte; none there is the empty one
+-- the Host of a request (RFC 9112, section 3.2): 400 in HTTP/1.1 without exactly one, in HTTP/1.0 with more than one, and where the value of the one is none; none there is the empty one
 abbrev pub host_in : ℕ → List (List ℕ) → Result (List ℕ) ℕ
 host_in minor [] = if minor == 1 then Err 400 else Ok []
 host_in minor (value ∷ []) = one_host value

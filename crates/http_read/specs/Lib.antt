@@ -3,11 +3,13 @@ pub mod Sizes
 pub mod Spans
 pub mod SpansInside
 pub mod FieldValues
+pub mod Authority
 pub mod HeadRules
 pub mod WordsInside
 pub mod ValuesInside
 pub mod HeadLines
 pub mod FieldLimit
+pub mod Versions
 pub mod LookedAt
 pub mod ExtentsInside
 pub mod Head

@@ -13,7 +13,11 @@ greatest_body = 1073741824
 abbrev pub greatest_chunk_line : ℕ
 greatest_chunk_line = 1024
 
--- a trailer line has at most 8,190 bytes with its line feed
+-- the chunk extensions of a body have at most 16,384 bytes in all
+abbrev pub greatest_extensions : ℕ
+greatest_extensions = 16384
+
+-- a trailer line has at most 8,190 bytes with its line end
 abbrev pub greatest_trailer : ℕ
 greatest_trailer = 8190
 

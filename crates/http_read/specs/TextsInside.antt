@@ -1,10 +1,13 @@
 -- What is said of a text that ends as a head does.
-use Rattle.std.specs.Prelude.{◌≡◌, ℕ, ◌⊎◌, Bool, List, length, Result, Ok, Err, ⊤}
+use Rattle.std.specs.Prelude.{◌≡◌, ℕ, ◌<◌, ◌⊎◌, Bool, List, length, slice_set, Result, Ok, Err, ⊤}
 use Rattle.httparse.specs.declared.spans.RequestSpans.{RequestSpans}
 use Rattle.httparse.specs.Grammar.{RequestHead}
 use Rattle.httparse.specs.Spans.{span_bytes}
 use Rattle.http_read.specs.declared.head.HeadAnswer.{HeadAnswer}
 use Rattle.http_read.specs.declared.head.HeadAnswer.TheVariants as answer
+use Rattle.http_read.specs.declared.head_reader.Noted.{Noted}
+use Rattle.http_read.specs.declared.version.Version.{Version}
+use Rattle.http_read.specs.declared.version.Version.TheVariants as version
 use Rattle.http_read.specs.RequestParts.{RequestParts}
 use Rattle.http_read.specs.HeadRules.{said_by}
 use Rattle.http_read.specs.Head.{IsHead, head_says}
@@ -33,3 +36,19 @@ TextIs most long text answer.More = ⊥
 TextIs most long text (answer.Refused code) =
     (((head : RequestHead) → ¬ (IsHead most text head)) × (code ≡ 400)) ⊎ IsSaidHead most long text (Err code)
 TextIs most long text answer.NoMemory = ⊤
+
+-- the digit of the version that is read as 1 stands in the text
+abbrev pub IsWithinText : Version → List ℕ → Type 0
+IsWithinText version.Written text = ⊤
+IsWithinText (version.Later digit) text = digit < length text
+IsWithinText version.Other text = ⊤
+
+-- the answer is what the text says where its version is read so
+abbrev pub ReadsBy : ℕ → Bool → Version → List ℕ → HeadAnswer → Type 0
+ReadsBy most long version.Written text given = TextIs most long text given
+ReadsBy most long (version.Later digit) text given = TextIs most long (slice_set text digit 49) given
+ReadsBy most long version.Other text given = given ≡ answer.Refused 505
+
+-- the same by what is noted of its lines
+abbrev pub ReadsText : ℕ → Noted → List ℕ → HeadAnswer → Type 0
+ReadsText most noted text given = ReadsBy most noted.long noted.version text given

@@ -27,13 +27,17 @@ pub enum BodyPlace {
     Plain(u64),
     /// In a chunked body.
     Chunked(ChunkedPlace),
+    /// Behind a whole body.
+    Ended,
+    /// Behind bytes that aren't one: the code of the response.
+    Broken(u16),
 }
 
 /// Reads a body as its bytes come, and keeps none of them.
 ///
 /// Each call of `feed` gets the bytes behind those that the earlier calls took. Of a chunk line or a trailer line that
 /// isn't whole none are taken, and the next call gets them again, with more behind them; the reader remembers how far it
-/// has looked into them.
+/// has looked into them. Behind the end of a body it takes no byte, and answers so again.
 #[derive(Clone, Copy, Debug)]
 pub struct BodyReader {
     place: BodyPlace,
@@ -71,23 +75,31 @@ impl BodyReader {
         ensures { result ≡ begun_len self.now }
     {
         match self.place {
-            BodyPlace::Plain(_) => 0,
             BodyPlace::Chunked(place) => place.begun(),
+            BodyPlace::Plain(_) | BodyPlace::Ended | BodyPlace::Broken(_) => 0,
         }
     }
 
-    /// Reads on: the bytes are all that came behind those that were taken.
+    /// Reads on: the bytes are all that came behind those that were taken. Behind the end of a body none are taken, and what
+    /// is no body stays none.
     pub fn feed(&mut self, bytes: &[u8]) -> BodyAnswer
         requires { begun_len self.old ≤ length bytes.now }
         ensures counts { CountsBytes (length bytes.now) result self.new }
         ensures body { (kind : BodyKind) (past : List ℕ)
             → StandsAt kind (past ++ take (begun_len self.old) bytes.now) self.old
             → AnswersBody kind past bytes.now result self.new }
+        ensures done { (n : ℕ) → result ≡ BodyAnswer.Done n → self.new ≡ BodyPlace.Ended }
+        ensures ended { self.old ≡ BodyPlace.Ended → result ≡ BodyAnswer.Done 0 }
+        ensures bad { (code : ℕ) → result ≡ BodyAnswer.Bad code
+            → self.new ≡ BodyPlace.Broken code }
+        ensures broken { (code : ℕ) → self.old ≡ BodyPlace.Broken code
+            → result ≡ BodyAnswer.Bad code }
     {
         match self.place {
             BodyPlace::Plain(left) => {
                 let len = bytes.len() as u64;
                 if left <= len {
+                    self.place = BodyPlace::Ended;
                     return BodyAnswer::Done(left);
                 }
                 self.place = BodyPlace::Plain(left - len);
@@ -98,9 +110,17 @@ impl BodyReader {
                     self.place = BodyPlace::Chunked(place);
                     BodyAnswer::Took((bytes.len() - place.begun()) as u64)
                 }
-                (ChunkedMove::Done, at) => BodyAnswer::Done(at as u64),
-                (ChunkedMove::Bad(code), _) => BodyAnswer::Bad(code),
+                (ChunkedMove::Done, at) => {
+                    self.place = BodyPlace::Ended;
+                    BodyAnswer::Done(at as u64)
+                }
+                (ChunkedMove::Bad(code), _) => {
+                    self.place = BodyPlace::Broken(code);
+                    BodyAnswer::Bad(code)
+                }
             },
+            BodyPlace::Ended => BodyAnswer::Done(0),
+            BodyPlace::Broken(code) => BodyAnswer::Bad(code),
         }
     }
 }

@@ -1,5 +1,5 @@
 //! A chunk line (RFC 9112, section 7.1), byte by byte: each byte is looked at once.
-ghost use Rattle.std.specs.Prelude.{◌≡◌, ◌+◌, ◌<◌};
+ghost use Rattle.std.specs.Prelude.{◌≡◌, ◌+◌, ◌<◌, ◌≤◌};
 ghost use Rattle.http_read.specs.ChunkStepsInside.{first_front, line_step, digit_step, pad_step, extension_step, longer, IsSmallLineMove};
 ghost use Rattle.http_read.specs.BodyPlacesInside.{IsSmallFront, IsSmallSize};
 ghost use Rattle.http_read.specs.Sizes.{greatest_chunk_line};
@@ -27,6 +27,8 @@ pub struct ChunkLineFront {
     pub len: u32,
     /// What its digits write, as far as they came.
     pub size: u64,
+    /// How many bytes its extension has so far, from the semicolon on.
+    pub extension: u32,
     /// What it ends in.
     pub part: ChunkLinePart,
 }
@@ -36,8 +38,8 @@ pub struct ChunkLineFront {
 pub enum ChunkLineMove {
     /// A longer front.
     Front(ChunkLineFront),
-    /// A whole line, which writes this size.
-    Whole(u64),
+    /// A whole line, which writes this size and has an extension of so many bytes.
+    Whole(u64, u32),
     /// What no chunk line begins with, or only one that is too long.
     Broken,
 }
@@ -53,6 +55,7 @@ impl ChunkLineFront {
         ChunkLineFront {
             len: 0,
             size: 0,
+            extension: 0,
             part: ChunkLinePart::Digits,
         }
     }
@@ -69,7 +72,7 @@ impl ChunkLineFront {
             ChunkLinePart::Extension => self.step_extension(byte),
             ChunkLinePart::CarriageReturn => {
                 if byte == b'\n' {
-                    ChunkLineMove::Whole(self.size)
+                    ChunkLineMove::Whole(self.size, self.extension)
                 } else {
                     ChunkLineMove::Broken
                 }
@@ -88,7 +91,7 @@ impl ChunkLineFront {
                     return ChunkLineMove::Broken;
                 }
                 let size = self.size * 16 + digit;
-                self.longer(size, ChunkLinePart::Digits)
+                self.longer(size, 0, ChunkLinePart::Digits)
             }
             None => {
                 if self.len == 0 {
@@ -106,35 +109,42 @@ impl ChunkLineFront {
         ensures small { IsSmallLineMove self.len result }
     {
         match byte {
-            b' ' | b'\t' => self.longer(self.size, ChunkLinePart::Pad),
-            b';' => self.longer(self.size, ChunkLinePart::Extension),
-            b'\r' => self.longer(self.size, ChunkLinePart::CarriageReturn),
+            b' ' | b'\t' => self.longer(self.size, 0, ChunkLinePart::Pad),
+            b';' => self.longer(self.size, 1, ChunkLinePart::Extension),
+            b'\r' => self.longer(self.size, 0, ChunkLinePart::CarriageReturn),
             _ => ChunkLineMove::Broken,
         }
     }
 
     fn step_extension(self, byte: u8) -> ChunkLineMove
-        requires { self.len < greatest_chunk_line }
+        requires len { self.len < greatest_chunk_line }
+        requires extension { self.extension ≤ self.len }
         ensures step { result ≡ extension_step self byte }
         ensures small { IsSmallLineMove self.len result }
     {
         match byte {
-            b'\r' => self.longer(self.size, ChunkLinePart::CarriageReturn),
+            b'\r' => self.longer(self.size, self.extension, ChunkLinePart::CarriageReturn),
             b'\n' => ChunkLineMove::Broken,
-            _ => self.longer(self.size, ChunkLinePart::Extension),
+            _ => self.longer(self.size, self.extension + 1, ChunkLinePart::Extension),
         }
     }
 
     /// The front with one more byte, unless the line is too long then.
-    fn longer(self, size: u64, part: ChunkLinePart) -> ChunkLineMove
+    fn longer(self, size: u64, extension: u32, part: ChunkLinePart) -> ChunkLineMove
         requires len { self.len < greatest_chunk_line }
         requires size { IsSmallSize part (self.len + 1) size }
-        ensures step { result ≡ longer self size part }
+        requires extension { extension ≤ self.len + 1 }
+        ensures step { result ≡ longer self size extension part }
         ensures small { IsSmallLineMove self.len result }
     {
         let len = self.len + 1;
         if len < GREATEST_CHUNK_LINE {
-            ChunkLineMove::Front(ChunkLineFront { len, size, part })
+            ChunkLineMove::Front(ChunkLineFront {
+                len,
+                size,
+                extension,
+                part,
+            })
         } else {
             ChunkLineMove::Broken
         }

@@ -1,29 +1,37 @@
 //! A chunked body (RFC 9112, section 7.1): where in it a reader stands, and what further bytes make of that.
 ghost use Rattle.std.specs.Prelude.{◌≡◌, ℕ, ◌+◌, ◌<◌, ◌≤◌, length, drop};
-ghost use Rattle.http_read.specs.ChunkStepsInside.{first_place, chunked_step, behind_line, trailer_step, behind_trailer, run, run_on, outcome_of, move_begun_len, IsSmallMove, IsSmallLineMove};
+ghost use Rattle.http_read.specs.ChunkStepsInside.{first_place, chunked_step, behind_whole, behind_line, behind_trailer, run, run_on, outcome_of, move_begun_len, IsSmallMove, IsSmallLineMove, IsSmallTrailerMove};
 ghost use Rattle.http_read.specs.BodyPlaces.{chunked_begun_len};
-ghost use Rattle.http_read.specs.BodyPlacesInside.{IsSmallChunked};
-ghost use Rattle.http_read.specs.Sizes.{greatest_body, greatest_trailer};
+ghost use Rattle.http_read.specs.BodyPlacesInside.{AreSmallTotals, IsSmallChunked};
+ghost use Rattle.http_read.specs.Sizes.{most_trailers};
 
 use crate::chunk_line::{ChunkLineFront, ChunkLineMove};
 use crate::codes::{BAD_REQUEST, CONTENT_TOO_LARGE};
-use crate::sizes::{GREATEST_BODY, GREATEST_TRAILER, MOST_TRAILERS};
+use crate::sizes::{GREATEST_BODY, GREATEST_EXTENSIONS, MOST_TRAILERS};
+use crate::trailer_line::{TrailerFront, TrailerMove};
+
+/// What the chunks have in all.
+#[derive(Clone, Copy, Debug, PartialEq, Eq)]
+pub struct ChunkTotals {
+    /// How many bytes of data.
+    pub content: u64,
+    /// How many bytes of extensions.
+    pub extensions: u32,
+}
 
 /// Where in a chunked body the reader stands.
 #[derive(Clone, Copy, Debug, PartialEq, Eq)]
 pub enum ChunkedPlace {
-    /// In a chunk line, or right before one: how many bytes of data the chunks before it have, and the line's front.
-    Line(u64, ChunkLineFront),
-    /// Behind the line of a chunk: how many bytes of data the chunks have, this one included, and how many of these are
-    /// to come. Its CRLF comes behind them.
-    Data(u64, u64),
-    /// Between the CR and the LF behind the data of a chunk: how many bytes of data the chunks have.
-    DataLineFeed(u64),
-    /// In a line behind the last chunk, or right before one: how many trailer lines there are before it, and how many
-    /// bytes of it.
-    Trailer(u32, u32),
-    /// Behind a CR that begins a line behind the last chunk: how many trailer lines there are before it.
-    LastLineFeed(u32),
+    /// In a chunk line, or right before one: what the chunks before it have, and the line's front.
+    Line(ChunkTotals, ChunkLineFront),
+    /// Behind the line of a chunk: what the chunks have, this one included, and how many bytes of its data are to come. Its
+    /// CRLF comes behind them.
+    Data(ChunkTotals, u64),
+    /// Between the CR and the LF behind the data of a chunk: what the chunks have.
+    DataLineFeed(ChunkTotals),
+    /// In a line behind the last chunk, or right before one: how many trailer lines there are before it, and the line's
+    /// front.
+    Trailer(u32, TrailerFront),
 }
 
 /// What further bytes make of a chunked body.
@@ -42,7 +50,11 @@ impl ChunkedPlace {
     pub(crate) fn first() -> ChunkedPlace
         ensures { result ≡ first_place }
     {
-        ChunkedPlace::Line(0, ChunkLineFront::first())
+        let totals = ChunkTotals {
+            content: 0,
+            extensions: 0,
+        };
+        ChunkedPlace::Line(totals, ChunkLineFront::first())
     }
 
     /// How many bytes of a line that isn't whole were looked at.
@@ -51,8 +63,7 @@ impl ChunkedPlace {
     {
         match self {
             ChunkedPlace::Line(_, front) => front.len as usize,
-            ChunkedPlace::Trailer(_, len) => len as usize,
-            ChunkedPlace::LastLineFeed(_) => 1,
+            ChunkedPlace::Trailer(_, front) => front.len as usize,
             ChunkedPlace::Data(_, _) | ChunkedPlace::DataLineFeed(_) => 0,
         }
     }
@@ -65,31 +76,24 @@ impl ChunkedPlace {
         ensures begun { move_begun_len result ≤ chunked_begun_len self + 1 }
     {
         match self {
-            ChunkedPlace::Line(sum, front) => behind_line(sum, front.step(byte)),
-            ChunkedPlace::Data(sum, left) => {
+            ChunkedPlace::Line(totals, front) => behind_line(totals, front.step(byte)),
+            ChunkedPlace::Data(totals, left) => {
                 if left > 0 {
-                    ChunkedMove::On(ChunkedPlace::Data(sum, left - 1))
+                    ChunkedMove::On(ChunkedPlace::Data(totals, left - 1))
                 } else if byte == b'\r' {
-                    ChunkedMove::On(ChunkedPlace::DataLineFeed(sum))
+                    ChunkedMove::On(ChunkedPlace::DataLineFeed(totals))
                 } else {
                     ChunkedMove::Bad(BAD_REQUEST)
                 }
             }
-            ChunkedPlace::DataLineFeed(sum) => {
+            ChunkedPlace::DataLineFeed(totals) => {
                 if byte == b'\n' {
-                    ChunkedMove::On(ChunkedPlace::Line(sum, ChunkLineFront::first()))
+                    ChunkedMove::On(ChunkedPlace::Line(totals, ChunkLineFront::first()))
                 } else {
                     ChunkedMove::Bad(BAD_REQUEST)
                 }
             }
-            ChunkedPlace::Trailer(count, len) => step_trailer(count, len, byte),
-            ChunkedPlace::LastLineFeed(count) => {
-                if byte == b'\n' {
-                    ChunkedMove::Done
-                } else {
-                    ChunkedMove::On(ChunkedPlace::Trailer(count, 2))
-                }
-            }
+            ChunkedPlace::Trailer(count, front) => behind_trailer(count, front.step(byte)),
         }
     }
 
@@ -103,11 +107,11 @@ impl ChunkedPlace {
         ensures begun { move_begun_len result.0 ≤ chunked_begun_len self + result.1 }
         ensures runs { run bytes.now self ≡ run_on result.0 (drop result.1 bytes.now) }
     {
-        if let ChunkedPlace::Data(sum, left) = self {
+        if let ChunkedPlace::Data(totals, left) = self {
             if left > 0 {
                 let count = left.min(bytes.len() as u64);
                 return (
-                    ChunkedMove::On(ChunkedPlace::Data(sum, left - count)),
+                    ChunkedMove::On(ChunkedPlace::Data(totals, left - count)),
                     count as usize,
                 );
             }
@@ -116,56 +120,56 @@ impl ChunkedPlace {
     }
 }
 
-/// What a chunk line's next byte makes of the body, where the chunks before it have so many bytes of data.
-fn behind_line(sum: u64, line: ChunkLineMove) -> ChunkedMove
-    requires { sum ≤ greatest_body }
-    ensures step { result ≡ behind_line sum line }
+/// What a chunk line's next byte makes of the body, where the chunks before it have this in all.
+fn behind_line(totals: ChunkTotals, line: ChunkLineMove) -> ChunkedMove
+    requires { AreSmallTotals totals }
+    ensures step { result ≡ behind_line totals line }
     ensures small { (len : ℕ) → IsSmallLineMove len line
         → IsSmallMove result × (move_begun_len result ≤ len + 1) }
 {
     match line {
-        ChunkLineMove::Front(front) => ChunkedMove::On(ChunkedPlace::Line(sum, front)),
-        ChunkLineMove::Whole(size) => {
-            if size == 0 {
-                ChunkedMove::On(ChunkedPlace::Trailer(0, 0))
-            } else if size > GREATEST_BODY - sum {
-                ChunkedMove::Bad(CONTENT_TOO_LARGE)
-            } else {
-                ChunkedMove::On(ChunkedPlace::Data(sum + size, size))
-            }
-        }
+        ChunkLineMove::Front(front) => ChunkedMove::On(ChunkedPlace::Line(totals, front)),
+        ChunkLineMove::Whole(size, extension) => behind_whole(totals, size, extension),
         ChunkLineMove::Broken => ChunkedMove::Bad(BAD_REQUEST),
     }
 }
 
-/// What the next byte makes of a line behind the last chunk.
-fn step_trailer(count: u32, len: u32, byte: u8) -> ChunkedMove
-    requires { len < greatest_trailer }
-    ensures { result ≡ trailer_step count len byte }
+/// What a whole chunk line makes of it, which writes this size and has an extension of so many bytes.
+fn behind_whole(totals: ChunkTotals, size: u64, extension: u32) -> ChunkedMove
+    requires { AreSmallTotals totals }
+    ensures step { result ≡ behind_whole totals size extension }
+    ensures small { IsSmallMove result }
+    ensures begun { move_begun_len result ≡ 0 }
 {
-    if byte == b'\n' {
-        if len == 0 {
-            ChunkedMove::Done
-        } else {
-            behind_trailer(count)
-        }
-    } else if len == 0 && byte == b'\r' {
-        ChunkedMove::On(ChunkedPlace::LastLineFeed(count))
-    } else if len + 1 < GREATEST_TRAILER {
-        ChunkedMove::On(ChunkedPlace::Trailer(count, len + 1))
-    } else {
+    if extension > GREATEST_EXTENSIONS - totals.extensions {
         ChunkedMove::Bad(BAD_REQUEST)
+    } else if size == 0 {
+        ChunkedMove::On(ChunkedPlace::Trailer(0, TrailerFront::first()))
+    } else if size > GREATEST_BODY - totals.content {
+        ChunkedMove::Bad(CONTENT_TOO_LARGE)
+    } else {
+        let totals = ChunkTotals {
+            content: totals.content + size,
+            extensions: totals.extensions + extension,
+        };
+        ChunkedMove::On(ChunkedPlace::Data(totals, size))
     }
 }
 
-/// What one more trailer line makes of the body.
-fn behind_trailer(count: u32) -> ChunkedMove
-    ensures { result ≡ behind_trailer count }
+/// What the next byte of a line behind the last chunk makes of the body, behind so many trailer lines.
+fn behind_trailer(count: u32, line: TrailerMove) -> ChunkedMove
+    requires { count ≤ most_trailers }
+    ensures step { result ≡ behind_trailer count line }
+    ensures small { (len : ℕ) → IsSmallTrailerMove len line
+        → IsSmallMove result × (move_begun_len result ≤ len + 1) }
 {
-    if count < MOST_TRAILERS {
-        ChunkedMove::On(ChunkedPlace::Trailer(count + 1, 0))
-    } else {
-        ChunkedMove::Bad(BAD_REQUEST)
+    match line {
+        TrailerMove::Front(front) => ChunkedMove::On(ChunkedPlace::Trailer(count, front)),
+        TrailerMove::Field if count < MOST_TRAILERS => {
+            ChunkedMove::On(ChunkedPlace::Trailer(count + 1, TrailerFront::first()))
+        }
+        TrailerMove::Empty => ChunkedMove::Done,
+        TrailerMove::Field | TrailerMove::Broken => ChunkedMove::Bad(BAD_REQUEST),
     }
 }
 

@@ -14,3 +14,6 @@ pub(crate) const EXPECTATION_FAILED: u16 = 417;
 
 /// The body is coded otherwise before it is chunked.
 pub(crate) const NOT_IMPLEMENTED: u16 = 501;
+
+/// The first line names another major version than 1.
+pub(crate) const HTTP_VERSION_NOT_SUPPORTED: u16 = 505;

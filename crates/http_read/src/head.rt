@@ -57,10 +57,16 @@ impl HeadReader {
             Extent::LongLine => HeadAnswer::Refused(URI_TOO_LONG),
             Extent::TooLarge => HeadAnswer::Refused(BAD_REQUEST),
             Extent::Unended => HeadAnswer::More,
-            Extent::Ends(end, long) => read_head(alloc, &bytes[..end], &self.limits, long),
+            Extent::Ends(end, noted) => read_head(alloc, &bytes[..end], &self.limits, noted),
         }
     }
 }
+
+/// All bytes have an answer beside want of memory.
+pub fn some_answer()
+    ensures { (limits : Limits) (bytes : List ℕ)
+        → (answer : HeadAnswer) × HeadIs limits bytes answer × (answer ≢ HeadAnswer.NoMemory) }
+{}
 
 /// No bytes have two answers.
 pub fn one_answer()

@@ -1,13 +1,14 @@
 //! A reader of heads that remembers how far it has looked, so that their end is looked for at each byte once, however they
 //! are cut.
-ghost use Rattle.std.specs.Prelude.{◌≡◌, ◌+◌, ◌≤◌, ◌<◌, [], ◌++◌, ◌∷◌, length, take, get_or};
-ghost use Rattle.http_read.specs.HeadLines.{line_len};
+ghost use Rattle.std.specs.Prelude.{◌≡◌, ◌+◌, ◌≤◌, ◌<◌, ◌^◌, [], ◌++◌, ◌∷◌, length, take};
 ghost use Rattle.http_read.specs.LookedAt.{HasLookedAt};
 ghost use Rattle.http_read.specs.ExtentsInside.{IsFeedAt, LooksForEnd, AddsLine, SaysUnended};
 ghost use Rattle.http_read.specs.Sizes.{greatest_head};
 
+use crate::lines::line_len;
 use crate::request::Limits;
 use crate::sizes::GREATEST_HEAD;
+use crate::version::{Version, version_at};
 use memchr::memchr;
 
 /// Reads the head at the front of bytes that come piece by piece.
@@ -20,8 +21,17 @@ pub struct HeadReader {
     looked: usize,
     /// The first line is whole.
     begun: bool,
+    /// What is to be known of the lines that are whole.
+    noted: Noted,
+}
+
+/// What is to be known of the lines of a head beside where they end.
+#[derive(Clone, Copy, Debug, PartialEq, Eq)]
+pub(crate) struct Noted {
     /// A field line is longer than its limit.
-    long: bool,
+    pub long: bool,
+    /// How the version in the first line is read.
+    pub version: Version,
 }
 
 /// How far the head at the front of the bytes goes.
@@ -33,8 +43,8 @@ pub(crate) enum Extent {
     TooLarge,
     /// More bytes have to come.
     Unended,
-    /// It ends behind so many bytes, and whether one of its field lines is longer than its limit.
-    Ends(usize, bool),
+    /// It ends behind so many bytes, and this is to be known of its lines.
+    Ends(usize, Noted),
 }
 
 /// What one more line does.
@@ -46,16 +56,6 @@ pub(crate) enum Added {
     Ends,
     /// It is a first line longer than its limit.
     LongLine,
-}
-
-/// How long the line is without a CR at its end.
-fn line_len(line: &[u8]) -> usize
-    ensures { result ≡ line_len line.now }
-{
-    match line {
-        [.., last] if *last == b'\r' => line.len() - 1,
-        _ => line.len(),
-    }
 }
 
 /// Where the first line feed stands.
@@ -76,7 +76,10 @@ impl HeadReader {
             line: 0,
             looked: 0,
             begun: false,
-            long: false,
+            noted: Noted {
+                long: false,
+                version: Version::Written,
+            },
         }
     }
 
@@ -87,19 +90,22 @@ impl HeadReader {
         self.looked
     }
 
-    /// Takes in the text of a whole line.
-    fn add_line(&mut self, text: usize) -> Added
-        ensures { AddsLine self.old text result self.new }
+    /// Takes in a whole line, which stands behind the lines before it.
+    fn add_line(&mut self, line: &[u8]) -> Added
+        requires { self.old.line + length line.now < 2 ^ 64 }
+        ensures { AddsLine self.old line.now result self.new }
     {
+        let text = line_len(line);
         if text == 0 {
             return if self.begun { Added::Ends } else { Added::Goes };
         }
         if self.begun {
-            self.long = self.long || text > self.limits.field as usize;
+            self.noted.long = self.noted.long || text > self.limits.field as usize;
         } else if text > self.limits.line as usize {
             return Added::LongLine;
         } else {
             self.begun = true;
+            self.noted.version = version_at(self.line, line);
         }
         Added::Goes
     }
@@ -117,9 +123,9 @@ impl HeadReader {
     {
         while let Some(feed) = find_feed(&window[self.looked..]) {
             let end = self.looked + feed;
-            match self.add_line(line_len(&window[self.line..end])) {
+            match self.add_line(&window[self.line..end]) {
                 Added::Goes => {}
-                Added::Ends if end < GREATEST_HEAD => return Extent::Ends(end + 1, self.long),
+                Added::Ends if end < GREATEST_HEAD => return Extent::Ends(end + 1, self.noted),
                 Added::Ends => return Extent::TooLarge,
                 Added::LongLine => return Extent::LongLine,
             }

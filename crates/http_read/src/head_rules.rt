@@ -1,11 +1,11 @@
 //! What a head of the grammar says, by the rules of RFC 9110 and RFC 9112, or the code by which it is refused.
 ghost use Rattle.std.specs.Prelude.{◌≡◌, length, All, codes};
-ghost use Rattle.std.specs.List.{list_all};
 ghost use Rattle.httparse.specs.Spans.{IsHeaderWithin};
 ghost use Rattle.http_read.specs.FieldValues.{words_of_all};
-ghost use Rattle.http_read.specs.HeadRules.{is_authority_byte, host_in, length_of, coded_body, transfer_body, sized_body, body_of, has_content, expects_of, asks_close, range_in};
+ghost use Rattle.http_read.specs.HeadRules.{host_in, length_of, coded_body, transfer_body, sized_body, body_of, has_content, expects_of, asks_close, range_in};
 ghost use Rattle.http_read.specs.ValuesInside.{AreValues, IsHostAt, IsRangeAt, values_in};
 
+use crate::authority::is_host_value;
 use crate::codes::{BAD_REQUEST, CONTENT_TOO_LARGE, EXPECTATION_FAILED, NOT_IMPLEMENTED};
 use crate::request::BodyKind;
 use crate::request_fields::{Values, fields_end_in_word, fields_have_word, values_of};
@@ -22,26 +22,9 @@ pub(crate) fn host_in(head: &[u8], minor: u8, headers: &[HeaderSpan]) -> Result<
     match values_of(head, headers, b"host") {
         Values::Absent if minor == 1 => Err(BAD_REQUEST),
         Values::Absent => Ok(Span { start: 0, end: 0 }),
-        Values::One(span) if is_authority(span.of(head)) => Ok(span),
+        Values::One(span) if is_host_value(span.of(head)) => Ok(span),
         _ => Err(BAD_REQUEST),
     }
-}
-
-fn is_authority(value: &[u8]) -> bool
-    ensures { result ≡ list_all is_authority_byte value.now }
-{
-    for b in value {
-        if !is_authority_byte(*b) {
-            return false;
-        }
-    }
-    true
-}
-
-fn is_authority_byte(b: u8) -> bool
-    ensures { result ≡ is_authority_byte b }
-{
-    b >= 33 && b <= 126 && b != b'/' && b != b'?' && b != b'#' && b != b'@' && b != b'\\'
 }
 
 /// The body of the request.

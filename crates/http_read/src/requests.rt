@@ -7,6 +7,13 @@ ghost use Rattle.http_read.specs.Requests.{ReadRefusal, SpellsRequests, AreItems
 use crate::body::{keeps_form, one_form};
 use crate::head::{keeps_answer, one_answer};
 
+/// All bytes spell a list of requests, with a refusal or none behind them, and leave some rest.
+pub fn some_spelling()
+    ensures { (limits : Limits) (bytes : List ℕ)
+        → (requests : List (RequestParts × ℕ)) × (refusal : Option ReadRefusal)
+        × (rest : List ℕ) × AreItems limits bytes requests refusal rest }
+{}
+
 /// Bytes spell one list of requests, at most one refusal behind them, and leave one rest.
 pub fn one_spelling()
     ensures requests { (limits : Limits) (bytes : List ℕ)

@@ -1,12 +1,14 @@
 //! The head of a request whose end was found.
-ghost use Rattle.std.specs.Prelude.{length, map, All};
+ghost use Rattle.std.specs.Prelude.{◌<◌, length, map, slice_set, All};
 ghost use Rattle.httparse.specs.Spans.{IsHeaderWithin, IsWithin, header_bytes};
-ghost use Rattle.http_read.specs.TextsInside.{TextIs, IsSaid};
+ghost use Rattle.http_read.specs.TextsInside.{IsWithinText, ReadsText, TextIs, IsSaid};
 
-use crate::codes::BAD_REQUEST;
+use crate::codes::{BAD_REQUEST, HTTP_VERSION_NOT_SUPPORTED};
 use crate::head::HeadAnswer;
+use crate::head_reader::Noted;
 use crate::head_rules::{asks_close, body_of, expects_of, host_in, range_in};
 use crate::request::{Limits, Request};
+use crate::version::Version;
 use httparse::Status;
 use httparse::spans::{EMPTY_HEADER_SPAN, HeaderSpan, RequestSpans, parse_request};
 use std::alloc::Global;
@@ -14,8 +16,34 @@ use std::alloc::Global;
 /// Up to so many fields need no memory while they are read.
 const USUAL_FIELDS: usize = 100;
 
+/// Reads a text that ends as a head does, of whose lines this is noted.
+pub(crate) fn read_head(alloc: Global, text: &[u8], limits: &Limits, noted: Noted) -> HeadAnswer
+    requires { IsWithinText noted.version text.now }
+    ensures { ReadsText limits.now.fields noted text.now result }
+{
+    match noted.version {
+        Version::Written => read_text(alloc, text, limits, noted.long),
+        Version::Later(digit) => read_later(alloc, text, limits, noted.long, digit),
+        Version::Other => HeadAnswer::Refused(HTTP_VERSION_NOT_SUPPORTED),
+    }
+}
+
+/// Reads the text with 1 as the last digit of its version, which stands there.
+fn read_later(alloc: Global, text: &[u8], limits: &Limits, long: bool, digit: usize) -> HeadAnswer
+    requires { digit < length text.now }
+    ensures { TextIs limits.now.fields long (slice_set text.now digit 49) result }
+{
+    match Vec::from_slice(alloc, text) {
+        Ok(mut copy) => {
+            copy[digit] = b'1';
+            read_text(alloc, &copy, limits, long)
+        }
+        Err(_) => HeadAnswer::NoMemory,
+    }
+}
+
 /// Reads a text that ends as a head does; `long` says whether one of its field lines is longer than its limit.
-pub(crate) fn read_head(alloc: Global, text: &[u8], limits: &Limits, long: bool) -> HeadAnswer
+fn read_text(alloc: Global, text: &[u8], limits: &Limits, long: bool) -> HeadAnswer
     ensures { TextIs limits.now.fields long text.now result }
 {
     let most = limits.fields as usize;

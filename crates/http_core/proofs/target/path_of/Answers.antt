@@ -9,4 +9,4 @@ pub returns-then-has_scheme : goal.returns-then-has_scheme
 returns-then-has_scheme c =
     c.path_behind.ensures
     ∙ ap path_behind (c.before_byte-then-has_scheme.ensures ∙ ap (before_first begins_query) (take_rest c.args.target.now 7))
-    ∙ sym (absolute_path c.args.target.now (sym c.begins_path.ensures ∙ c.if-begins_path.false) (sym c.has_scheme.ensures ∙ c.if-has_scheme.true))
+    ∙ sym (absolute_path c.args.target.now (sym c.has_fragment.ensures ∙ c.if-has_fragment.false) (sym c.begins_path.ensures ∙ c.if-begins_path.false) (sym c.has_scheme.ensures ∙ c.if-has_scheme.true))

@@ -1,10 +1,22 @@
-use Rattle.std.proofs.Common.{◌≡◌, Bool, Some, None, inl, inr, subst}
+use Rattle.std.proofs.Common.{◌≡◌, Bool, Some, None, IfSome, inl, inr, sym, subst}
 use Rattle.http_read.specs.RequestParts.{RequestParts}
-use Rattle.http_core.specs.Ask.{plan_for}
+use Rattle.http_core.specs.Ask.{IsServedOf, plan_for}
 use Rattle.conn_state.specs.Replies.{IsResponse}
 use Rattle.conn_state.specs.Outgoing.{IsUnsentOf, pending_bytes}
-use Rattle.conn_state.proofs.AnswerLemmas.{held-answered, takes-note}
+use Rattle.conn_state.proofs.AnswerLemmas.{ready, served-of, held-answered, held-lost, takes-note}
 use Rattle.conn_state.proofs.conn.Conn.answer.Goals as goal
+
+pub take_note-requires-clause-served : goal.take_note-requires-clause-served
+take_note-requires-clause-served g c =
+    let r = ready _ _ c.args.self.now c.self.inside.plan c.self.inside.unsent c.args.note c.self.invariant c.self.view_is c.requires.asked c.requires.not_shut in
+    subst (λ st. IfSome c.self.inside.plan (λ p. IsServedOf st p.served)) (sym c.deref.ensures)
+    (served-of c.self.inside.site.value c.self.inside.reader.stage r.ask c.self.inside.plan r.planned)
+
+pub invariant_of-self-in-Err : goal.invariant_of-self-in-Err
+invariant_of-self-in-Err g c =
+    let r = ready _ _ c.args.self.now c.self.inside.plan c.self.inside.unsent c.args.note c.self.invariant c.self.view_is c.requires.asked c.requires.not_shut in
+    rw c.in-Err.ensures.err
+    (held-lost c.follows_what_was_read.ensures.may _ _ c.self.inside.plan c.self.inside.unsent c.args.note c.self.invariant r)
 
 pub invariant_of-self : goal.invariant_of-self
 invariant_of-self g c =

@@ -47,3 +47,7 @@ returns-in-ExpectationFailed c = sym (ap code_text c.in-ExpectationFailed.is)
 pub returns-in-NotImplemented : goal.returns-in-NotImplemented
 unfolding digits
 returns-in-NotImplemented c = sym (ap code_text c.in-NotImplemented.is)
+
+pub returns-in-HttpVersionNotSupported : goal.returns-in-HttpVersionNotSupported
+unfolding digits
+returns-in-HttpVersionNotSupported c = sym (ap code_text c.in-HttpVersionNotSupported.is)

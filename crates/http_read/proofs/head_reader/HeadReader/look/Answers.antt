@@ -1,7 +1,7 @@
-use Rattle.std.proofs.Common.{◌≡◌, ◌+◌, ◌≤◌, ◌<◌, length, drop, refl, sym, ◌∙◌, subst, arith}
+use Rattle.std.proofs.Common.{◌+◌, ◌≤◌, length, drop, refl, sym, ◌∙◌, subst, arith}
 use Rattle.std.specs.Prelude.{slice_range}
 use Rattle.std.proofs.lemmas.List.{take_rest, take_all, length-drop}
-use Rattle.http_read.specs.HeadLines.{IsHeadLine, line_len, BreaksLineLimit}
+use Rattle.http_read.specs.HeadLines.{IsHeadLine, BreaksLineLimit}
 use Rattle.http_read.specs.LookedAt.{HasLookedAt}
 use Rattle.http_read.specs.ExtentsInside.{FeedStands, EndsIn, IsFullWindow, AddsLine}
 use Rattle.http_read.specs.declared.head_reader.Added.TheVariants as added
@@ -18,9 +18,8 @@ returns-in-Ends-clause-looks c =
     let next = next_line w r k c.loop-feed.invariant.looked c.loop-feed.invariant.within feed in
     let adds = c.in-Ends.ensures in
     let within : r.looked + k + 1 ≤ length w = omega (arith, feed.within, length-drop r.looked w) in
-    let text : line_len line ≡ 0 = sym c.line_len.ensures ∙ adds.0 in
-    subst (λ x. EndsIn x.limits w (r.looked + k + 1) x.long) (sym adds.2)
-    (head_ends w r k (r.looked + k + 1) line next refl within (omega arith) text adds.1)
+    subst (λ x. EndsIn x.limits w (r.looked + k + 1) x.noted) (sym adds.2)
+    (head_ends w r k (r.looked + k + 1) line next refl within (omega arith) adds.0 adds.1)
 
 pub returns-in-Ends-2-clause-looks : goal.returns-in-Ends-2-clause-looks
 returns-in-Ends-2-clause-looks c =
@@ -32,9 +31,8 @@ returns-in-Ends-2-clause-looks c =
     let next = next_line w r k c.loop-feed.invariant.looked c.loop-feed.invariant.within feed in
     let adds = c.in-Ends-2.ensures in
     let within : r.looked + k + 1 ≤ length w = omega (arith, feed.within, length-drop r.looked w) in
-    let text : line_len line ≡ 0 = sym c.line_len.ensures ∙ adds.0 in
     subst (λ x. IsFullWindow x.limits w) (sym adds.2)
-    (head_too_large w r k (r.looked + k + 1) line next refl within c.requires.small (omega arith) text adds.1)
+    (head_too_large w r k (r.looked + k + 1) line next refl within c.requires.small (omega arith) adds.0 adds.1)
 
 pub returns-in-LongLine-clause-looks : goal.returns-in-LongLine-clause-looks
 returns-in-LongLine-clause-looks c =
@@ -46,7 +44,7 @@ returns-in-LongLine-clause-looks c =
     let next = next_line w r k c.loop-feed.invariant.looked c.loop-feed.invariant.within feed in
     let adds = c.in-LongLine.ensures in
     subst (λ x. BreaksLineLimit x.limits w) (sym adds.2)
-    (line_too_long w r k line next (subst (λ n. r.limits.line < n) c.line_len.ensures adds.0) adds.1)
+    (line_too_long w r k line next adds.0 adds.1)
 
 pub loop-feed-preserved : goal.loop-feed-preserved
 loop-feed-preserved c =
@@ -58,11 +56,11 @@ loop-feed-preserved c =
     let line = slice_range w r.line (r.looked + k) in
     let next = next_line w r k c.loop-feed.invariant.looked c.loop-feed.invariant.within feed in
     let new = c.add_line.new.self in
-    let adds : AddsLine r (line_len line) added.Goes new = subst (λ n. AddsLine r n added.Goes new) c.line_len.ensures c.in-Goes.ensures in
+    let adds : AddsLine r line added.Goes new = c.in-Goes.ensures in
     record {
       within = within;
       looked = looked_on w r new k (r.looked + k + 1) line next c.requires.small refl within adds;
-      limits = limits_stay r (line_len line) new adds ∙ c.loop-feed.invariant.limits;
+      limits = limits_stay r line new adds ∙ c.loop-feed.invariant.limits;
     }
 
 pub returns-clause-looks : goal.returns-clause-looks

@@ -1,4 +1,4 @@
-use Rattle.http_read.proofs.WindowLemmas.{long_line_says, too_large_says, end_says}
+use Rattle.http_read.proofs.WindowLemmas.{long_line_says, too_large_says, end_says, end_within}
 use Rattle.http_read.proofs.head_reader.HeadReader.read.Goals as goal
 
 pub returns-in-LongLine-clause-head : goal.returns-in-LongLine-clause-head
@@ -11,5 +11,9 @@ returns-in-TooLarge-clause-head c =
 
 pub returns-in-Ends-clause-head : goal.returns-in-Ends-clause-head
 returns-in-Ends-clause-head c =
-    end_says c.args.self.now.limits c.look.new.self.limits c.args.bytes.now c.min.result c.in-Ends.end c.in-Ends.long c.read_head.result
+    end_says c.args.self.now.limits c.look.new.self.limits c.args.bytes.now c.min.result c.in-Ends.end c.in-Ends.noted c.read_head.result
     c.in-Ends.ensures.limits c.min.ensures c.in-Ends.ensures.looks c.read_head.ensures
+
+pub read_head-requires : goal.read_head-requires
+read_head-requires c =
+    end_within c.look.new.self.limits c.args.bytes.now c.min.result c.in-Ends.end c.in-Ends.noted c.in-Ends.ensures.looks
