@@ -1,4 +1,5 @@
 -- What a board keeps of its history.
+-- Why it is so stands in docs/DECISIONS.md: 69, The record of what was folded is part of what is seen of a board.
 use Rattle.std.specs.Prelude.{◌≡◌, ℕ, ◌+◌, List, [], ◌∷◌, ◌++◌, length, Option, slice_index}
 use Rattle.mpm_base.specs.declared.conn.ConnName.{ConnName}
 use Rattle.conn_machine.specs.declared.event.Event.{Event}

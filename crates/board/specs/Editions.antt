@@ -1,4 +1,5 @@
 -- Which edition each generation of a book has, and what a type that knows the outside says of the connections of a generation.
+-- Why it is so stands in docs/DECISIONS.md: 100, By which edition a board's connections are served.
 use Rattle.std.specs.Prelude.{◌≡◌, ◌==◌, ℕ, ◌+◌, true, false, List, ◌++◌, find, slice_get, Option, Some, IfSome, option_map}
 use Rattle.mpm_base.specs.declared.shape.Shape.{Shape}
 use Rattle.http_read.specs.declared.request.Limits.{Limits}

@@ -1,4 +1,5 @@
 -- How a connection fits its row, and what holds of one that the board has.
+-- Why it is so stands in docs/DECISIONS.md: 50, How far a waiting connection is on its way out.
 use Rattle.std.specs.Prelude.{◌≡◌, ◌⊎◌, true, List, [], ◌∷◌, ◌++◌, Option, None, Some, IfSome, ⊤}
 use Rattle.mpm_base.specs.declared.conn.Kind.{Kind}
 use Rattle.mpm_base.specs.declared.conn.Kind.TheVariants.{Reading, KeepAlive, Writing, Linger, ShortLinger}

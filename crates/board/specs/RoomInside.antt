@@ -1,5 +1,6 @@
 -- The entries that a history must still find room for, so that a connection in hand can always be closed and recorded,
 -- and the server always stopped. A call that needs memory takes the room for what must follow it.
+-- Why it is so stands in docs/DECISIONS.md: 51, Room for what must follow.
 use Rattle.std.specs.Prelude.{ℕ, ◌+◌, ◌*◌, Bool, true, false, count_by, length, sum_by, if◌then◌else◌}
 use Rattle.conn_machine.specs.declared.row.Place.{Place}
 use Rattle.conn_machine.specs.declared.row.Place.TheVariants.{Vacant, Spent, Held, Parked, Queued, Working}

@@ -1,5 +1,6 @@
 //! The numbers of the record that a fold would make of a history, and the load of that. They are kept as entries are added, so that a
 //! fold counts no entry, and only drops each.
+//! Why it is so stands in docs/DECISIONS.md: 54, The numbers of a record are counted ahead.
 ghost use Rattle.std.specs.Prelude.{◌≡◌, ◌+◌, ◌<◌, ◌^◌, ℕ, List, [], ◌∷◌, ◌++◌, length, nat_le, slice_index, IfOk};
 ghost use Rattle.conn_machine.specs.Events.{count_events, is_order};
 ghost use Rattle.conn_machine.specs.Folds.{CountsWithin, HasPlacesFor, fold_load, fold_of, opening_record};

@@ -1,4 +1,6 @@
 //! The board's events.
+//! Why it is so stands in docs/DECISIONS.md: 48, A board keeps its connections in a table of slots; 49, A board is moved as one box; 52, A
+//! history is folded.
 ghost use Rattle.std.specs.Prelude.{◌≡◌, ◌+◌, ◌<◌, ◌≤◌, ◌^◌, true, false, Some, None, [], ◌∷◌, ◌++◌, length, slice_set, IfOk, IfErr, OnOk, OnErr};
 ghost use Rattle.mpm_base.specs.Shape.{is_in_bounds};
 ghost use Rattle.conn_machine.specs.Shown.{snapshot_of};

@@ -1,4 +1,5 @@
 //! The editions that a history is known to have, with room for one more: what a fold makes those of the record of.
+//! Why it is so stands in docs/DECISIONS.md: 95, Which generation keeps what.
 ghost use Rattle.std.specs.Prelude.{◌≡◌, [], ◌∷◌, filter, IfOk, OnOk, vec_len, vec_capacity};
 ghost use Rattle.conn_machine.specs.Events.{begins_generation};
 ghost use Rattle.conn_machine.specs.Folds.{first_edition, is_in_use};

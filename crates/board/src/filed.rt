@@ -1,5 +1,6 @@
 //! The state of a book, whose slots stand in rings by what is to be done with their rows, so that a call finds such a row without
 //! a walk over all. Of several it finds the one whose slot was put into its ring first, whichever child it is of.
+//! Why it is so stands in docs/DECISIONS.md: 47, The slots of a book stand in rings.
 ghost use Rattle.std.specs.Prelude.{◌≡◌, ◌<◌, ◌≤◌, ◌+◌, ◌⊎◌, true, false, length, IfOk, IfSome, IsOk, IsNone, OnOk, OnErr, Some, slice_get};
 ghost use Rattle.conn_machine.specs.States.{opening_state};
 ghost use Rattle.conn_machine.specs.Table.{is_allowed, may_answer, may_be_queued, next, note_for, reply, takes_memory};

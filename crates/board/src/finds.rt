@@ -1,4 +1,5 @@
 //! The board's tests of its state: none takes memory, and each is exact.
+//! Why it is so stands in docs/DECISIONS.md: 45, Which one of several.
 ghost use Rattle.std.specs.Prelude.{◌≡◌, ℕ, ◌≤◌, ◌<◌, ◌++◌, List, length, find, min, nat_le, IfSome};
 ghost use Rattle.std.specs.List.{range_with_len, reduce};
 ghost use Rattle.conn_machine.specs.Children.{child_at, is_empty};

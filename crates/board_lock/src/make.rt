@@ -1,4 +1,5 @@
 //! A lock is made, with its passes.
+//! Why it is so stands in docs/DECISIONS.md: 57, A number is drawn before its pass is made.
 ghost use Rattle.std.specs.Prelude.{◌≡◌, ◌<◌, ◌≤◌, ◌+◌, ℕ, Some, None, [], ◌∷◌, IfOk, IfErr, slice_get, vec_len, vec_capacity};
 ghost use Rattle.board_lock.specs.Passes.{fresh_view};
 ghost use Rattle.table_rule.specs.Tie.{IsNew, origin_of};

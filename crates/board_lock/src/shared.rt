@@ -1,4 +1,5 @@
 //! The lock: the turn is taken and given back.
+//! Why it is so stands in docs/DECISIONS.md: 58, What the slot holds, and when; 66, How a thread waits for the turn.
 ghost use Rattle.std.specs.Prelude.{◌≡◌, None, [], ◌∷◌, List, MatchOption};
 ghost use Rattle.board_lock.specs.Passes.{GaveBack, HasNoTurn, TookTurn};
 ghost use Rattle.conn_machine.specs.declared.event.Entry.{Entry};

@@ -1,4 +1,5 @@
 -- Folds: what a value that keeps a history still knows of the entries that it folded.
+-- Why it is so stands in docs/DECISIONS.md: 52, A history is folded.
 use Rattle.std.specs.Prelude.{◌≡◌, ◌==◌, ◌≤◌, ℕ, ◌+◌, ◌-◌, nat_le, nat_lt, Bool, ◌&&◌, ◌||◌, not, List, [], ◌∷◌, ◌++◌, length, map, filter, take, replicate, slice_get, slice_index, Option, None, Some}
 use Rattle.std.specs.List.{enumerate_from, flat_map, list_any}
 use Rattle.conn_machine.specs.declared.child.Child.{Child}

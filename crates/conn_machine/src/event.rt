@@ -1,4 +1,5 @@
 //! The events of the machine, their replies, and the entries of a history.
+//! Why it is so stands in docs/DECISIONS.md: 41, An entry is small.
 ghost use Rattle.std.specs.Prelude.{◌≡◌, IfOk};
 
 use mpm_base::{Ask, Cause, ConnName, Kind, Moment, NoMemory, Shape, Tail};

@@ -1,4 +1,5 @@
 //! What is kept of a history by a value that several passes share.
+//! Why it is so stands in docs/DECISIONS.md: 68, What a kept value tells.
 ghost use Rattle.std.specs.Prelude.{◌≡◌, ◌+◌, ◌<◌, ◌^◌, length};
 
 use crate::event::Entry;

@@ -1,5 +1,6 @@
 //! Laws of what a pass finds again that comes back, whatever the other passes did meanwhile. Each is the contract of a function that does
 //! nothing, and stands in full in `specs/BetweenTurns.antt`. That a pass keeps its connection, and the row of it stays, is said by `laws`.
+//! Why it is so stands in docs/DECISIONS.md: 102, What a turn teaches.
 ghost use Rattle.conn_machine.specs.BetweenTurns.{StoppedServersStayStopped, OthersLeaveTheRestToTheListener, QuietTablesAreTheListeners, StartedChildrenHaveNobodysConnection};
 
 /// A server that has stopped stays so, for the same reason, whatever is done behind that.

@@ -1,4 +1,5 @@
 //! What a row keeps of its responses.
+//! Why it is so stands in docs/DECISIONS.md: 42, A row keeps no memory for its responses.
 ghost use Rattle.std.specs.Prelude.{◌≡◌, ◌==◌, [], ◌∷◌, ◌++◌, length, min};
 ghost use Rattle.mpm_base.specs.Notes.{says_last};
 

@@ -1,5 +1,6 @@
 //! The list of rows, its counts, and a change of one row. The counts are kept beside the rows. A call goes over the rows only where the
 //! numbers of a child aren't exact, as they are in every state that the machine comes to.
+//! Why it is so stands in docs/DECISIONS.md: 44, The rows are counted as they change.
 ghost use Rattle.std.specs.Prelude.{◌≡◌, ◌==◌, ◌+◌, ◌≤◌, ◌<◌, false, Some, [], ◌∷◌, ◌++◌, count_by, length, replicate, IfOk, IfSome, OnSome, find, slice_get};
 ghost use Rattle.std.specs.List.{list_any, range_with_len};
 ghost use Rattle.std.specs.Option.{option_copied};

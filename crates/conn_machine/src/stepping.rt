@@ -1,4 +1,5 @@
 //! What each event does, and replies: the event table's effects as a plain program.
+//! Why it is so stands in docs/DECISIONS.md: 40, `step` needs no sound state.
 ghost use Rattle.std.specs.Prelude.{◌≡◌, ◌≤◌, ◌<◌, true, false, length, IsOk, IfOk, OnOk, OnErr};
 ghost use Rattle.conn_machine.specs.Rows as rows;
 ghost use Rattle.conn_machine.specs.States as states;

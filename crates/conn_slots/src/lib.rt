@@ -5,6 +5,7 @@
 //! whatever calls come after and came before. The vacant slots are a list through their entries, so no call
 //! but `make` goes over the slots. What a table holds stands in `specs/Slots.antt`, and what sequences of
 //! calls make of it in `specs/Changes.antt`.
+//! Why it is so stands in docs/DECISIONS.md: 55, The lives of a slot; 56, Which slot is given next.
 #![tactic(auto)]
 
 ghost use Rattle.std.specs.Prelude.{◌≡◌, ◌+◌, ◌≤◌, ◌<◌, ◌↔◌, Some, None, is_some, IsTrue, IsSome, IsNone, IfSome, OnSome, IfNone, IsErr, IfOk, IfErr, OnErr};

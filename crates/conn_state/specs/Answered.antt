@@ -1,4 +1,5 @@
 -- A connection that ended, and what its link shows of it.
+-- Why it is so stands in docs/DECISIONS.md: 31, When a connection over whole HTTP is late; 34, What an ended connection shows.
 use Rattle.std.specs.Prelude.{◌≡◌, ℕ, ◌<◌, ◌+◌, Bool, true, false, List, [], ◌++◌, length, Option, IfSome, option_map, ⊤}
 use Rattle.mpm_base.specs.Link.{LinkTold, LinkCounts, OnlyFaults, after_close}
 use Rattle.mpm_base.specs.Notes.{says_last}

@@ -1,4 +1,5 @@
 -- The reply stream: what is sent for the notes of a connection and the bytes that it received.
+-- Why it is so stands in docs/DECISIONS.md: 30, What may have been sent behind the replies.
 use Rattle.std.specs.Prelude.{◌≡◌, ◌⊎◌, ℕ, true, false, List, [], ◌∷◌, ◌++◌, ◌||◌, Option, Some, None, slice_get, slice_range, is_some, if◌then◌else◌, ⊤}
 use Rattle.std.proofs.Common.{inl, inr}
 use Rattle.mpm_base.specs.declared.conn.Ask.{Ask}

@@ -1,4 +1,5 @@
 //! What a type knows of the outside.
+//! Why it is so stands in docs/DECISIONS.md: 35, What is known of the outside is a type.
 use std::marker::Brand;
 
 /// What is known of the outside, as a type. It has no value at run time: a connection or a board with such a type parameter

@@ -1,4 +1,5 @@
 //! What a turn of lingering of a connection does.
+//! Why it is so stands in docs/DECISIONS.md: 33, How a connection lingers.
 ghost use Rattle.std.specs.Prelude.{◌<◌};
 ghost use Rattle.conn_state.specs.LingerInside.{DropsOn, DropsPiece};
 ghost use Rattle.conn_state.specs.Sizes.{most_dropped};

@@ -1,4 +1,5 @@
 //! The reading side of a connection.
+//! Why it is so stands in docs/DECISIONS.md: 32, How reading ends.
 ghost use Rattle.std.specs.Prelude.{◌≡◌, ◌<◌, ◌≤◌, ℕ, true, List, [], ◌++◌, length, false, Some, None, OnOk, OnErr};
 ghost use Rattle.conn_state.specs.Rest.{is_awaited, is_in_head, is_whole};
 ghost use Rattle.conn_state.specs.Steps.{Steps, IsShortIn};

@@ -1,4 +1,5 @@
 //! How far the next request is read by the bytes that are there.
+//! Why it is so stands in docs/DECISIONS.md: 28, What is kept of a request that isn't answered.
 ghost use Rattle.std.specs.Prelude.{length, take, ◌≤◌};
 ghost use Rattle.http_read.specs.declared.request.Limits.{Limits};
 ghost use Rattle.http_read.specs.LookedAt.{HasLookedAt};

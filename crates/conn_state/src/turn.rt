@@ -1,4 +1,5 @@
 //! What the turns of a connection answer.
+//! Why it is so stands in docs/DECISIONS.md: 27, The last turn of a connection.
 ghost use Rattle.std.specs.Prelude.{◌≡◌};
 ghost use Rattle.conn_state.specs.Turns.{after_half_close, after_linger, after_reading, after_writing};
 

@@ -1,4 +1,5 @@
 //! The queue.
+//! Why it is so stands in docs/DECISIONS.md: 61, What a push or a pop found.
 ghost use Rattle.std.specs.Prelude.{◌≡◌, ◌<◌, ◌≤◌, ⊤, true, false, ℕ, IfOk, MatchOption, MatchResult, slice_get, Some, vec_len, vec_capacity};
 ghost use Rattle.crossbeam_queue.specs.Passes.{view, IsPassOf, ruled_capacity};
 ghost use Rattle.fd_queue.specs.declared.seat.Item.TheVariants.{End};

@@ -1,4 +1,5 @@
 -- What a path names in a site.
+-- Why it is so stands in docs/DECISIONS.md: 24, What a path names.
 use Rattle.std.specs.Prelude.{ℕ, ◌<◌, ◌==◌, ◌||◌, Bool, not, List, [], ◌∷◌, ◌++◌, length, ⊤, Option, Some, None, position, if◌then◌else◌}
 use Rattle.std.specs.List.{flat_map, list_any}
 use Rattle.std.specs.Char.{is_ascii_alphanumeric}

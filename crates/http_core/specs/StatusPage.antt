@@ -1,4 +1,5 @@
 -- The status page: where it stands, and which of its two texts a target asks for.
+-- Why it is so stands in docs/DECISIONS.md: 25, The status page.
 use Rattle.std.specs.Prelude.{ℕ, Bool, false, List, [], codes, Option, Some, None, if◌then◌else◌}
 use Rattle.std.specs.Str.{bytes_eq}
 use Rattle.mpm_base.specs.declared.note.Snapshot.{Snapshot}

@@ -1,4 +1,5 @@
 -- The target of a request (RFC 9112, section 3.2).
+-- Why it is so stands in docs/DECISIONS.md: 24, What a path names.
 use Rattle.std.specs.Prelude.{ℕ, ◌==◌, Bool, List, [], ◌∷◌, length, take, drop, codes, Option, Some, None, slice_index, if◌then◌else◌}
 use Rattle.std.specs.List.{after_first, before_first, list_any}
 use Rattle.mpm_base.specs.LetterCase.{is_same_ignoring_case}

@@ -1,4 +1,5 @@
 //! What a request is served, as plain data.
+//! Why it is so stands in docs/DECISIONS.md: 26, What a response takes.
 ghost use Rattle.std.specs.Prelude.{◌≡◌};
 ghost use Rattle.http_core.specs.Served.{code_of, is_page};
 

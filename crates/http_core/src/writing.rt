@@ -1,4 +1,5 @@
 //! Writes the lines of a head.
+//! Why it is so stands in docs/DECISIONS.md: 26, What a response takes.
 ghost use Rattle.std.specs.Prelude.{◌≡◌, ◌++◌, ◌-◌, ◌<◌, codes, length, slice_get, OnOk};
 ghost use Rattle.std.specs.Fmt.{decimal};
 ghost use Rattle.httpdate.specs.Date.{date_text};

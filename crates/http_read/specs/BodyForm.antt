@@ -1,5 +1,6 @@
 -- The body of a request (RFC 9112, sections 6 and 7.1): when bytes are a whole body, the front of one, or
 -- break its form.
+-- Why it is so stands in docs/DECISIONS.md: 22, What a body is.
 use Rattle.std.specs.Prelude.{◌≡◌, ℕ, ◌+◌, ◌<◌, ◌≤◌, ◌⊎◌, List, [], ◌∷◌, ◌++◌, length, take, All}
 use Rattle.httparse.specs.Ascii.{crlf_bytes}
 use Rattle.httparse.specs.Grammar.{LineEnd, print_end, Field, ChunkLine, print_chunk_line, chunk_size}

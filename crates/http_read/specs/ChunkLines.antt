@@ -1,4 +1,5 @@
 -- The chunks of a chunked body (RFC 9112, section 7.1). The grammar of a chunk line is httparse's.
+-- Why it is so stands in docs/DECISIONS.md: 22, What a body is.
 use Rattle.std.specs.Prelude.{◌≡◌, ℕ, ◌<◌, ◌≤◌, ◌⊎◌, List, ◌++◌, length, take, sum_by, All}
 use Rattle.std.specs.List.{flat_map}
 use Rattle.httparse.specs.Ascii.{crlf_bytes}

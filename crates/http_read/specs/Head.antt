@@ -1,4 +1,5 @@
 -- What the bytes of a connection say of the head of its next request.
+-- Why it is so stands in docs/DECISIONS.md: 21, What a head is.
 use Rattle.std.specs.Prelude.{◌≡◌, ℕ, ◌+◌, ◌<◌, ◌≤◌, ◌⊎◌, Bool, List, [], length, take, map, Result, Ok, Err, IsTrue, IsFalse, ⊤}
 use Rattle.httparse.specs.Grammar.{RequestHead, ReadsRequest}
 use Rattle.httparse.specs.Spans.{name_and_value}

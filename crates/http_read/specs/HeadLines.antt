@@ -1,5 +1,6 @@
 -- The lines of a head (RFC 9112, sections 2.1 and 2.2): empty lines that are skipped, the first line, the field lines, and
 -- the empty line that ends it.
+-- Why it is so stands in docs/DECISIONS.md: 21, What a head is.
 use Rattle.std.specs.Prelude.{◌≡◌, ℕ, ◌+◌, ◌-◌, ◌<◌, ◌≤◌, ◌⊎◌, List, [], ◌∷◌, ◌++◌, length, get_or, All, IsFalse, if◌then◌else◌, ◌==◌}
 use Rattle.http_read.specs.declared.request.Limits.{Limits}
 

@@ -1,4 +1,5 @@
 -- What a head of the grammar says of its request, or the code by which it is refused.
+-- Why it is so stands in docs/DECISIONS.md: 23, What a request expects.
 use Rattle.std.specs.Prelude.{ℕ, Bool, true, false, not, ◌&&◌, ◌||◌, List, [], ◌∷◌, length, Option, Some, None, Result, Ok, Err, if◌then◌else◌, ◌==◌, nat_lt, codes}
 use Rattle.std.specs.List.{list_all}
 use Rattle.std.specs.Char.{is_ascii_digit}

@@ -1,4 +1,5 @@
 //! The calls on idle words.
+//! Why it is so stands in docs/DECISIONS.md: 60, What a call found on an idle word; 67, A permit is given back by its child's number.
 ghost use Rattle.std.specs.Prelude.{◌≡◌, ◌<◌, Some, None, IsSome, slice_index};
 ghost use Rattle.idle_workers.specs.Found.{FoundIdle, GivesCredit, MayCredit, ReleasesPermit, ReservesPermit, TakesCreditBack};
 ghost use Rattle.table_rule.specs.Views.{IsIdle};

@@ -1,4 +1,5 @@
 //! Folds of the history, and what goes on over them.
+//! Why it is so stands in docs/DECISIONS.md: 72, Where the listener folds.
 ghost use Rattle.listener.specs.FoldsInside.{FoldsJoin, ListensOn, ShowsForFolds};
 
 use board::Board;

@@ -5,6 +5,8 @@
 //! state it says no more than where it stands in the end, and what the listener alone changes: the moment, how many connections
 //! were taken, which generation is the newest, and how the server goes on. What all orders did since the run opened goes on from
 //! where it stood (`specs/StandingInside.antt`).
+//! Why it is so stands in docs/DECISIONS.md: 73, What a round adds; 88, A share of the site comes first; 90, Front, clock and store stand
+//! beside the listener; 97, Where a graceful stop ends.
 ghost use Rattle.std.specs.Prelude.{◌≡◌, ◌<◌, [], None, true, is_some, max, IfOk, IfErr, IfSome, MatchResult, OnErr, OnOk};
 ghost use Rattle.mpm_base.specs.Count.{next_count};
 ghost use Rattle.mpm_base.specs.Front.{TellsOn, Waits, after_hush};

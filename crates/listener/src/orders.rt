@@ -3,6 +3,8 @@
 //! Each command line is done in its place, in the order in which they came (`specs/Orders.antt`, `specs/Commands.antt`): a restart reads
 //! the configuration and the site of the next edition of the store, and then a new generation begins, or the restart is refused for a
 //! reason, and all goes on as it was.
+//! Why it is so stands in docs/DECISIONS.md: 93, Which command line stops a server; 96, A restart that comes too late; 98, Lines that ask
+//! for nothing.
 ghost use Rattle.std.specs.Prelude.{◌≡◌, ◌<◌, ◌≤◌, [], None, Some, true, false, IfErr, IfOk, IfSome, MatchResult, OnErr, OnOk};
 ghost use Rattle.mpm_base.specs.Count.{Rises};
 ghost use Rattle.mpm_base.specs.Front.{TellsOn};

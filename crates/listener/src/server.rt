@@ -1,4 +1,5 @@
 //! The run of a server over a front and a clock, whichever they are, with what is written where it opens.
+//! Why it is so stands in docs/DECISIONS.md: 78, When warnings are written; 92, What comes before the sockets.
 ghost use Rattle.std.specs.Prelude.{◌≡◌, ℕ, List, [], Some, is_some, IfErr, IfOk, IfSome, OnErr};
 ghost use Rattle.mpm_base.specs.Count.{NeverFalls};
 ghost use Rattle.listener.specs.Unused.{IsUnused};

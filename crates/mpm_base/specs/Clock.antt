@@ -1,4 +1,5 @@
 -- A clock: the moments that it was told, and what it answered.
+-- Why it is so stands in docs/DECISIONS.md: 5, What a front tells of its waits.
 use Rattle.std.specs.Prelude.{◌≡◌, ℕ, List, [], ◌∷◌, ◌++◌, map, Option, option_map}
 
 -- the moment that a call of the clock was told

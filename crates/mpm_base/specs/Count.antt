@@ -1,4 +1,5 @@
 -- Counts that an object of the outside keeps. None falls. The one that stands at the greatest number of 64 bits can't rise.
+-- Why it is so stands in docs/DECISIONS.md: 3, Counts of the outside.
 use Rattle.std.specs.Prelude.{◌≡◌, ℕ, ◌+◌, ◌<◌, ◌≤◌, Bool, true, false, min}
 
 -- the greatest number of 64 bits, 2 ^ 64 - 1, at which a count stays

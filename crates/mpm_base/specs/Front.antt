@@ -1,5 +1,7 @@
 -- A front is where connections, command lines, signals and time come from. What it tells of itself, its counts, and what each
 -- call does to them.
+-- Why it is so stands in docs/DECISIONS.md: 5, What a front tells of its waits; 6, What a front that tells says of time; 9, A front that
+-- tells hands out links that tell; 76, A link that the table refuses.
 use Rattle.std.specs.Prelude.{◌≡◌, ◌⊎◌, ℕ, ◌-◌, ◌<◌, ◌≤◌, Bool, true, false, not, List, [], ◌∷◌, ◌++◌, length, find, nat_lt, min, Option, None, Some, option_map, is_some, IfSome, slice_get, slice_index_or, ⊤}
 use Rattle.std.specs.List.{flat_map}
 use Rattle.mpm_base.specs.Count.{next_count, RisesWhere, RisesExactlyWhere}

@@ -1,4 +1,5 @@
 -- A link is one connection's way to its client. What it tells of itself, its counts, and what each call does to them.
+-- Why it is so stands in docs/DECISIONS.md: 4, What a link tells of the bytes that come.
 use Rattle.std.specs.Prelude.{◌≡◌, ◌==◌, ℕ, ◌<◌, ◌≤◌, Bool, true, false, not, List, [], ◌++◌, take, drop, length, Option, Some, option_map, IfSome, if◌then◌else◌, ⊤}
 use Rattle.mpm_base.specs.Count.{next_count, RisesWhere, RisesExactlyWhere}
 use Rattle.mpm_base.specs.declared.link.Got.{Got}

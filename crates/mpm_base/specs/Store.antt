@@ -1,4 +1,5 @@
 -- A store is a folder of files by name. Where it tells them, they change at a call of `renew` alone.
+-- Why it is so stands in docs/DECISIONS.md: 1, The names of a store.
 use Rattle.std.specs.Prelude.{◌≡◌, ℕ, ◌<◌, ◌≤◌, Bool, true, false, List, [], ◌∷◌, ◌++◌, map, filter, length, All, IsUtf8, nat_eq, if◌then◌else◌, IfSome, Option, None, Some, option_map, Result, Ok, Err, ⊤, IfOk}
 use Rattle.std.specs.List.{starts_with}
 use Rattle.std.specs.Str.{bytes_eq}

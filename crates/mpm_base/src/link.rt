@@ -1,4 +1,5 @@
 //! A connection's way to its client.
+//! Why it is so stands in docs/DECISIONS.md: 29, Two pieces in one write.
 
 /// What a read of a link answers.
 #[derive(Clone, Copy, Debug, PartialEq, Eq)]

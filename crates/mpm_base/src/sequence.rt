@@ -1,4 +1,5 @@
 //! A growing list of items.
+//! Why it is so stands in docs/DECISIONS.md: 18, One list for all.
 ghost use Rattle.std.specs.Prelude.{◌≡◌, ◌==◌, [], ◌∷◌, ◌++◌, length, OnOk, OnErr, slice_get, option_map};
 
 use crate::memory::NoMemory;

@@ -1,5 +1,6 @@
 -- What kind of line a line is. A section of the kind IfModule hides what stands in it unless a module of its name is
 -- there, or, with an exclamation mark before the name, unless none is.
+-- Why it is so stands in docs/DECISIONS.md: 19, Open points of the configuration language.
 use Rattle.std.specs.Prelude.{ℕ, ◌==◌, ◌&&◌, ◌||◌, if◌then◌else◌, Bool, not, List, [], ◌∷◌, codes, drop, Option, Some, None, option_map}
 use Rattle.std.specs.List.{before_first, list_all, position_or_len}
 use Rattle.std.specs.Option.{option_map_or}

@@ -1,4 +1,5 @@
 -- Why a run ends with its exit status, and what it leaves of the output.
+-- Why it is so stands in docs/DECISIONS.md: 77, Why a status comes; 81, What a run without memory leaves out.
 use Rattle.board.specs.Board.{SeenBoard}
 use Rattle.command_words.specs.Invocations.{IsNoInvocation, IsSendWords, IsServeWords, IsTestWords, NamesConfig, NamesFile}
 use Rattle.file_table.specs.Site.{SeenSite}

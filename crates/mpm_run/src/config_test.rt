@@ -1,4 +1,5 @@
 //! The test of a configuration: `-t -f FILE`. It loads no files, and plays nothing.
+//! Why it is so stands in docs/DECISIONS.md: 79, What a test reads.
 ghost use Rattle.std.specs.Prelude.{◌≡◌, ◌⊎◌, ◌++◌, ℕ, List, None, option_map};
 ghost use Rattle.command_words.specs.Invocations.{IsTestWords};
 ghost use Rattle.mpm_base.specs.Count.{Rises};

@@ -1,4 +1,5 @@
 //! How a run ended.
+//! Why it is so stands in docs/DECISIONS.md: 80, What is left of a configuration.
 ghost use Rattle.std.specs.Prelude.{◌≡◌};
 
 use board::Board;

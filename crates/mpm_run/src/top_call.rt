@@ -1,4 +1,5 @@
 //! The top call: from the words of the command line to the texts.
+//! Why it is so stands in docs/DECISIONS.md: 91, What a run asks of its front.
 ghost use Rattle.std.specs.Prelude.{◌≡◌, [], IfSome};
 ghost use Rattle.command_words.specs.Invocations.{CallsFront};
 ghost use Rattle.mpm_run.specs.ExitStatuses.{Causes, LeavesAll};

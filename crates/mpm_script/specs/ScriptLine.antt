@@ -1,4 +1,5 @@
 -- The lines of a script, without their line feeds: which text is which line. Words have one space between them.
+-- Why it is so stands in docs/DECISIONS.md: 14, Lines of a script.
 use Rattle.std.specs.Prelude.{◌≡◌, ℕ, ◌<◌, ◌≤◌, Bool, ◌||◌, ◌&&◌, nat_le, List, [], ◌++◌, length, codes, None, Some}
 use Rattle.std.specs.Char.{is_ascii_lowercase, is_ascii_digit}
 use Rattle.std.specs.List.{AllPass}

@@ -6,6 +6,7 @@
 //! a map. Which text is which line stands in `specs/ScriptLine.antt`, which lines are a script in `specs/Script.antt`, what
 //! its clients send and which calls of their links fail in `specs/Clients.antt`, and which command lines it brings in
 //! `specs/Commands.antt`. `load_script` makes the script of a load (`specs/Load.antt`).
+//! Why it is so stands in docs/DECISIONS.md: 17, Scripts stand in two crates of their own.
 #![tactic(auto)]
 
 mod agreement;

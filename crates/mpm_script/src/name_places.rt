@@ -1,4 +1,5 @@
 //! Names in order, each found by a map.
+//! Why it is so stands in docs/DECISIONS.md: 16, The reader of scripts and speed.
 ghost use Rattle.std.specs.Prelude.{◌≡◌, ◌++◌, ◌∷◌, false, [], length, bytes_eq, IfSome, IfNone, OnOk, OnErr};
 ghost use Rattle.std.specs.List.{AllByRecursion};
 ghost use Rattle.mpm_script.specs.NamePlaces.{IsNamedAt, line_place};

@@ -1,4 +1,5 @@
 //! What the steps of one caller found.
+//! Why it is so stands in docs/DECISIONS.md: 63, What a perch found.
 ghost use Rattle.std.specs.Prelude.{◌≡◌, ◌≤◌, ◌<◌, [], ◌∷◌, ◌++◌, IfOk, vec_len, vec_capacity};
 ghost use Rattle.recycle_perch.specs.Looking.{LookAt};
 

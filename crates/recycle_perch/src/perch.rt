@@ -1,4 +1,5 @@
 //! A row of places.
+//! Why it is so stands in docs/DECISIONS.md: 62, Where a perch looks.
 ghost use Rattle.std.specs.Prelude.{◌≡◌, ◌≢◌, ◌⊎◌, ◌≤◌, ◌<◌, ◌+◌, [], ◌∷◌, ◌++◌, All, IfOk, IfSome, IfErr, OnOk, OnErr, MatchOption, MatchResult, vec_len, vec_capacity};
 ghost use Rattle.recycle_perch.specs.Looking.{AllAreOf, AllLookAt, AreInOrder, AreOf, CameBack, FoundNone, HasPlaceMore, WasLaidDown, WasTaken, steps_of, with_step_at, word_names_of};
 ghost use Rattle.recycle_perch.specs.LookingInside.{TakenBetween, TriedBetween};

@@ -1,4 +1,5 @@
 //! A place for the carrier of one number.
+//! Why it is so stands in docs/DECISIONS.md: 59, What rests.
 ghost use Rattle.std.specs.Prelude.{◌≡◌, ◌≢◌, [], ◌∷◌, ◌++◌, IfSome, IfErr, MatchOption, MatchResult};
 ghost use Rattle.recycle_perch.specs.Resting.{IsFreeCarrier, IsWokenCarrier};
 ghost use Rattle.recycle_perch.specs.Words.{deeds, laid_none, laid_one, took_none, took_one};

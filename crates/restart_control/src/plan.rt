@@ -1,4 +1,5 @@
 //! Makes the configuration and the site of a new generation.
+//! Why it is so stands in docs/DECISIONS.md: 20, What a restart that makes no plan answers.
 ghost use Rattle.std.specs.Prelude.{◌≡◌, MatchResult};
 ghost use Rattle.mpm_base.specs.Store.{Renews};
 ghost use Rattle.restart_control.specs.Reload.{HasCause, IsPlan};

@@ -1,6 +1,7 @@
 //! How the listener lets go of connections that wait: of those that are late, whose child stops, or that linger.
 //!
 //! Each call says which connections it held, and how it left each (`specs/ClosingInside.antt`).
+//! Why it is so stands in docs/DECISIONS.md: 82, Time and late connections.
 ghost use Rattle.std.specs.Prelude.{◌≡◌, ◌<◌, [], ◌∷◌, None, Some, true, false, IfErr, OnOk};
 ghost use Rattle.conn_machine.specs.Rows.{is_linger_kind, lives_and};
 ghost use Rattle.conn_machine.specs.States.{is_halted};

@@ -1,5 +1,6 @@
 //! The parts of the listener's round: a connection that comes is taken and waits, time passes, slots are signalled, connections
 //! are let go of and served, and children are started and let go of.
+//! Why it is so stands in docs/DECISIONS.md: 94, When connections retire.
 ghost use Rattle.std.specs.Prelude.{◌≡◌, ◌↔◌, ◌<◌, [], ◌∷◌, None, Some, true, false, not, is_some, max, IfOk, IfErr, OnErr, OnOk};
 ghost use Rattle.std.specs.List.{list_any};
 ghost use Rattle.mpm_base.specs.Count.{next_count};

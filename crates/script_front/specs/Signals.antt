@@ -1,4 +1,5 @@
 -- What the front of a script knows of its clients, what lines and a watch do to them, and which signals a wait gives.
+-- Why it is so stands in docs/DECISIONS.md: 12, Which signals are due.
 use Rattle.std.specs.Prelude.{◌≡◌, ℕ, zero, suc, Bool, true, false, ◌||◌, ◌⊎◌, nat_lt, bytes_eq, if◌then◌else◌, List, [], ◌∷◌, length, Option, None, Some}
 use Rattle.std.specs.List.{list_all}
 use Rattle.mpm_base.specs.declared.conn.ConnName.{ConnName}

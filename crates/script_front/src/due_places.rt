@@ -1,4 +1,5 @@
 //! Places at which something may be due, lowest first.
+//! Why it is so stands in docs/DECISIONS.md: 16, The reader of scripts and speed.
 ghost use Rattle.std.specs.Prelude.{◌≡◌, ℕ, ◌+◌, ◌*◌, ◌<◌, ◌≤◌, true, false, length, slice_index_or, slice_set, IfOk, IfSome, IfNone};
 ghost use Rattle.script_front.specs.DuePlacesInside.{AreMarked, AreUnmarked, IsLowest, TakesLowest};
 

@@ -2,6 +2,7 @@
 //!
 //! Which files those are stands in `specs/Editions.antt`. The file `httpd.conf` is always there, empty where no line says
 //! otherwise: it is the configuration. Each line is read once, and an edition shares with the one before it what didn't change.
+//! Why it is so stands in docs/DECISIONS.md: 15, The editions of a script.
 ghost use Rattle.std.specs.Prelude.{◌≡◌, ◌≤◌, List, Some, [], ◌∷◌, ◌++◌, length, All, IsSome, IfOk, OnOk, if◌then◌else◌};
 ghost use Rattle.std.specs.List.{fold, prefix_len};
 ghost use Rattle.mpm_base.specs.Store.{bytes_of};

@@ -1,4 +1,5 @@
 //! A front that plays a script, and some of whose calls fail.
+//! Why it is so stands in docs/DECISIONS.md: 7, The front of a script that fails is a type of its own.
 ghost use Rattle.std.specs.Prelude.{◌≡◌, ◌<◌, ◌&&◌, nat_lt, not, true, false, Some, [], is_some, slice_get, slice_set, if◌then◌else◌, IfOk, IsOk};
 ghost use Rattle.mpm_base.specs.Count.{next_count};
 ghost use Rattle.mpm_base.specs.Front.{Accepts, Binds, Commands, Dials, HasAllTaken, Waits, Watches, accept_failed, after_bind, after_command, after_dial, after_hush, after_turning_away, front_after_turning_away, hushed_front, is_handed};

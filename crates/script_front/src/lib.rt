@@ -6,6 +6,7 @@
 //! `specs/Signals.antt`, and what holds between its parts in `specs/PlayedPartsInside.antt`. `FailingFront` is the same but that its
 //! listed waits, accepts and watches fail (`specs/FailingFront.antt`). `ScriptClock` is the clock that goes with them. `script_store` makes the
 //! store of a script, with all editions of its files; which these are stands in `specs/Editions.antt`.
+//! Why it is so stands in docs/DECISIONS.md: 17, Scripts stand in two crates of their own.
 #![tactic(auto)]
 
 mod client_parts;

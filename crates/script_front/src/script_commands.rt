@@ -1,4 +1,5 @@
 //! The commands of a script, as its front brings them.
+//! Why it is so stands in docs/DECISIONS.md: 8, Command lines of a script.
 ghost use Rattle.std.specs.Prelude.{◌≡◌, ◌==◌, ◌+◌, ◌-◌, ◌^◌, ◌<◌, ◌≤◌, ◌∷◌, length, IfOk, IfSome, IfNone};
 ghost use Rattle.mpm_base.specs.CommandWord.{command_word};
 ghost use Rattle.mpm_script.specs.Commands.{commands_of};

@@ -1,4 +1,5 @@
 //! How a wait of a front ended.
+//! Why it is so stands in docs/DECISIONS.md: 13, A wait that may not let time pass.
 ghost use Rattle.std.specs.Prelude.{◌≡◌};
 ghost use Rattle.script_front.specs.PlayedFrontInside.{passed_between};
 

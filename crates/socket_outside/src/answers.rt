@@ -1,4 +1,5 @@
 //! From the system's answer to a call of a socket to the answer of a link.
+//! Why it is so stands in docs/DECISIONS.md: 85, What links, front and clock take of the system.
 ghost use Rattle.std.specs.Prelude.{◌≡◌, ◌++◌, Some, true, IfSome, length, is_ok, MatchOption, MatchResult};
 ghost use Rattle.std.specs.Io.KnownBytes.{Keeps};
 ghost use Rattle.std.specs.IoError.{error_kind};

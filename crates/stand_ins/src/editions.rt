@@ -1,4 +1,5 @@
 //! The editions of a folder of files that a store in memory goes through.
+//! Why it is so stands in docs/DECISIONS.md: 103, Files in memory, and their editions.
 ghost use Rattle.std.specs.Prelude.{◌≡◌, ◌+◌, ◌<◌, ◌≤◌, [], ◌∷◌, length, IfOk, OnOk, OnErr};
 ghost use Rattle.mpm_base.specs.Store.{after_renew};
 ghost use Rattle.stand_ins.specs.History.{told_past};

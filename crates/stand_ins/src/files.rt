@@ -1,4 +1,5 @@
 //! A list of files by name.
+//! Why it is so stands in docs/DECISIONS.md: 1, The names of a store.
 ghost use Rattle.std.specs.Prelude.{◌≡◌, ◌≢◌, ℕ, Some, None, List, [], OnOk, OnErr, option_map};
 ghost use Rattle.mpm_base.specs.Store.{bytes_of};
 ghost use Rattle.stand_ins.specs.Files.{files_in, with_file, without_file};

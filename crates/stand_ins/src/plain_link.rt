@@ -1,4 +1,5 @@
 //! A link in memory that never fails.
+//! Why it is so stands in docs/DECISIONS.md: 2, Want of memory in the stand-ins.
 ghost use Rattle.std.specs.Prelude.{◌≡◌, true, Some, ◌++◌, ◌≤◌, min, take, drop, length};
 ghost use Rattle.mpm_base.specs.Link.{Reads, Writes, Shuts, Closes, with_received, after_shut, after_close, telling_link};
 ghost use Rattle.stand_ins.specs.PlainLink.{new_link, read_answer, buffer_after_read, link_after_read, TakesWhole, link_after_write};

@@ -1,4 +1,5 @@
 //! A store in memory that never fails.
+//! Why it is so stands in docs/DECISIONS.md: 87, A script's store is the plain one.
 ghost use Rattle.std.specs.Prelude.{◌≡◌, Some, IfOk, OnOk, OnErr};
 ghost use Rattle.mpm_base.specs.Store.{Renews, ListsNames, ReadsFile, after_renew, bytes_of, names_under, is_refusal, answers_with, telling_store};
 ghost use Rattle.stand_ins.specs.History.{told_past};

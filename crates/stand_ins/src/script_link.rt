@@ -1,4 +1,5 @@
 //! A link in memory some of whose calls fail, and whose bytes may come little by little.
+//! Why it is so stands in docs/DECISIONS.md: 11, Every call counts for `fail`.
 ghost use Rattle.std.specs.Prelude.{◌≡◌, ◌≤◌, true, false, Some, ◌++◌, length, is_some};
 ghost use Rattle.mpm_base.specs.Link.{Reads, Writes, Shuts, Closes, OnlyFaults, GivesNext, FitsBuffer, FitsPiece, read_failed, after_read, after_write, after_close, telling_link};
 ghost use Rattle.stand_ins.specs.Calls.{is_listed, next_is_listed};

@@ -1,4 +1,5 @@
 //! Files at places, and a map that finds them.
+//! Why it is so stands in docs/DECISIONS.md: 103, Files in memory, and their editions.
 ghost use Rattle.std.specs.Prelude.{◌≡◌, ℕ, ◌+◌, ◌<◌, ◌≤◌, [], ◌∷◌, ◌++◌, IfSome, IfNone, IfOk, IsOk, OnOk, OnErr, option_map};
 ghost use Rattle.mpm_base.specs.Store.{bytes_of};
 ghost use Rattle.stand_ins.specs.Files.{files_in, with_file, without_file};

@@ -1,4 +1,5 @@
 //! What the front of a script and one of its links tell each other.
+//! Why it is so stands in docs/DECISIONS.md: 10, A script's link and its front share words, not a lock.
 
 use mpm_base::LinkCall;
 use std::sync::atomic::{AtomicBool, AtomicU64, Ordering};

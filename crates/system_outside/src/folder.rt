@@ -1,4 +1,5 @@
 //! The current folder as a store.
+//! Why it is so stands in docs/DECISIONS.md: 99, Where a server looks for its files.
 ghost use Rattle.std.specs.Prelude.{◌≡◌, None, IfErr, IfOk, OnOk, MatchResult, Ok, Err, length};
 ghost use Rattle.std.specs.IoError.{error_kind};
 ghost use Rattle.std.specs.Fs.{IsFile, file_type, metadata_len};

@@ -6,6 +6,7 @@
 //! makes of that stands in `specs/`: which fault an error is (`Fault`), what an entry of a folder leads to (`Entry`), which fault of a
 //! listing comes of that (`Listing`), reading to the end (`WholeFile`), what a write took (`Output`), and the words (`Words`). No clause
 //! speaks of what `Operator` writes to standard error.
+//! Why it is so stands in docs/DECISIONS.md: 84, What the program takes of the system.
 #![tactic(auto)]
 
 mod entry;

@@ -1,4 +1,5 @@
 //! What whoever runs the server is told on standard error, beside what the run prints. No clause speaks of it.
+//! Why it is so stands in docs/DECISIONS.md: 101, What standard error says.
 
 use std::fmt::Display;
 use std::net::SocketAddr;

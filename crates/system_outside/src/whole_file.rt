@@ -1,4 +1,5 @@
 //! The bytes of a reader, piece by piece up to its end.
+//! Why it is so stands in docs/DECISIONS.md: 86, Loops over a file or a folder.
 ghost use Rattle.std.specs.Prelude.{◌≡◌, ◌<◌, ◌≤◌, length, IfSome, None, is_none, is_some};
 ghost use Rattle.system_outside.specs.WholeFile.{ReadsNextPiece, ReadsWhole, more_bytes};
 

@@ -1,4 +1,5 @@
 //! The words of the command line.
+//! Why it is so stands in docs/DECISIONS.md: 83, A word that isn't UTF-8.
 ghost use Rattle.std.specs.Prelude.{◌≡◌, ◌≢◌, [], drop, map, IfOk, IfErr, MatchResult};
 ghost use Rattle.std.specs.String.{string_bytes};
 ghost use Rattle.std.specs.Vec.Iter.{into_iter_items};

@@ -1,4 +1,5 @@
 -- What each kind of step tells the pass that makes it.
+-- Why it is so stands in docs/DECISIONS.md: 65, What is one turn's fold.
 use Rattle.std.specs.Prelude.{◌≡◌, ◌≤◌, ℕ, ◌+◌, ◌-◌, ◌/◌, ◌==◌, Bool, true, false, List, [], ◌∷◌, length, nat_lt, Option, None, Some}
 use prog.Atomic.{either}
 use Rattle.atomic_table.specs.Table.{Step, Me}

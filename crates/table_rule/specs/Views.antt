@@ -1,4 +1,5 @@
 -- The views of passes, and how steps change them.
+-- Why it is so stands in docs/DECISIONS.md: 70, What a pass knows of folded entries; 102, What a turn teaches.
 use Rattle.std.specs.Prelude.{◌≡◌, ◌<◌, ℕ, ◌+◌, ◌-◌, true, false, List, [], ◌∷◌, Option, None, Some, IfSome, replicate, slice_get, slice_set}
 use Rattle.conn_machine.specs.declared.event.Entry.{Entry}
 use Rattle.conn_machine.specs.declared.kept.Ledger.{Ledger}

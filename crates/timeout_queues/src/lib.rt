@@ -10,6 +10,7 @@
 //! Rings of slots say of each slot in which ring it stands, and find one that stands in a ring without a look at the
 //! others. Their definitions stand in `specs/Filed.antt`. Of several that would do both answer the one that waited longest, though
 //! no clause says it.
+//! Why it is so stands in docs/DECISIONS.md: 46, What a look at the timeout queues costs.
 #![tactic(auto)]
 
 ghost use Rattle.std.specs.Prelude.{◌≡◌, ◌+◌, ◌<◌, ◌≤◌, ◌↔◌, ◌⊎◌, [], map, length, Some, None, option_map, is_some, IsTrue, IsNone, IfSome, IsSomeAnd, IfOk, slice_index_or};

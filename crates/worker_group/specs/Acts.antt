@@ -1,4 +1,5 @@
 -- What a pass did: the events that it added, and the connection that it has then.
+-- Why it is so stands in docs/DECISIONS.md: 71, What the listener and the service say.
 use Rattle.std.specs.Prelude.{◌≡◌, ◌≢◌, ℕ, List, [], ◌∷◌, map, ◌++◌, Option}
 use Rattle.mpm_base.specs.declared.conn.ConnName.{ConnName}
 use Rattle.conn_machine.specs.declared.event.Event.{Event}

@@ -1,4 +1,6 @@
 //! The service of a connection by a worker, from its queue until it waits, lingers or is closed.
+//! Why it is so stands in docs/DECISIONS.md: 36, A service that ends with a linger; 75, What of a refusal doesn't last; 89, A connection
+//! that failed isn't half-closed.
 ghost use Rattle.std.specs.Prelude.{◌≡◌, ◌<◌, List, [], ◌∷◌, true, false, None, Some, IfSome, IfNone, IfErr, OnOk, OnErr};
 ghost use Rattle.mpm_base.specs.declared.conn.Ask.{Ask};
 ghost use Rattle.conn_machine.specs.States.{is_halted};
