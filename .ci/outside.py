@@ -7,6 +7,8 @@ import mmap
 import os
 import shutil
 import subprocess
+import tempfile
+import threading
 
 # The kinds of calls, in the order of their numbers. `malloc` is `realloc` too.
 KINDS = (
@@ -35,12 +37,21 @@ def compiler():
     return next(filter(None, map(shutil.which, COMPILERS)), None)
 
 
-def compiled(folder):
-    """The library, in the folder."""
-    to = f"{folder}/outside.so"
-    numbers = [f"-DNUMBER_{name}={number}" for number, name in enumerate(KINDS)]
-    words = [compiler(), "-shared", "-fPIC", "-O1", "-w", *numbers, "-o", to, SOURCE, "-ldl"]
-    subprocess.run(words, check=True, stdin=subprocess.DEVNULL, stdout=subprocess.DEVNULL)
+# The folder of the library, and who makes it first.
+FOLDER = tempfile.TemporaryDirectory()
+COMPILING = threading.Lock()
+
+
+def library():
+    """The path of the library, which is compiled once."""
+    to = f"{FOLDER.name}/outside.so"
+    with COMPILING:
+        if not os.path.exists(to):
+            # Others may use it too.
+            os.chmod(FOLDER.name, 0o755)
+            numbers = [f"-DNUMBER_{name}={number}" for number, name in enumerate(KINDS)]
+            words = [compiler(), "-shared", "-fPIC", "-O1", "-w", *numbers, "-o", to, SOURCE, "-ldl"]
+            subprocess.run(words, check=True, stdin=subprocess.DEVNULL, stdout=subprocess.DEVNULL)
     return to
 
 
@@ -54,7 +65,7 @@ class Outside:
         with open(self.path, "r+b") as file:
             self.memory = mmap.mmap(file.fileno(), ctypes.sizeof(Page))
         self.page = Page.from_buffer(self.memory)
-        self.before = ["env", f"LD_PRELOAD={compiled(folder)}", f"OUTSIDE_PAGE={self.path}"]
+        self.before = ["env", f"LD_PRELOAD={library()}", f"OUTSIDE_PAGE={self.path}"]
         for number, name in enumerate(KINDS):
             setattr(self, name, self.page.kinds[number])
 
