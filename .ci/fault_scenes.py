@@ -24,12 +24,13 @@ from refusing_scenes import outside, outside_scene
 # The error with which a call of each kind fails.
 ERRORS = {
     "socket": errno.EMFILE, "bind": errno.EADDRINUSE, "listen": errno.EADDRINUSE, "accept4": errno.EMFILE, "connect": errno.ECONNREFUSED,
-    "setsockopt": errno.EINVAL, "getsockname": errno.EINVAL, "shutdown": errno.ENOTCONN, "eventfd": errno.EMFILE, "epoll_create1": errno.EMFILE,
+    "setsockopt": errno.EINVAL, "getsockname": errno.EINVAL, "shutdown": errno.ENOTCONN,
+    "fcntl": errno.EMFILE, "ioctl": errno.ENOTTY, "eventfd": errno.EMFILE, "epoll_create1": errno.EMFILE,
     "epoll_ctl": errno.ENOSPC, "epoll_wait": errno.EBADF, "recv": errno.ECONNRESET, "read": errno.EIO, "send": errno.EPIPE, "sendmsg": errno.EPIPE,
     "write": errno.ENOSPC, "writev": errno.EPIPE, "open": errno.EMFILE, "openat": errno.EMFILE, "getdents64": errno.EIO, "statx": errno.EACCES,
     "clock_gettime": errno.EINVAL, "malloc": errno.ENOMEM,
 }
-SOCKETS = "socket bind listen accept4 setsockopt getsockname shutdown eventfd epoll_create1 epoll_ctl epoll_wait recv read send sendmsg write writev".split()
+SOCKETS = "socket bind listen accept4 setsockopt getsockname shutdown fcntl ioctl eventfd epoll_create1 epoll_ctl epoll_wait recv read send sendmsg write writev".split()
 FILES = "open openat getdents64 statx clock_gettime".split()
 ALL_BEHIND = 1_000_000_000
 NOT_ALLOWED = refusal("405 Method Not Allowed", "Allow: GET, HEAD, OPTIONS")

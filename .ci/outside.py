@@ -12,8 +12,8 @@ import threading
 
 # The kinds of calls, in the order of their numbers. `malloc` is `realloc` too.
 KINDS = (
-    "socket bind listen accept4 connect setsockopt getsockname shutdown eventfd epoll_create1 epoll_ctl epoll_wait recv read send sendmsg "
-    "write writev open openat getdents64 statx clock_gettime malloc"
+    "socket bind listen accept4 connect setsockopt getsockname shutdown fcntl ioctl eventfd epoll_create1 epoll_ctl epoll_wait recv read send "
+    "sendmsg write writev open openat getdents64 statx clock_gettime malloc"
 ).split()
 SOURCE = f"{os.path.dirname(os.path.abspath(__file__))}/outside.c"
 COMPILERS = ["cc", "gcc", "clang"]
