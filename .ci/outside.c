@@ -189,6 +189,26 @@ int openat(int folder, const char *path, int flags, ...) {
     return fails(NUMBER_openat) ? -1 : real(folder, path, flags, mode);
 }
 
+int fcntl(int fd, int what, ...) {
+    static int (*real)(int, int, ...);
+    va_list rest;
+    va_start(rest, what);
+    void *argument = va_arg(rest, void *);
+    va_end(rest);
+    if (!real) real = (int (*)(int, int, ...))real_of("fcntl");
+    return fails(NUMBER_fcntl) ? -1 : real(fd, what, argument);
+}
+
+int ioctl(int fd, unsigned long what, ...) {
+    static int (*real)(int, unsigned long, ...);
+    va_list rest;
+    va_start(rest, what);
+    void *argument = va_arg(rest, void *);
+    va_end(rest);
+    if (!real) real = (int (*)(int, unsigned long, ...))real_of("ioctl");
+    return fails(NUMBER_ioctl) ? -1 : real(fd, what, argument);
+}
+
 int clock_gettime(clockid_t clock, struct timespec *time) {
     static int (*real)(clockid_t, struct timespec *);
     if (!real) real = (int (*)(clockid_t, struct timespec *))real_of("clock_gettime");
