@@ -13,12 +13,12 @@ queues-requires-clause-permit g c =
 
 pub release-requires-clause-permit : goal.release-requires-clause-permit
 release-requires-clause-permit g c =
-    ap (λ (h : Hand). h.permit) (has_permit_as c.args.child _ _ c.in-Some.ensures.child c.serves.ensures.left).hand
+    ap (λ (h : Hand). h.permit) (has_permit_as c.args.child _ _ c.in-Some.ensures.child c.serves-way.ensures.left).hand
 
 pub release-requires-clause-row : goal.release-requires-clause-row
-release-requires-clause-row g c = c.serves.ensures.left.row
+release-requires-clause-row g c = c.serves-way.ensures.left.row
 
 pub returns-in-Some-clause-free : goal.returns-in-Some-clause-free
 returns-in-Some-clause-free g c =
-    released _ c.release.new.carrier.seat.me c.args.child (has_permit_as c.args.child _ _ c.in-Some.ensures.child c.serves.ensures.left)
-    c.release.ensures.released c.release.ensures.hand c.serves.ensures.hand
+    released _ c.release.new.carrier.seat.me c.args.child (has_permit_as c.args.child _ _ c.in-Some.ensures.child c.serves-way.ensures.left)
+    c.release.ensures.released c.release.ensures.hand c.serves-way.ensures.hand
