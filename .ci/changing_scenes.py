@@ -83,7 +83,7 @@ CHANGES = [
         "a file is replaced", lambda folder: rename_over(folder, "htdocs/docs/b", b"new" * PIECE),
         lambda name, came: name == "docs/b" and came == b"new" * PIECE,
     ),
-    Change("a file becomes too large", lambda folder: os.truncate(path_in(folder, "a"), GREATEST + 1), refused=True),
+    Change("a file becomes too large", lambda folder: os.truncate(path_in(folder, "docs/b"), GREATEST + 1), refused=True),
     Change("a file becomes a folder", lambda folder: put_in_place(folder, "a", os.mkdir), is_gone("a"), refused=True),
     Change(
         "a folder becomes a file", lambda folder: put_in_place(folder, "docs", lambda at: open(at, "wb").close()), is_gone("docs"), refused=True,

@@ -244,6 +244,26 @@ def a_command_whose_call_fails_is_refused():
 
 
 @outside_scene
+def a_command_for_which_memory_lacks_changes_nothing_of_a_server():
+    with serving() as server:
+        words = ("-k", "graceful", "-f", "httpd.conf")
+        with outside() as own:
+            expect("-k", run_told(server.folder, *words, before=own.before), (0, b"", []))
+            made = own.malloc.made
+            for count in (1, 1_000_000):
+                for number in range(1, made + 1):
+                    own.fail("malloc", number, errno.ENOMEM, count)
+                    came = run_told(server.folder, *words, before=own.before)[:2]
+                    if came not in [(0, b""), (4, b"front fault\n"), (6, b"")]:
+                        raise Wrong(f"-k where allocation {number} fails, and {count - 1} behind it: came {came}")
+        with connect(server.port) as client:
+            client.send(GET)
+            expect("a response", client.reply(), ANSWER)
+        command(server, "stop")
+        expect("the status", server.process.wait(timeout=DEADLINE), 0)
+
+
+@outside_scene
 def a_start_whose_call_fails_has_its_status():
     with tempfile.TemporaryDirectory() as folder, outside() as system:
         lay_out(folder, SITE)
