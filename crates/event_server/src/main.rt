@@ -67,7 +67,16 @@ fn outcome_of<
 /// How the run of the words over these ends. Nothing is let go here, so that what `run` says isn't carried through the ends of them all.
 fn run_over<
     'a,
-    R: Alloc<A = Global> + Files + Eprint + time::Clock + Net + Threads + Wait + Sync + Clone + Drop,
+    R: Alloc<A = Global>
+        + Files
+        + Eprint
+        + time::Clock
+        + Net
+        + Threads
+        + Wait
+        + Sync
+        + Clone
+        + Drop,
     W: io::Write + Drop,
 >(
     rt: &R,
