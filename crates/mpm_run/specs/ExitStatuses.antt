@@ -4,15 +4,15 @@ use Rattle.board.specs.Board.{SeenBoard}
 use Rattle.command_words.specs.Invocations.{IsNoInvocation, IsSendWords, IsServeWords, IsTestWords, NamesConfig, NamesFile}
 use Rattle.file_table.specs.Site.{SeenSite}
 use Rattle.mpm_base.specs.CommandWord.{command_word}
-use Rattle.mpm_base.specs.Count.{Rises}
 use Rattle.mpm_base.specs.Front.{Binds, Dials, FrontSeen}
 use Rattle.mpm_base.specs.declared.script_line.CommandWord.{CommandWord}
 use Rattle.mpm_config.specs.Config.{Configuration}
+use Rattle.listener.specs.Counted.{CountsRun}
 use Rattle.listener.specs.Commands.{GivesLines}
 use Rattle.listener.specs.FirstNumbers.{numbers_of}
 use Rattle.listener.specs.Generations.{Opening}
 use Rattle.listener.specs.Outside.{KeepsOutside}
-use Rattle.listener.specs.Runs.{HasRun, entries_of_run, KeepsLines}
+use Rattle.listener.specs.Runs.{HasRun, ended_of_run, entries_of_run}
 use Rattle.script_run.specs.ScriptRefusals.{EndsMisconfigured, EndsScriptSiteRefused, EndsRefused}
 use Rattle.listener.specs.Stores.{KeepsStore}
 use Rattle.script_run.specs.declared.scripted.Scripted.{Scripted}
@@ -21,7 +21,7 @@ use Rattle.run_opening.specs.Calls.{Call, HadConfigAccepted, HasConfigAccepted, 
 use Rattle.run_opening.specs.Configured.{IsRefused, warnings_of}
 use Rattle.run_report.specs.Endings.{EndsWell, EndsUnwritten, EndsAs}
 use Rattle.run_report.specs.Texts.{config_refused, front_fault, no_control_line, site_refused, store_fault, syntax_ok, usage}
-use Rattle.run_report.specs.Written.{WritesText}
+use Rattle.run_report.specs.Written.{LeavesUnwritten, WritesText}
 use Rattle.run_report.specs.declared.texts.ConfigRefusal.{ConfigRefusal}
 use Rattle.run_report.specs.declared.texts.ConfigRefusal.TheVariants.{BadValue}
 use Rattle.std.specs.Prelude.{◌≡◌, ◌≢◌, ℕ, ◌≤◌, ◌⊎◌, Bool, true, false, List, ◌++◌, Option, Some, None, option_map, IfSome, IsSome, IsSomeAnd, IsNone}
@@ -112,14 +112,14 @@ pub record EndsTested (call : Call) : Type 0 where
   pub shows : call.shown ≡ None
   pub text : call.sink'.told ≡ option_map (λ written. written ++ (warnings_of config ++ syntax_ok)) call.sink.told
 
--- with exit status 5, of a test: the configuration is accepted, and a write of its texts failed
+-- with exit status 5, of a test: the configuration is accepted, and a write of its texts failed, which were not written whole
 pub record EndsTestUnwritten (call : Call) : Type 0 where
   pub name : List ℕ
   pub config : Configuration
   pub command : IsTestWords call.words name
   pub accepted : HasConfigAccepted call name config
   pub shows : call.shown ≡ None
-  pub failed : Rises call.sink.faults call.sink'.faults
+  pub unwritten : LeavesUnwritten call.sink call.sink' (warnings_of config ++ syntax_ok)
 
 -- ## Where a command was sent
 
@@ -201,8 +201,8 @@ abbrev pub server_opening : Call → FrontSeen → List ℕ → Configuration �
 server_opening call f name c site = record { name = name; config = c; site = site; store = call.store; front = f }
 
 -- a server was run over the front and the clock, and what is left is of a run by the configuration of the file that the words name and
--- by the site of the store, and then by the store's editions; it is tied to the front, the clock and the store, and ended as its exit status
--- says
+-- by the site of the store, and then by the store's editions; all its entries, and all its connections that ended, are tied to the front, the
+-- clock and the store, of what the front counted too, and it ended as its exit status says
 pub record HasRunServer (call : Call) (f f' : FrontSeen) (calls : Option (List (ℕ × ℕ))) (status : ℕ) (b : SeenBoard) : Type 0 where
   pub name : List ℕ
   pub config : Configuration
@@ -212,8 +212,10 @@ pub record HasRunServer (call : Call) (f f' : FrontSeen) (calls : Option (List (
   pub loads : LoadsSite call config site
   pub shows : call.shown ≡ None
   pub has_run : HasRun (server_opening call f name config site) b
-  pub outside : KeepsOutside (numbers_of config) f f' calls b
-  pub lines : IfSome f'.told (KeepsLines (entries_of_run (server_opening call f name config site) b has_run) b)
+  pub outside :
+      KeepsOutside (numbers_of config) f f' calls b.book.state (entries_of_run (server_opening call f name config site) b has_run)
+      (ended_of_run (server_opening call f name config site) b has_run)
+  pub counted : CountsRun b.book f.counts f'.counts
   pub given : GivesLines (entries_of_run (server_opening call f name config site) b has_run) f f'
   pub store :
       KeepsStore b.book.state.going (entries_of_run (server_opening call f name config site) b has_run) call.store call.store'
@@ -237,11 +239,11 @@ Succeeds call f f' scripted board =
 abbrev pub EndsFrontFault : Call → FrontSeen → FrontSeen → Option SeenBoard → Type 0
 EndsFrontFault call f f' board = IsSome board ⊎ EndsUnbound call f f' ⊎ EndsUndialled call f f'
 
--- with exit status 5: a write failed of the texts of a script's run, or of one over the front, as is said of its board; or of those of
--- a test
+-- with exit status 5: a write failed of the texts of a script's run, or of one over the front, as is said of its board, or of those of
+-- a test; and they were not written whole
 abbrev pub LacksOutput : Call → Option Scripted → Option SeenBoard → Type 0
 LacksOutput call scripted board =
-    IsSomeAnd scripted (λ s. EndsUnwritten call.sink call.sink' s.board) ⊎ IsSome board ⊎ EndsTestUnwritten call
+    IsSomeAnd scripted (λ s. EndsUnwritten call.sink call.sink' (warnings_of s.config) s.board) ⊎ IsSome board ⊎ EndsTestUnwritten call
 
 -- each exit status has its cause
 pub record Causes (call : Call) (f f' : FrontSeen) (status : ℕ) (scripted : Option Scripted) (board : Option SeenBoard) : Type 0 where
@@ -267,7 +269,7 @@ pub record Causes (call : Call) (f f' : FrontSeen) (status : ℕ) (scripted : Op
 pub record LeavesAll (call : Call) (f f' : FrontSeen) (calls calls' : Option (List (ℕ × ℕ))) (status : ℕ)
     (scripted : Option Scripted) (board : Option SeenBoard) : Type 0 where
   -- whatever the exit status, what is left of a script's run is of one of the script that was read or made
-  pub kept : IfSome scripted (λ s. HasPlayed call s.config s.board s.front s.store)
+  pub kept : IfSome scripted (λ s. HasPlayed call s.config s.board s.front s.clock s.store)
   -- it was stopped as its exit status says, and the output has its warnings and its report, or as much of them as that says
   pub ends : IfSome scripted (λ s. EndsAs call.sink call.sink' (warnings_of s.config) s.board status)
   -- the same of what is left of a server, as far as its front, its clock and its store tell. Over each front, whether it tells or not, it
