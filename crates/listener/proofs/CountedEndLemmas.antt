@@ -26,11 +26,11 @@ use Rattle.worker_group.specs.Acts.{Acts, ActsInSteps}
 use Rattle.worker_group.specs.Service.{LeavesRest}
 use Rattle.rounds.specs.declared.ends.End.{End}
 use Rattle.rounds.specs.declared.ends.End.TheVariants as end
-use Rattle.rounds.specs.EndsInside.{why_of}
+use Rattle.rounds.specs.EndsInside.{HaltsAs, why_of}
 use Rattle.rounds.specs.Moments.{moment_for}
 use Rattle.rounds.specs.PartsInside.{GoesDown, ServesSome, StartsSome, halt_events, halts_for}
 use Rattle.run_report.specs.Endings.{HasEndedGracefully}
-use Rattle.listener.specs.Counted.{AsksOnce, CountsRun, stops_at}
+use Rattle.listener.specs.Counted.{AsksOnce, CountsBut, CountsRun, stops_at}
 use Rattle.listener.specs.CountedInside.{ClocksAt, ClocksOn, CountsBroken, CountsOn, CountsSo, CountsToEnd, CountsUntil, IsAtClock, KeepsClockFrom, MovesClock, TurnsCount}
 use Rattle.listener.specs.FirstNumbersInside.{opened_book}
 use Rattle.listener.specs.FoldsInside.{ListensOn}
@@ -103,6 +103,7 @@ counts-opened n first b opened =
       orders = just-none first.words.graceful;
       endings = omega arith;
       ending = λ ends. absurd (cc ends);
+      unended = λ serves. just-none first.words.graceful_stop;
       stops = just-none first.words.stop;
       links = just-none first.handed;
     })
@@ -208,6 +209,18 @@ counts-end (Ok end.Gone) old new f f' a b d counts ends down first so =
 counts-end (Err fault) old new f f' a b d counts ends down first so =
     let halted : d.state.going ≡ Halted why.NoMemory = down.going in
     broken-counts (Err fault) b d first new down halted (counts first so)
+
+-- the lines that say `graceful-stop`, where the server served to the end of the turns
+pub gives-none : (turns : Result End BoardFault) (from old new : FrontCounts) (a b : SeenBook) (going : Going) → TurnsCount turns old new a b
+    → CountsSo 0 from old a → is_serving b.state.going ≡ true → HaltsAs turns b.state.going going
+    → CountsBut going 0 from.words.graceful_stop new.words.graceful_stop
+gives-none (Ok e) from old new a b going counts so serves halts = let on = counts from so in inl (on.unended serves)
+gives-none (Err fault) from old new a b going counts so serves halts =
+    let on = counts from so in
+    elim (on.unended serves) [
+      | inl none ↦ inl none
+      | inr one ↦ inr (halts, one)
+    ]
 
 -- ## The clock
 

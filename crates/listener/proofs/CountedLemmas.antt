@@ -146,6 +146,10 @@ alike-more a b c first second = record {
 ending-alike : (a b : SeenBook) → b.state.going ≡ a.state.going → is_serving b.state.going ≡ false → is_serving a.state.going ≡ false
 ending-alike a b same ends = ap is_serving (sym same) ∙ ends
 
+-- and a server that serves served
+serving-alike : (a b : SeenBook) → b.state.going ≡ a.state.going → is_serving b.state.going ≡ true → is_serving a.state.going ≡ true
+serving-alike a b same serves = ap is_serving (sym same) ∙ serves
+
 -- where nothing of that changed it goes on so
 pub counts-alike : (old new : FrontCounts) (a b : SeenBook) → CountsSame old new → CountsAlike a b → CountsOn 0 old new a b
 counts-alike old new a b same alike first so = record {
@@ -153,6 +157,9 @@ counts-alike old new a b same alike first so = record {
   endings = subst (NeverFalls first.words.graceful_stop) (sym same.graceful_stop) so.endings;
   ending =
       λ ends. subst (Rises first.words.graceful_stop) (sym same.graceful_stop) (so.ending (ending-alike a b alike.going ends));
+  unended =
+      λ serves. just-as 0 0 first.words.graceful_stop old.words.graceful_stop new.words.graceful_stop (so.unended (serving-alike a b alike.going serves))
+      same.graceful_stop refl;
   stops = just-as 0 0 first.words.stop old.words.stop new.words.stop so.stops same.stop refl;
   links = just-as a.state.accepted b.state.accepted first.handed old.handed new.handed so.links same.handed alike.accepted;
 }
@@ -170,7 +177,7 @@ counts-until x y z a b c on more first so = more first (on first so)
 pub counts-unbroken : (old new : FrontCounts) (a b : SeenBook) → CountsOn 0 old new a b → CountsUntil old new a b
 counts-unbroken old new a b on first so =
     let more = on first so in
-    record { orders = inl more.orders; ending = more.ending; stops = more.stops; links = inl more.links }
+    record { orders = inl more.orders; ending = more.ending; unended = λ serves. inl (more.unended serves); stops = more.stops; links = inl more.links }
 
 -- ## Lines
 
@@ -192,6 +199,9 @@ module _ (f f' : FrontSeen) (a b : SeenBook) (line : List ℕ) (gave : Commands 
         endings = subst (NeverFalls first.words.graceful_stop) (sym stays) so.endings;
         ending =
             λ ends. subst (Rises first.words.graceful_stop) (sym stays) (so.ending (ending-alike a b going ends));
+        unended =
+            λ serves. just-as 0 0 first.words.graceful_stop f.counts.words.graceful_stop f'.counts.words.graceful_stop
+            (so.unended (serving-alike a b going serves)) stays refl;
         stops = just-as 0 0 first.words.stop f.counts.words.stop f'.counts.words.stop so.stops says.words.stop refl;
         links = just-as a.state.accepted b.state.accepted first.handed f.counts.handed f'.counts.handed so.links gave.handed accepted;
       }
@@ -208,14 +218,17 @@ module _ (f f' : FrontSeen) (a b : SeenBook) (line : List ℕ) (gave : Commands 
             (just-more (orders_in a) first.words.graceful f.counts.words.graceful f'.counts.words.graceful so.orders says.words.graceful));
         ending =
             λ ends. subst (Rises first.words.graceful_stop) (sym stays) (so.ending (ending-alike a b alike.going ends));
+        unended =
+            λ serves. inl (just-as 0 0 first.words.graceful_stop f.counts.words.graceful_stop f'.counts.words.graceful_stop
+            (so.unended (serving-alike a b alike.going serves)) stays refl);
         stops = just-as 0 0 first.words.stop f.counts.words.stop f'.counts.words.stop so.stops says.words.stop refl;
         links = inl (just-as a.state.accepted b.state.accepted first.handed f.counts.handed f'.counts.handed so.links gave.handed alike.accepted);
       }
 
   -- one asked for a graceful stop
   pub counts-ended : line ≡ command_word word.GracefulStop → orders_in b ≡ orders_in a → b.state.accepted ≡ a.state.accepted
-      → CountsOn 0 f.counts f'.counts a b
-  counts-ended is orders accepted first so =
+      → is_serving b.state.going ≡ false → CountsOn 0 f.counts f'.counts a b
+  counts-ended is orders accepted ended first so =
       let says = gave-word f f' line gave word.GracefulStop is in
       let one : RisesByOne f.counts.words.graceful_stop f'.counts.words.graceful_stop = says.words.graceful_stop in
       record {
@@ -225,8 +238,26 @@ module _ (f f' : FrontSeen) (a b : SeenBook) (line : List ℕ) (gave : Commands 
         ending =
             λ ends. rises-behind first.words.graceful_stop f.counts.words.graceful_stop f'.counts.words.graceful_stop so.endings
             (one-rises f.counts.words.graceful_stop f'.counts.words.graceful_stop one);
+        unended = λ serves. absurd (cc (ended, serves));
         stops = just-as 0 0 first.words.stop f.counts.words.stop f'.counts.words.stop so.stops says.words.stop refl;
         links = just-as a.state.accepted b.state.accepted first.handed f.counts.handed f'.counts.handed so.links gave.handed accepted;
+      }
+
+  -- and none could be begun
+  pub counts-unended : line ≡ command_word word.GracefulStop → b ≡ a → is_serving a.state.going ≡ true → CountsUntil f.counts f'.counts a b
+  counts-unended is same serves first so =
+      let says = gave-word f f' line gave word.GracefulStop is in
+      let one : RisesByOne f.counts.words.graceful_stop f'.counts.words.graceful_stop = says.words.graceful_stop in
+      let alike = alike-same a b same in
+      record {
+        orders =
+            inl (just-as (orders_in a) (orders_in b) first.words.graceful f.counts.words.graceful f'.counts.words.graceful so.orders says.words.graceful
+            alike.orders);
+        ending = λ ends. absurd (cc (ending-alike a b alike.going ends, serves));
+        unended =
+            λ here. inr (just-more 0 first.words.graceful_stop f.counts.words.graceful_stop f'.counts.words.graceful_stop (so.unended serves) one);
+        stops = just-as 0 0 first.words.stop f.counts.words.stop f'.counts.words.stop so.stops says.words.stop refl;
+        links = inl (just-as a.state.accepted b.state.accepted first.handed f.counts.handed f'.counts.handed so.links gave.handed alike.accepted);
       }
 
   -- one asked for a stop
@@ -242,6 +273,9 @@ module _ (f f' : FrontSeen) (a b : SeenBook) (line : List ℕ) (gave : Commands 
         endings = subst (NeverFalls first.words.graceful_stop) (sym stays) so.endings;
         ending =
             λ ends. subst (Rises first.words.graceful_stop) (sym stays) (so.ending (ending-alike a b alike.going ends));
+        unended =
+            λ serves. just-as 0 0 first.words.graceful_stop f.counts.words.graceful_stop f'.counts.words.graceful_stop
+            (so.unended (serving-alike a b alike.going serves)) stays refl;
         stops = just-more 0 first.words.stop f.counts.words.stop f'.counts.words.stop so.stops says.words.stop;
         links = just-as a.state.accepted b.state.accepted first.handed f.counts.handed f'.counts.handed so.links gave.handed alike.accepted;
       }
@@ -274,6 +308,9 @@ module _ {L : Type 0} (link_seen : L → LinkSeen) (f f' : FrontSeen) (link : L)
         (ap (λ (w : GivenWords). w.graceful) words-same) orders;
     endings = subst (λ (w : GivenWords). NeverFalls first.words.graceful_stop w.graceful_stop) (sym words-same) so.endings;
     ending = λ ends. subst (λ (w : GivenWords). Rises first.words.graceful_stop w.graceful_stop) (sym words-same) (so.ending (ending-alike a b going ends));
+    unended =
+        λ serves. just-as 0 0 first.words.graceful_stop f.counts.words.graceful_stop new.words.graceful_stop (so.unended (serving-alike a b going serves))
+        (ap (λ (w : GivenWords). w.graceful_stop) words-same) refl;
     stops = just-as 0 0 first.words.stop f.counts.words.stop new.words.stop so.stops (ap (λ (w : GivenWords). w.stop) words-same) refl;
     links =
         subst (λ (many : ℕ). RisesJustBy many first.handed new.handed) (sym accepted)
@@ -287,6 +324,9 @@ module _ {L : Type 0} (link_seen : L → LinkSeen) (f f' : FrontSeen) (link : L)
         inl (just-as (orders_in a) (orders_in b) first.words.graceful f.counts.words.graceful new.words.graceful so.orders
         (ap (λ (w : GivenWords). w.graceful) words-same) orders);
     ending = λ ends. subst (λ (w : GivenWords). Rises first.words.graceful_stop w.graceful_stop) (sym words-same) (so.ending (ending-alike a b going ends));
+    unended =
+        λ serves. inl (just-as 0 0 first.words.graceful_stop f.counts.words.graceful_stop new.words.graceful_stop
+        (so.unended (serving-alike a b going serves)) (ap (λ (w : GivenWords). w.graceful_stop) words-same) refl);
     stops = just-as 0 0 first.words.stop f.counts.words.stop new.words.stop so.stops (ap (λ (w : GivenWords). w.stop) words-same) refl;
     links =
         elim lacks [

@@ -16,7 +16,7 @@ use Rattle.conn_machine.specs.declared.event.Entry.{Entry}
 use Rattle.conn_state.specs.Answered.{SeenEnded}
 use Rattle.conn_state.specs.Known.{KnownOutside}
 use Rattle.board.specs.Editions.{GenerationsKeepTheirEditions, KeepsEditions}
-use Rattle.listener.specs.Counted.{CountsRun}
+use Rattle.listener.specs.Counted.{CountsRun, GivesNoEnding}
 use Rattle.listener.specs.RunsInside.{BacksWaits, HasRunBy}
 use Rattle.listener.specs.FirstNumbers.{numbers_of}
 use Rattle.listener.specs.Generations.{Opening, renewed}
@@ -84,13 +84,15 @@ store-since going history old mid new same faults (inr broken) = inr (broken.0, 
 -- what a server that ran by these numbers left of its listener
 pub record LeavesRun (o : Opening) (n : RunNumbers) (l : SeenListener) : Type 0 where
   pub run : IsRunFrom n l.board
-  pub stood : HasStood (Some (known_outside o)) o n l
+  pub first : SeenListener
+  pub stood : HasStood (Some (known_outside o)) o n first l
   pub closed : HasClosedAll l.board
   pub outside : AreOfOutside (Some (known_outside o)) l.board
   pub front : IfSome l.front.told (KeepsFront n l.board.book.state (all_entries n l.board.book stood.folded) (all_ended n l.board stood.folded))
   pub time : IsInTime (waits_of l.front.told) l.calls
   pub stopped : StoppedFor o.front l.front l.board.book.state
   pub counted : CountsRun l.board.book o.front.counts l.front.counts
+  pub unended : GivesNoEnding l.board.book.state.going (all_entries n l.board.book stood.folded) o.front.counts l.front.counts
   pub backed : BacksWaits n l.board
 
 -- the laws of editions, and of connections that ended
@@ -120,6 +122,7 @@ module _ (keep : GenerationsKeepTheirEditions) (join : (known : Option KnownOuts
           stopped = left.stopped;
         };
         counted = left.counted;
+        unended = left.unended;
         given = stood.given;
         store_is = stood.store;
       })

@@ -7,7 +7,7 @@ use Rattle.std.proofs.lemmas.Grind.{flat_map-append}
 use Rattle.std.proofs.lemmas.List.{map-append}
 use Rattle.std.specs.List.{flat_map, list_any}
 use Rattle.mpm_base.specs.Count.{NeverFalls}
-use Rattle.mpm_base.specs.Front.{FrontSeen, FrontTold, after_hush, hushed_front}
+use Rattle.mpm_base.specs.Front.{FrontCounts, FrontSeen, FrontTold, after_hush, hushed_front}
 use Rattle.mpm_base.specs.Store.{StoreSeen}
 use Rattle.conn_machine.specs.declared.event.Commanded.TheVariants.{Stop}
 use Rattle.conn_machine.specs.declared.event.Entry.{Entry}
@@ -27,6 +27,8 @@ use Rattle.board.specs.Book.{SeenBook}
 use Rattle.rounds.specs.declared.ends.End.{End}
 use Rattle.rounds.specs.declared.ends.End.TheVariants as end
 use Rattle.listener.specs.Commands.{is_by_line, is_graceful_stop}
+use Rattle.listener.specs.Counted.{CountsBut}
+use Rattle.listener.specs.CountedInside.{TurnsCount}
 use Rattle.listener.specs.FirstNumbers.{opened_by}
 use Rattle.listener.specs.Generations.{Opening}
 use Rattle.listener.specs.ListenInside.{HandsOutEach, TurnsEnd, WatchesAll}
@@ -48,6 +50,7 @@ use Rattle.listener.proofs.CommandlessLemmas.{commandless-added, commandless-gon
 use Rattle.listener.proofs.StandingLemmas.{KeepsPast, counted-both, entries-acts, folded-acts, keeps-plain, ordered-both, orders_behind, rises-more}
 use Rattle.rounds.proofs.TimelyLemmas.{all-both}
 use Rattle.listener.proofs.BroughtLemmas.{brought-behind, stopped_by}
+use Rattle.listener.proofs.CountedEndLemmas.{gives-none}
 use Rattle.listener.proofs.DownPaceLemmas.{down-brings, pace-down}
 use Rattle.listener.proofs.EventLemmas.{silent-gone, silent-halts, silent-retires, ticks_in}
 use Rattle.listener.proofs.PaceLemmas.{unhushed}
@@ -377,9 +380,10 @@ module _ (known : Option KnownOutside) (o : Opening) (n : RunNumbers) (turns : R
           let all : IsAllGone b.state = subst (λ (r : Result End BoardFault). TurnsEnd r first now b) is ends in
           (all.until, all.going)
 
-  -- a run stood so in the end
-  pub stood-down : HasStood known o n last
-  stood-down =
+  -- a run stood so in the end, of which the front counted so since it was the first
+  pub stood-down : (begin : SeenListener) → TurnsCount turns begin.front.counts now.front.counts begin.board.book now.board.book
+      → HasStood known o n begin last
+  stood-down begin counted =
       let at = turned.stands in
       let b = now.board.book in
       let d = last.board.book in
@@ -405,4 +409,10 @@ module _ (known : Option KnownOutside) (o : Opening) (n : RunNumbers) (turns : R
             past.orders past.refusals at.each at.no_more at.store);
         keeps = keeps-down;
         pace = paced-down;
+        unended =
+            λ from so none.
+            subst (λ (x : FrontCounts). CountsBut d.state.going 0 from.words.graceful_stop x.words.graceful_stop)
+            (sym (ap (λ (f : FrontSeen). f.counts) hushed))
+            (gives-none turns from begin.front.counts now.front.counts begin.board.book b d.state.going counted so
+            (at.ending ∙ ap not (sym past.ending ∙ none-counted is_graceful_stop entries' none)) down.going);
       }

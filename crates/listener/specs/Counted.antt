@@ -1,17 +1,20 @@
 -- What a front and a clock counted in a run, whether they tell or not.
-use Rattle.std.specs.Prelude.{◌≡◌, ◌⊎◌, ℕ, ◌+◌, ◌<◌, ◌≤◌, max, Option, None, Some}
+use Rattle.std.specs.Prelude.{◌≡◌, ◌⊎◌, ℕ, ◌+◌, ◌<◌, ◌≤◌, List, max, Option, None, Some}
 use Rattle.mpm_base.specs.Count.{Rises, RisesJustBy, greatest_count}
 use Rattle.mpm_base.specs.Front.{FrontCounts}
+use Rattle.conn_machine.specs.declared.event.Entry.{Entry}
 use Rattle.conn_machine.specs.declared.event.Why.TheVariants as why
 use Rattle.conn_machine.specs.declared.state.Going.{Going}
 use Rattle.conn_machine.specs.declared.state.Going.TheVariants.{Halted}
 use Rattle.conn_machine.specs.declared.state.State.{State}
+use Rattle.conn_machine.specs.Events.{count_events}
 use Rattle.board.specs.Board.{SeenBoard}
 use Rattle.board.specs.Book.{SeenBook}
 use Rattle.board.specs.Editions.{orders_in}
 use Rattle.rounds.specs.ClosedDown.{IsBrokenOff}
 use Rattle.rounds.specs.Moments.{moment_for}
 use Rattle.run_report.specs.Endings.{HasEndedGracefully}
+use Rattle.listener.specs.Commands.{is_graceful_stop}
 
 -- ## A front
 
@@ -32,6 +35,12 @@ pub record CountsRun (b : SeenBook) (old new : FrontCounts) : Type 0 where
   pub ending : HasEndedGracefully b.state.going → Rises old.words.graceful_stop new.words.graceful_stop
   pub stops : RisesJustBy (stops_at b.state.going) old.words.stop new.words.stop
   pub links : CountsBut b.state.going b.state.accepted old.handed new.handed
+
+-- where the history begins no graceful stop the front was given no line that says `graceful-stop`; or where the server stopped for want of
+-- memory one at most, with which nothing was done
+abbrev pub GivesNoEnding : Going → List Entry → FrontCounts → FrontCounts → Type 0
+GivesNoEnding going history old new =
+    count_events is_graceful_stop history ≡ 0 → CountsBut going 0 old.words.graceful_stop new.words.graceful_stop
 
 -- ## A clock
 

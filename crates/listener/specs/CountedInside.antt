@@ -1,5 +1,5 @@
 -- What the listener keeps on its way of what a front and a clock counted.
-use Rattle.std.specs.Prelude.{◌≡◌, ◌⊎◌, ℕ, ◌+◌, ◌≤◌, false, max, Result, Ok, Err, Some}
+use Rattle.std.specs.Prelude.{◌≡◌, ◌⊎◌, ℕ, ◌+◌, ◌≤◌, true, false, max, Result, Ok, Err, Some}
 use Rattle.mpm_base.specs.Count.{NeverFalls, Rises, RisesJustBy, next_count}
 use Rattle.mpm_base.specs.Front.{FrontCounts}
 use Rattle.mpm_base.specs.declared.front.Woke.{Woke}
@@ -22,6 +22,7 @@ pub record CountsSo (owed : ℕ) (first now : FrontCounts) (b : SeenBook) : Type
   pub orders : RisesJustBy (orders_in b) first.words.graceful now.words.graceful
   pub endings : NeverFalls first.words.graceful_stop now.words.graceful_stop
   pub ending : is_serving b.state.going ≡ false → Rises first.words.graceful_stop now.words.graceful_stop
+  pub unended : is_serving b.state.going ≡ true → RisesJustBy 0 first.words.graceful_stop now.words.graceful_stop
   pub stops : RisesJustBy owed first.words.stop now.words.stop
   pub links : RisesJustBy b.state.accepted first.handed now.handed
 
@@ -29,10 +30,11 @@ pub record CountsSo (owed : ℕ) (first now : FrontCounts) (b : SeenBook) : Type
 abbrev pub RisesByOrOneMore : ℕ → ℕ → ℕ → Type 0
 RisesByOrOneMore many old new = RisesJustBy many old new ⊎ RisesJustBy (many + 1) old new
 
--- the same where something could not be done: one order or one link more may have been counted
+-- the same where something could not be done: one order, one link or one graceful stop more may have been counted
 pub record CountsBroken (first now : FrontCounts) (b : SeenBook) : Type 0 where
   pub orders : RisesByOrOneMore (orders_in b) first.words.graceful now.words.graceful
   pub ending : is_serving b.state.going ≡ false → Rises first.words.graceful_stop now.words.graceful_stop
+  pub unended : is_serving b.state.going ≡ true → RisesByOrOneMore 0 first.words.graceful_stop now.words.graceful_stop
   pub stops : RisesJustBy 0 first.words.stop now.words.stop
   pub links : RisesByOrOneMore b.state.accepted first.handed now.handed
 

@@ -4,7 +4,7 @@ use Rattle.board.specs.Board.{SeenBoard}
 use Rattle.mpm_base.specs.Front.{FrontSeen}
 use Rattle.mpm_base.specs.Store.{StoreSeen}
 use Rattle.listener.specs.Commands.{GivesLines}
-use Rattle.listener.specs.Counted.{CountsRun}
+use Rattle.listener.specs.Counted.{CountsRun, GivesNoEnding}
 use Rattle.listener.specs.FirstNumbers.{numbers_of}
 use Rattle.listener.specs.Generations.{Opening}
 use Rattle.listener.specs.Outside.{KeepsOutside}
@@ -22,6 +22,7 @@ pub record HasRunBy (o : Opening) (store : StoreSeen) (f : FrontSeen) (calls : O
   pub outside :
       KeepsOutside (numbers_of o.config) o.front f calls b.book.state (entries_of_run o b has_run) (ended_of_run o b has_run)
   pub counted : CountsRun b.book o.front.counts f.counts
+  pub unended : GivesNoEnding b.book.state.going (entries_of_run o b has_run) o.front.counts f.counts
   pub given : GivesLines (entries_of_run o b has_run) o.front f
   pub store_is : KeepsStore b.book.state.going (entries_of_run o b has_run) o.store store
 

@@ -1,6 +1,6 @@
 -- What is seen of a listener with all that it works on, what it needs to take turns, and what its turns do.
 use Rattle.std.specs.Prelude.{◌≡◌, ◌<◌, ℕ, List, [], ◌++◌, length, replicate, Option, Result, is_some, false, IfSome, OnErr, OnOk}
-use Rattle.mpm_base.specs.Front.{FrontSeen}
+use Rattle.mpm_base.specs.Front.{FrontCounts, FrontSeen}
 use Rattle.mpm_base.specs.Store.{StoreSeen}
 use Rattle.conn_machine.specs.Events.{count_events}
 use Rattle.conn_machine.specs.declared.event.Entry.{Entry}
@@ -18,6 +18,8 @@ use Rattle.listener.specs.declared.edition.LoadedEdition.{LoadedEdition}
 use Rattle.listener.specs.declared.edition.NamedConfig.{NamedConfig}
 use Rattle.listener.specs.declared.run_numbers.RunNumbers.{RunNumbers}
 use Rattle.listener.specs.Commands.{HeedsLines, is_by_line}
+use Rattle.listener.specs.Counted.{GivesNoEnding}
+use Rattle.listener.specs.CountedInside.{CountsSo}
 use Rattle.listener.specs.FirstNumbers.{opened_by}
 use Rattle.listener.specs.FirstNumbersInside.{opened_book}
 use Rattle.listener.specs.Generations.{Opening}
@@ -133,8 +135,8 @@ pub record AreOver (known : Option KnownOutside) (turns : Result End BoardFault)
   pub time : InTime first → InTime now
   pub ends : TurnsEnd turns first.front now.front now.board.book
 
--- what the listener of a run that opened so did, of all its entries, to the end
-pub record HasStood (known : Option KnownOutside) (o : Opening) (n : RunNumbers) (now : SeenListener) : Type 0 where
+-- what the listener of a run that opened so did, of all its entries, to the end, since it was the first
+pub record HasStood (known : Option KnownOutside) (o : Opening) (n : RunNumbers) (first now : SeenListener) : Type 0 where
   pub passes : now.board.book.passes ≡ n.passes
   pub folded : HasFolded n now.board.book
   pub outside : EndedOfOutside known (whole_book n folded.entries) folded.ended
@@ -144,10 +146,13 @@ pub record HasStood (known : Option KnownOutside) (o : Opening) (n : RunNumbers)
   pub store : KeepsStore now.board.book.state.going (all_entries n now.board.book folded) o.store now.store
   pub keeps : KeepsUp o n now (all_entries n now.board.book folded)
   pub pace : KeepsPace n.slots now.front.told now.calls now.board.book.state.going (all_entries n now.board.book folded)
+  pub unended :
+      (from : FrontCounts) → CountsSo 0 from first.front.counts first.board.book
+      → GivesNoEnding now.board.book.state.going (all_entries n now.board.book folded) from now.front.counts
 
 -- it listened to the end, since it was the first: the same behind the stop of the server, which closed down, and the front listens no more
 pub record HasListened (known : Option KnownOutside) (first now : SeenListener) : Type 0 where
-  pub stood : (o : Opening) (n : RunNumbers) → IsOpenedBy first.config o → IsBegun known o n first → HasStood known o n now
+  pub stood : (o : Opening) (n : RunNumbers) → IsOpenedBy first.config o → IsBegun known o n first → HasStood known o n first now
   pub timely : StaysTimely first.board.book now.board.book
   pub passes : now.board.book.passes ≡ first.board.book.passes
   pub stopped : HasStopped first.front now.front now.board.book.state

@@ -255,6 +255,7 @@ impl<'a, 'c, L: Link + Send, N: Known, B: Bell, G: Gate> Listener<'a, 'c, L, N, 
         ensures hushed { MayHush (F.seen front.old) (F.seen front.new) }
         ensures hushes { OnOk result (IsHushedIf (is_serving self.old.board.book.state.going)
             (F.seen front.old) (F.seen front.new)) }
+        ensures ended { OnOk result (is_serving self.new.board.book.state.going ≡ false) }
         ensures serving { OnErr result (is_serving self.old.board.book.state.going ≡ true) }
         ensures kept { OnErr result (F.seen front.new ≡ F.seen front.old) }
         ensures same { OnErr result (self.new ≡ self.old) }

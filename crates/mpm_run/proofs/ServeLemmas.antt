@@ -119,6 +119,7 @@ serves (Some b) call name c site loaded f f' calls status ready asked shows run 
       };
       outside = run.outside;
       counted = run.counted;
+      unended = run.unended;
       given = run.given;
       store = store-since b.book.state.going entries call.store loaded call.store' asked.told asked.faults run.store_is;
       ends = ends;

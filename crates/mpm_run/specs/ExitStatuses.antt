@@ -7,7 +7,7 @@ use Rattle.mpm_base.specs.CommandWord.{command_word}
 use Rattle.mpm_base.specs.Front.{Binds, Dials, FrontSeen}
 use Rattle.mpm_base.specs.declared.script_line.CommandWord.{CommandWord}
 use Rattle.mpm_config.specs.Config.{Configuration}
-use Rattle.listener.specs.Counted.{CountsRun}
+use Rattle.listener.specs.Counted.{CountsRun, GivesNoEnding}
 use Rattle.listener.specs.Commands.{GivesLines}
 use Rattle.listener.specs.FirstNumbers.{numbers_of}
 use Rattle.listener.specs.Generations.{Opening}
@@ -216,6 +216,8 @@ pub record HasRunServer (call : Call) (f f' : FrontSeen) (calls : Option (List (
       KeepsOutside (numbers_of config) f f' calls b.book.state (entries_of_run (server_opening call f name config site) b has_run)
       (ended_of_run (server_opening call f name config site) b has_run)
   pub counted : CountsRun b.book f.counts f'.counts
+  pub unended :
+      GivesNoEnding b.book.state.going (entries_of_run (server_opening call f name config site) b has_run) f.counts f'.counts
   pub given : GivesLines (entries_of_run (server_opening call f name config site) b has_run) f f'
   pub store :
       KeepsStore b.book.state.going (entries_of_run (server_opening call f name config site) b has_run) call.store call.store'

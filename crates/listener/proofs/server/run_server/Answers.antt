@@ -7,6 +7,7 @@ use Rattle.listener.specs.OrdersInside.{opening_by}
 use Rattle.listener.specs.Served.{whole_book}
 use Rattle.listener.specs.TurnsInside.{HasStood, IsBegun, listener_of}
 use Rattle.listener.specs.Counted.{KeepsClock}
+use Rattle.listener.specs.CountedInside.{CountsSo}
 use Rattle.listener.proofs.CountedEndLemmas.{asks-since, clock-opened, counts-opened}
 use Rattle.listener.proofs.CountedLemmas.{alike-same, counts-alike, same-words}
 use Rattle.listener.proofs.FrontLemmas.{follows-trans, named-follows}
@@ -76,14 +77,19 @@ returns-clause-run g c =
     (g.D.Store.seen c.listen.new.store) c.listen.new.self.config in
     let begun : IsBegun known o n first =
     begun-opened c.folds_join.ensures known store old n first c.numbers_of-numbers.ensures.allowed book refl c.requires.timeout binds idle in
-    let stood : HasStood known o n last = c.listen.ensures.listened.stood o n (record { name = refl; config = refl }) begun in
+    let stood : HasStood known o n first last = c.listen.ensures.listened.stood o n (record { name = refl; config = refl }) begun in
     let stopped = stopped-before old front new c.listen.new.self.board.book.state (follows-bind _ _ _ _ _ binds) c.listen.ensures.listened.stopped in
     let named =
     named-follows known old new (follows-trans _ _ _ (follows-bind _ _ _ _ _ binds) c.listen.ensures.listened.follows) (known-front known o c.requires.named) in
-    let known_stood : HasStood _ o n last = subst (λ (k : Option KnownOutside). HasStood k o n last) c.requires.named stood in
+    let known_stood : HasStood _ o n first last = subst (λ (k : Option KnownOutside). HasStood k o n first last) c.requires.named stood in
+    let so : CountsSo 0 old.counts front.counts c.in-Ok-open_board.board.book =
+    counts-alike old.counts front.counts c.in-Ok-open_board.board.book c.in-Ok-open_board.board.book (same-words old.counts front.counts binds.words binds.handed)
+    (alike-same c.in-Ok-open_board.board.book c.in-Ok-open_board.board.book refl) old.counts
+    (counts-opened n old.counts c.in-Ok-open_board.board.book book) in
     let leaves : LeavesRun o n last =
     record {
       run = c.show_run.ensures.run stood.folded;
+      first = first;
       stood = known_stood;
       closed = c.show_run.ensures.closed stood.folded stopped.down;
       outside = subst (λ (k : Option KnownOutside). AreOfOutside k last.board) c.requires.named c.show_run.ensures.outside;
@@ -101,13 +107,8 @@ returns-clause-run g c =
       time = c.listen.ensures.listened.time (time-opened front.told calls idle);
       stopped = stopped.cause;
       backed = c.show_run.ensures.backed;
-      counted =
-          c.listen.ensures.counts (g.F.Front.seen c.args.front.now).counts
-          (counts-alike (g.F.Front.seen c.args.front.now).counts (g.F.Front.seen c.bind.new.self).counts c.in-Ok-open_board.board.book
-          c.in-Ok-open_board.board.book
-          (same-words (g.F.Front.seen c.args.front.now).counts (g.F.Front.seen c.bind.new.self).counts binds.words binds.handed)
-          (alike-same c.in-Ok-open_board.board.book c.in-Ok-open_board.board.book refl) (g.F.Front.seen c.args.front.now).counts
-          (counts-opened n (g.F.Front.seen c.args.front.now).counts c.in-Ok-open_board.board.book c.in-Ok-open_board.ensures.book));
+      counted = c.listen.ensures.counts old.counts so;
+      unended = known_stood.unended old.counts so;
     } in
     has-run-by c.generations_keep_their_editions.ensures c.folds_join.ensures.outside c.folds_join.ensures.outside_stays o n last
     c.forget.result c.numbers_of-numbers.ensures.value c.forget.ensures.same leaves

@@ -111,3 +111,10 @@ returns-in_err-command-clause-timely g c before =
 pub returns-in_err-command-clause-in_time : goal.returns-in_err-command-clause-in_time
 returns-in_err-command-clause-in_time g c =
     subst (λ (x : SeenBoard). StandsInTime x.book.state) (sym c.in_err-command.ensures.err) c.requires.in_time
+
+pub returns-then-not-is_serving-clause-ended : goal.returns-then-not-is_serving-clause-ended
+returns-then-not-is_serving-clause-ended g c =
+    sym (c.is_serving.ensures ∙ ap (λ (s : State). is_serving s.going) c.state.ensures) ∙ c.if-not-is_serving.true
+
+pub returns-clause-ended : goal.returns-clause-ended
+returns-clause-ended g c = ap (λ (x : SeenBoard). is_serving x.book.state.going) c.in_ok-command.ensures.ok.new_is

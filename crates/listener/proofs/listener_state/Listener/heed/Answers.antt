@@ -11,7 +11,7 @@ use Rattle.listener.specs.ShareInside.{DoesAllButOne, DoesAsked}
 use Rattle.listener.specs.StandingInside.{StandsBroken, standing}
 use Rattle.listener.specs.declared.edition.LoadedEdition.{LoadedEdition}
 use Rattle.listener.specs.declared.edition.NamedConfig.{NamedConfig}
-use Rattle.listener.proofs.CountedLemmas.{alike-same, counts-alike, counts-ended, counts-more, counts-restarted, counts-same, counts-stopped, counts-unbroken, counts-unrestarted, counts-until, may-wakes, same-dropped, same-may, same-none}
+use Rattle.listener.proofs.CountedLemmas.{alike-same, counts-alike, counts-ended, counts-more, counts-restarted, counts-same, counts-stopped, counts-unended, counts-unrestarted, counts-until, may-wakes, same-dropped, same-may, same-none}
 use Rattle.listener.proofs.FrontLemmas.{step-kept}
 use Rattle.listener.proofs.HeedLemmas.{HasHeeded, changed, does-all, does-but, does-unended, ending-other, graceful-other, heeded-dropped, heeded-ended, heeded-may, heeded-more, heeded-restarted, heeded-start, heeded-stopped, hushes-all, hushes-but, knows-kept, none-stops, on-graceful, on-stop, serves-kept, stands-none, stands-read, step-line}
 use Rattle.listener.proofs.RestartLemmas.{knows-as}
@@ -189,7 +189,7 @@ loop-preserved-in-Continue-branch-2 g c =
           (counts-more 0 (g.F.Front.seen c.loop.front).counts (g.F.Front.seen c.command.new.self).counts (g.F.Front.seen c.end.new.front).counts c.loop.self.board.book c.end.new.self.board.book
           c.end.new.self.board.book
           (counts-ended (g.F.Front.seen c.loop.front) (g.F.Front.seen c.command.new.self) c.loop.self.board.book c.end.new.self.board.book
-          c.in-Some-command.line c.in-Some-command.ensures.commands is c.end.ensures.orders c.end.ensures.accepted)
+          c.in-Some-command.line c.in-Some-command.ensures.commands is c.end.ensures.orders c.end.ensures.accepted ended.ended)
           (counts-alike (g.F.Front.seen c.command.new.self).counts (g.F.Front.seen c.end.new.front).counts c.end.new.self.board.book c.end.new.self.board.book
           (same-may (g.F.Front.seen c.command.new.self) (g.F.Front.seen c.end.new.front) c.end.ensures.hushed)
           (alike-same c.end.new.self.board.book c.end.new.self.board.book refl)));
@@ -243,16 +243,13 @@ pub returns-in_err-end-in-Ok-GracefulStop-clause-counts : goal.returns-in_err-en
 returns-in_err-end-in-Ok-GracefulStop-clause-counts g c =
     let is : c.in-Some-command.line ≡ command_word word.GracefulStop = search rules in
     let until : CountsUntil (g.F.Front.seen c.args.front.now).counts (g.F.Front.seen c.end.new.front).counts c.args.self.now.board.book c.end.new.self.board.book =
-    counts-unbroken (g.F.Front.seen c.args.front.now).counts (g.F.Front.seen c.end.new.front).counts c.args.self.now.board.book c.end.new.self.board.book
-    (counts-more 0 (g.F.Front.seen c.args.front.now).counts (g.F.Front.seen c.loop.front).counts (g.F.Front.seen c.end.new.front).counts c.args.self.now.board.book c.loop.self.board.book
-    c.end.new.self.board.book c.loop.invariant.counts
-    (counts-more 0 (g.F.Front.seen c.loop.front).counts (g.F.Front.seen c.command.new.self).counts (g.F.Front.seen c.end.new.front).counts c.loop.self.board.book c.end.new.self.board.book
-    c.end.new.self.board.book
-    (counts-ended (g.F.Front.seen c.loop.front) (g.F.Front.seen c.command.new.self) c.loop.self.board.book c.end.new.self.board.book
-    c.in-Some-command.line c.in-Some-command.ensures.commands is c.end.ensures.orders c.end.ensures.accepted)
-    (counts-alike (g.F.Front.seen c.command.new.self).counts (g.F.Front.seen c.end.new.front).counts c.end.new.self.board.book c.end.new.self.board.book
-    (same-may (g.F.Front.seen c.command.new.self) (g.F.Front.seen c.end.new.front) c.end.ensures.hushed)
-    (alike-same c.end.new.self.board.book c.end.new.self.board.book refl)))) in
+    counts-until (g.F.Front.seen c.args.front.now).counts (g.F.Front.seen c.loop.front).counts (g.F.Front.seen c.end.new.front).counts
+    c.args.self.now.board.book c.loop.self.board.book c.end.new.self.board.book c.loop.invariant.counts
+    (subst (λ (f : FrontSeen). CountsUntil (g.F.Front.seen c.loop.front).counts f.counts c.loop.self.board.book c.end.new.self.board.book)
+    (sym c.in_err-end-in-Ok-GracefulStop.ensures.kept)
+    (counts-unended (g.F.Front.seen c.loop.front) (g.F.Front.seen c.command.new.self) c.loop.self.board.book c.end.new.self.board.book
+    c.in-Some-command.line c.in-Some-command.ensures.commands is (ap (λ (l : _). l.board.book) c.in_err-end-in-Ok-GracefulStop.ensures.same)
+    c.in_err-end-in-Ok-GracefulStop.ensures.serving)) in
     search (rules, until)
 
 pub returns-in_err-end-in-Ok-GracefulStop-clause-unheeded : goal.returns-in_err-end-in-Ok-GracefulStop-clause-unheeded

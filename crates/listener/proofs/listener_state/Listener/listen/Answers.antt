@@ -28,6 +28,9 @@ returns-clause-listened g c =
     let b = c.take_turns-turns.new.self.board.book in
     let d = c.close_down.new.board.book in
     let over = c.take_turns-turns.ensures.over in
+    let first =
+    listener_of c.args.self.now.board front (g.C.Clock.told c.args.clock.now) c.args.self.now.ready c.args.self.now.edition
+    (g.D.Store.seen c.args.store.now) c.args.self.now.config in
     let now =
     listener_of c.take_turns-turns.new.self.board mid (g.C.Clock.told c.take_turns-turns.new.clock) c.take_turns-turns.new.self.ready
     c.take_turns-turns.new.self.edition (g.D.Store.seen c.take_turns-turns.new.store) c.take_turns-turns.new.self.config in
@@ -37,7 +40,7 @@ returns-clause-listened g c =
     record {
       stood =
           λ o n opened begun. stood-down g.N.Known.known o n turns front now last (over.turned o n opened begun) over.ends over.up c.close_down.ensures
-          c.hush.ensures refl refl;
+          c.hush.ensures refl refl first c.take_turns-turns.ensures.counts;
       timely = λ before. c.close_down.ensures.timely (over.timely before);
       passes =
           c.close_down.ensures.retires.acts.passes ∙ c.close_down.ensures.closes.acts.passes ∙ c.close_down.ensures.halts.passes ∙ over.passes;
