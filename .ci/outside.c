@@ -38,16 +38,29 @@ struct page {
 
 static struct page *page;
 
-__attribute__((constructor)) static void begin(void) {
-    const char *name = getenv("OUTSIDE_PAGE");
+/* The size of each allocation in their order, as far as there is place, where somebody wants to know. */
+static uint32_t *sizes;
+static uint64_t most_sizes, made_sizes;
+
+/* The file of that name in memory, or NULL, and how many bytes it has. */
+static void *shared(const char *name, uint64_t *size) {
     int file = name ? open(name, O_RDWR | O_CLOEXEC) : -1;
     struct stat found;
-    if (file < 0) return;
+    void *at = MAP_FAILED;
+    if (file < 0) return NULL;
     if (fstat(file, &found) == 0) {
-        void *at = mmap(NULL, (size_t)found.st_size, PROT_READ | PROT_WRITE, MAP_SHARED, file, 0);
-        if (at != MAP_FAILED) page = at;
+        *size = (uint64_t)found.st_size;
+        at = mmap(NULL, (size_t)found.st_size, PROT_READ | PROT_WRITE, MAP_SHARED, file, 0);
     }
     close(file);
+    return at == MAP_FAILED ? NULL : at;
+}
+
+__attribute__((constructor)) static void begin(void) {
+    uint64_t size = 0;
+    sizes = shared(getenv("OUTSIDE_SIZES"), &size);
+    most_sizes = size / sizeof *sizes;
+    page = shared(getenv("OUTSIDE_PAGE"), &size);
 }
 
 /* A number that looks random, and is the same in each run. */
@@ -176,6 +189,26 @@ int openat(int folder, const char *path, int flags, ...) {
     return fails(NUMBER_openat) ? -1 : real(folder, path, flags, mode);
 }
 
+int fcntl(int fd, int what, ...) {
+    static int (*real)(int, int, ...);
+    va_list rest;
+    va_start(rest, what);
+    void *argument = va_arg(rest, void *);
+    va_end(rest);
+    if (!real) real = (int (*)(int, int, ...))real_of("fcntl");
+    return fails(NUMBER_fcntl) ? -1 : real(fd, what, argument);
+}
+
+int ioctl(int fd, unsigned long what, ...) {
+    static int (*real)(int, unsigned long, ...);
+    va_list rest;
+    va_start(rest, what);
+    void *argument = va_arg(rest, void *);
+    va_end(rest);
+    if (!real) real = (int (*)(int, unsigned long, ...))real_of("ioctl");
+    return fails(NUMBER_ioctl) ? -1 : real(fd, what, argument);
+}
+
 int clock_gettime(clockid_t clock, struct timespec *time) {
     static int (*real)(clockid_t, struct timespec *);
     if (!real) real = (int (*)(clockid_t, struct timespec *))real_of("clock_gettime");
@@ -189,10 +222,18 @@ int clock_gettime(clockid_t clock, struct timespec *time) {
 void *__libc_malloc(size_t size);
 void *__libc_realloc(void *old, size_t size);
 
+static void note(size_t size) {
+    if (!sizes) return;
+    uint64_t place = __atomic_fetch_add(&made_sizes, 1, __ATOMIC_SEQ_CST);
+    if (place < most_sizes) sizes[place] = (uint32_t)size;
+}
+
 void *malloc(size_t size) {
+    note(size);
     return fails(NUMBER_malloc) ? NULL : __libc_malloc(size);
 }
 
 void *realloc(void *old, size_t size) {
+    note(size);
     return fails(NUMBER_malloc) ? NULL : __libc_realloc(old, size);
 }

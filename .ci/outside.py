@@ -7,11 +7,13 @@ import mmap
 import os
 import shutil
 import subprocess
+import tempfile
+import threading
 
 # The kinds of calls, in the order of their numbers. `malloc` is `realloc` too.
 KINDS = (
-    "socket bind listen accept4 connect setsockopt getsockname shutdown eventfd epoll_create1 epoll_ctl epoll_wait recv read send sendmsg "
-    "write writev open openat getdents64 statx clock_gettime malloc"
+    "socket bind listen accept4 connect setsockopt getsockname shutdown fcntl ioctl eventfd epoll_create1 epoll_ctl epoll_wait recv read send "
+    "sendmsg write writev open openat getdents64 statx clock_gettime malloc"
 ).split()
 SOURCE = f"{os.path.dirname(os.path.abspath(__file__))}/outside.c"
 COMPILERS = ["cc", "gcc", "clang"]
@@ -35,12 +37,21 @@ def compiler():
     return next(filter(None, map(shutil.which, COMPILERS)), None)
 
 
-def compiled(folder):
-    """The library, in the folder."""
-    to = f"{folder}/outside.so"
-    numbers = [f"-DNUMBER_{name}={number}" for number, name in enumerate(KINDS)]
-    words = [compiler(), "-shared", "-fPIC", "-O1", "-w", *numbers, "-o", to, SOURCE, "-ldl"]
-    subprocess.run(words, check=True, stdin=subprocess.DEVNULL, stdout=subprocess.DEVNULL)
+# The folder of the library, and who makes it first.
+FOLDER = tempfile.TemporaryDirectory()
+COMPILING = threading.Lock()
+
+
+def library():
+    """The path of the library, which is compiled once."""
+    to = f"{FOLDER.name}/outside.so"
+    with COMPILING:
+        if not os.path.exists(to):
+            # Others may use it too.
+            os.chmod(FOLDER.name, 0o755)
+            numbers = [f"-DNUMBER_{name}={number}" for number, name in enumerate(KINDS)]
+            words = [compiler(), "-shared", "-fPIC", "-O1", "-w", *numbers, "-o", to, SOURCE, "-ldl"]
+            subprocess.run(words, check=True, stdin=subprocess.DEVNULL, stdout=subprocess.DEVNULL)
     return to
 
 
@@ -54,7 +65,7 @@ class Outside:
         with open(self.path, "r+b") as file:
             self.memory = mmap.mmap(file.fileno(), ctypes.sizeof(Page))
         self.page = Page.from_buffer(self.memory)
-        self.before = ["env", f"LD_PRELOAD={compiled(folder)}", f"OUTSIDE_PAGE={self.path}"]
+        self.before = ["env", f"LD_PRELOAD={library()}", f"OUTSIDE_PAGE={self.path}"]
         for number, name in enumerate(KINDS):
             setattr(self, name, self.page.kinds[number])
 

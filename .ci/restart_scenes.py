@@ -87,8 +87,8 @@ def a_restart_ends_no_request_where_more_has_come_than_a_wait_takes():
             client.send(GET)
         for client in kept:
             expect("a response", client.reply(), ANSWER)
-        # A wait takes 256 events. One of the first wait is that of the command line, and one of the second, behind the restart, is that
-        # of the new client: so each of the two gives a slot less. The third has the rest.
+        # A wait takes 192 events. One of the first wait is that of the command line, and one of the second, behind the restart, is that
+        # of the new client: so each of the two gives a slot less. Those behind it have the rest.
         with server.standing_still():
             caller = connect(server.control)
             caller.send(b"graceful\n")

@@ -161,7 +161,7 @@ fn refusal_of(alloc: Global, code: u16) -> Result<Octets, NoMemory>
 pub fn show_refusals(rt: &impl Print, alloc: Global, rows: &str) -> io::Result<()> {
     for row in rows.lines() {
         let code = row.parse::<u16>().unwrap_or(0);
-        if matches!(code, 400 | 413 | 414 | 417 | 501) {
+        if matches!(code, 400 | 413 | 414 | 417 | 501 | 505) {
             let text = grown(refusal_of(alloc, code))?;
             let text = String::from_utf8_lossy(alloc, text.as_slice())?;
             println!(rt; "{row} => {text:?}")?;

@@ -1,5 +1,6 @@
 //! Tests of the site, by public calls alone: of configurations, of the one that a script writes, of the files of a site, what
-//! paths name, its bounds and its search, and of restarts. The file `stdin` has what is asked, and `stdout` what must come of it, row by row.
+//! paths name, its bounds and its search, of restarts, and of command lines. The file `stdin` has what is asked, and `stdout` what must come
+//! of it, row by row.
 //!
 //! In the input a line that begins with `== ` begins a section: the word behind it says what its rows are, and the rest is its title.
 //! In a row of a configuration or a script `|` stands for a line feed.
@@ -15,8 +16,13 @@
 //!   beside these files when it is restarted, or without one. `reload-sizes`: what it finds, as names and sizes. `reload-calls`: such
 //!   names, and calls of the store that fail in the first of two restarts. `reload-crowd`: no rows, as for `crowd`.
 //! - `crowd`: no rows, for a store of 65,537 files. `search`: names in two parts with `|` between them, which are looked for among 65,536.
+//! - `words`: command lines. A row begins with `$`; its words stand behind it, each after one space, and `''` is an empty word.
+//!
+//! With `rt try --fail-alloc N` the Nth allocation fails, for each N. A section `words` then ends with an error, or it prints what it prints
+//! otherwise.
 #![tactic(auto)]
 
+mod command_lines;
 mod configurations;
 mod loads;
 mod paths;
@@ -55,6 +61,7 @@ fn show_section(rt: &impl Print, alloc: Global, section: Section<'_>) -> io::Res
         "reload-crowd" => reloads::show_crowd(rt, alloc),
         "crowd" => loads::show_crowd(rt, alloc),
         "search" => search::show_search(rt, alloc, rows),
+        "words" => command_lines::show_forms(rt, alloc, rows),
         _ => configurations::show_rows(rt, alloc, word, rows),
     }
 }

@@ -123,8 +123,8 @@ impl<'a, R: Net + time::Clock + Eprint> Front for SocketFront<'a, R> {
         ensures pressed { self.new.pressed ≡ false }
     {
         let pressed = self.pressed || self.sockets.asks_control();
-        self.pressed = false;
         let woke = self.wait_until(until, pressed, ready);
+        self.pressed = false;
         self.counters.wait(woke);
         if woke {
             let last = self.clock.last();

@@ -1,7 +1,10 @@
 -- What a pass knows once it gave its turn back.
-use Rattle.std.proofs.Common.{◌≡◌, ◌≢◌, ℕ, ◌<◌, true, [], ◌∷◌, ◌++◌, Option, Some, None, refl, sym, ap, subst, ◌∙◌, append-nil, append_assoc, eq-eqb}
+use Rattle.std.proofs.Common.{◌≡◌, ◌≢◌, inl, inr, ℕ, ◌<◌, true, [], ◌∷◌, ◌++◌, Option, Some, None, refl, sym, ap, subst, ◌∙◌, append-nil, append_assoc, eq-eqb}
 use Rattle.atomic_table.specs.Table.{Me}
+use Rattle.mpm_base.specs.declared.conn.Cause.{Cause}
 use Rattle.mpm_base.specs.declared.conn.ConnName.{ConnName}
+use Rattle.mpm_base.specs.declared.conn.Kind.{Kind}
+use Rattle.mpm_base.specs.declared.conn.Kind.TheVariants.{Reading, KeepAlive, Writing, Linger, ShortLinger}
 use Rattle.http_read.specs.declared.request.Limits.{Limits}
 use Rattle.file_table.specs.Site.{SeenSite}
 use Rattle.conn_machine.specs.declared.event.Event.{Event}
@@ -15,7 +18,7 @@ use Rattle.conn_machine.specs.Runs.{after, has_after, row_of}
 use Rattle.conn_machine.specs.Sound.{IsSound}
 use Rattle.conn_machine.specs.Table.{next, queued_row, served_row}
 use Rattle.conn_state.specs.declared.turn.LastLinger.TheVariants as linger
-use Rattle.conn_state.specs.Conn.{SeenConn}
+use Rattle.conn_state.specs.Conn.{SeenConn, is_usable}
 use Rattle.conn_state.specs.Known.{KnownOutside}
 use Rattle.table_rule.specs.declared.view.Origin.{Origin}
 use Rattle.table_rule.specs.declared.view.View.{View}
@@ -24,13 +27,13 @@ use Rattle.board_lock.specs.Passes.{GaveBack, TookTurn}
 use Rattle.board.specs.Board.{SeenBoard}
 use Rattle.board.specs.Book.{SeenBook, entry_of}
 use Rattle.board.specs.Editions.{IsOfGeneration}
-use Rattle.board.specs.Fits.{IsTakenUp}
+use Rattle.board.specs.Fits.{IsSettledFrom, IsTakenUp, WaitsAs}
 use Rattle.board.specs.Ledger.{ledger_of}
 use Rattle.board.specs.WholeEditions.{with_more}
 use Rattle.worker_group.specs.InHandInside.{IsServed}
 use Rattle.worker_group.proofs.AnswerLemmas.{live_row-update}
 use Rattle.worker_group.proofs.ServeLemmas.{alive, test-at}
-use Rattle.worker_group.proofs.StartLemmas.{lives, settled-usable}
+use Rattle.worker_group.proofs.StartLemmas.{lives}
 use Rattle.turn_tests.specs.Books.{book_of, state_of, whole_book}
 use Rattle.turn_tests.specs.Carries.{Carries, HasPermitOnly, IsCarried, Serves}
 use Rattle.turn_tests.specs.GoesOn.{IsListener, MadeEvent}
@@ -239,6 +242,20 @@ started_found s name row found =
     let is = alive s.rows name row found in
     live_row-update s.rows name row (served_row s) is.at is.life
 
+-- a connection that waits may be read and written on
+waits_usable : (kind : Kind) (c : SeenConn) → WaitsAs kind c → is_usable c.turn ≡ true
+waits_usable Reading c (inl new) = ap is_usable new
+waits_usable Reading c (inr more) = ap is_usable more
+waits_usable KeepAlive c waits = ap is_usable waits.turn
+waits_usable Writing c waits = ap is_usable waits
+waits_usable Linger c waits = waits
+waits_usable ShortLinger c waits = waits
+
+-- and so may one that did until it was taken up
+settled_usable : (from : Option Kind) (why : Option Cause) (c : SeenConn) → IsSettledFrom from why c → is_usable c.turn ≡ true
+settled_usable None why c settled = absurd settled
+settled_usable (Some kind) why c settled = waits_usable kind c settled.waits
+
 served_start : (s t : State) (c : SeenConn) (name : ConnName) (row : Row) → t ≡ next s (event.Start name) → name ≡ c.name → live_row s.rows name ≡ Some row → IsTakenUp t c
     → c.linger ≡ linger.Open → IsServed t c
 served_start s t c name row is named found taken opened =
@@ -249,7 +266,7 @@ served_start s t c name row is named found taken opened =
       found = taken.found;
       working = ap (λ (r : Row). is_working r.place) same;
       fits = taken.fits;
-      usable = settled-usable taken.row.from taken.row.cause c taken.settled;
+      usable = settled_usable taken.row.from taken.row.cause c taken.settled;
       open_side = opened;
     }
 

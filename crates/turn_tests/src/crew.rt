@@ -69,6 +69,7 @@ impl Left {
 }
 
 /// What the threads share beside the board.
+#[derive(Drop)]
 struct Stage {
     folds: Folds,
     /// How many connections are still to be served.

@@ -4,6 +4,7 @@ use std::sync::atomic::{AtomicU64, Ordering};
 use std::thread;
 
 /// The turns that the listener began, and those of them in which it folded.
+#[derive(Drop)]
 pub struct Folds {
     /// How many turns it began.
     turns: AtomicU64,

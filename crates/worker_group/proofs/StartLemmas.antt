@@ -80,7 +80,7 @@ waits-usable Linger c waits = waits
 waits-usable ShortLinger c waits = waits
 
 -- and so may one that did until it was taken up
-pub settled-usable : (from : Option Kind) (why : Option Cause) (c : SeenConn) → IsSettledFrom from why c → is_usable c.turn ≡ true
+settled-usable : (from : Option Kind) (why : Option Cause) (c : SeenConn) → IsSettledFrom from why c → is_usable c.turn ≡ true
 settled-usable None why c settled = absurd settled
 settled-usable (Some kind) why c settled = waits-usable kind c settled.waits
 

@@ -10,7 +10,7 @@ pub returns-then-is_graceful-clause-past : goal.returns-then-is_graceful-clause-
 returns-then-is_graceful-clause-past c =
     let d = c.args.draft.now in
     on_ok_weaker c.end.result (λ e.
-    let is : c.end.new.draft ≡ record d { past = d.past ++ (conf_file d.conf ∷ d.others) ∷ [] } = e in
+    let is : c.end.new.self ≡ record d { past = d.past ++ (conf_file d.conf ∷ d.others) ∷ [] } = e in
     rw (← c.if-is_graceful.ensures) (ap (λ (x : SeenDraft). x.past) is)) c.end.ensures
 
 pub returns-then-is_graceful-clause-conf : goal.returns-then-is_graceful-clause-conf
@@ -18,7 +18,7 @@ returns-then-is_graceful-clause-conf c =
     let d = c.args.draft.now in
     let graceful : is_graceful c.args.line.now ≡ true = sym c.if-is_graceful.ensures in
     on_ok_weaker c.end.result (λ e.
-    let is : c.end.new.draft ≡ record d { past = d.past ++ (conf_file d.conf ∷ d.others) ∷ [] } = e in
+    let is : c.end.new.self ≡ record d { past = d.past ++ (conf_file d.conf ∷ d.others) ∷ [] } = e in
     ap (λ (x : SeenDraft). x.conf) is ∙ ap (fold conf_after d.conf) (sym (graceful-no_site c.args.line.now graceful))) c.end.ensures
 
 pub returns-then-is_graceful-clause-others : goal.returns-then-is_graceful-clause-others
@@ -26,5 +26,5 @@ returns-then-is_graceful-clause-others c =
     let d = c.args.draft.now in
     let graceful : is_graceful c.args.line.now ≡ true = sym c.if-is_graceful.ensures in
     on_ok_weaker c.end.result (λ e.
-    let is : c.end.new.draft ≡ record d { past = d.past ++ (conf_file d.conf ∷ d.others) ∷ [] } = e in
+    let is : c.end.new.self ≡ record d { past = d.past ++ (conf_file d.conf ∷ d.others) ∷ [] } = e in
     ap (λ (x : SeenDraft). x.others) is ∙ ap (fold files_after d.others) (sym (graceful-no_site c.args.line.now graceful))) c.end.ensures

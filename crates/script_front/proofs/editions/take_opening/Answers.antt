@@ -22,5 +22,5 @@ pub returns : goal.returns
 returns c =
     let d = c.loop-line.draft in
     on_ok_weaker c.end.result (λ e.
-    let is : c.end.new.draft ≡ record d { past = d.past ++ (conf_file d.conf ∷ d.others) ∷ [] } = e in
+    let is : c.end.new.self ≡ record d { past = d.past ++ (conf_file d.conf ∷ d.others) ∷ [] } = e in
     is ∙ opening-ended c.args.lines.now c.loop-line.line-index d c.loop-line-test.false c.loop-line.invariant) c.end.ensures

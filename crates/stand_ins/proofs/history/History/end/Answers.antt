@@ -11,5 +11,5 @@ pub invariant_of-self-2 : goal.invariant_of-self-2
 invariant_of-self-2 c =
     let steps = c.self.inside.steps.items in
     let more : length (ended [] c.push_back.new.self.items) ≡ length (ended [] steps) + 1 =
-        ap (λ items. length (ended [] items)) c.in_ok-push_back.ensures.items ∙ count-more [] steps step.End refl in
+    ap (λ items. length (ended [] items)) c.in_ok-push_back.ensures.items ∙ count-more [] steps step.End refl in
     omega (arith, more, c.in-Some.ensures.1, c.self.invariant)
