@@ -3,7 +3,6 @@ use Rattle.std.proofs.Common.{◌≡◌, ℕ, ◌≤◌, Bool, true, false, List
 use Rattle.std.specs.Prelude.{Result, is_ok, slice_index}
 use Rattle.std.specs.declared.result.Result.TheVariants.{Ok, Err}
 use Rattle.atomic_table.specs.Table.{Me}
-use Rattle.mpm_base.specs.Link.{LinkCounts}
 use Rattle.mpm_base.specs.declared.conn.ConnName.{ConnName}
 use Rattle.mpm_base.specs.declared.conn.Kind.{Kind}
 use Rattle.mpm_base.specs.declared.conn.Kind.TheVariants.{Reading}
@@ -32,7 +31,7 @@ use Rattle.board.specs.Events.{IsTaken}
 use Rattle.board.specs.Fits.{IsOf}
 use Rattle.board.specs.Ledger.{ledger_of}
 use Rattle.turn_tests.specs.Books.{state_of}
-use Rattle.turn_tests.specs.GoesOn.{IsListener, IsUnparked, MadeEvent}
+use Rattle.turn_tests.specs.GoesOn.{IsListener, IsOfButWaits, IsUnparked, MadeEvent}
 use Rattle.turn_tests.specs.Rests.{TurnsRestOn}
 use Rattle.turn_tests.proofs.FoundLemmas.{own_row, same_live, same_state}
 use Rattle.turn_tests.proofs.GoesOnLemmas.{Changes, free_then, same_seen}
@@ -127,18 +126,31 @@ pub unparked_here : {K : Type 0} (v w : Me (Option K) View) (b : SeenBoard) (nam
     → after b.book.base b.book.history ≡ b.book.state → v.0.row ≡ Some name → IsUnparked (state_of v.0) name → IsUnparked b.book.state name
 unparked_here v w b name rests took state has unparked row found = unparked row (sym (same_live v w b name rests took state has) ∙ found)
 
+-- the row of a connection of that name has no wait
+unwaited : (s : State) (c : SeenConn) (name : ConnName) (row : Row) → c.name ≡ name → live_row s.rows c.name ≡ Some row → IsUnparked s name → row.waits ≡ []
+unwaited s c name row named found unparked = unparked row (subst (λ (n : ConnName). live_row s.rows n ≡ Some row) named found)
+
 -- so its link backs the waits that it has
-pub backed_new : WaitsAreBackedByCalls → (s : State) (name : ConnName) (row : Row) (counts : LinkCounts) → IsUnparked s name → live_row s.rows name ≡ Some row
-    → AreBacked row.waits counts
-backed_new law s name row counts unparked found =
-    subst (λ (waits : List Kind). AreBacked waits counts) (sym (unparked row found)) (law.none counts)
+pub is_of_new : WaitsAreBackedByCalls → (s : State) (c : SeenConn) (name : ConnName) → c.name ≡ name → IsOfButWaits s c → IsUnparked s name → IsOf s c
+is_of_new law s c name named is unparked = record {
+  row = is.row;
+  found = is.found;
+  fits = record {
+    child = is.fits.child;
+    generation = is.fits.generation;
+    notes = is.fits.notes;
+    rank = is.fits.rank;
+    backed =
+        subst (λ (waits : List Kind). AreBacked waits c.counts) (sym (unwaited s c name is.row named is.found unparked)) (law.none c.counts);
+  };
+}
 
 -- and the first one for something to read
-pub backs_first : WaitsAreBackedByCalls → (s : State) (c : SeenConn) (name : ConnName) → c.name ≡ name → IsOf s c → IsUnparked s name → BacksWait Reading s c
+pub backs_first : WaitsAreBackedByCalls → (s : State) (c : SeenConn) (name : ConnName) → c.name ≡ name → IsOfButWaits s c → IsUnparked s name
+    → BacksWait Reading s c
 backs_first law s c name named is unparked = record {
   row = is.row;
   found = is.found;
   backed =
-      subst (λ (waits : List Kind). AreBacked (waits ++ Reading ∷ []) c.counts)
-      (sym (unparked is.row (subst (λ (n : ConnName). live_row s.rows n ≡ Some is.row) named is.found))) (law.first c.counts);
+      subst (λ (waits : List Kind). AreBacked (waits ++ Reading ∷ []) c.counts) (sym (unwaited s c name is.row named is.found unparked)) (law.first c.counts);
 }

@@ -4,9 +4,9 @@ ghost use Rattle.mpm_base.specs.declared.conn.Kind.TheVariants.{Reading};
 ghost use Rattle.conn_machine.specs.Table.{is_allowed};
 ghost use Rattle.conn_machine.specs.declared.event.Event.TheVariants as event;
 ghost use Rattle.board.specs.Finds.{cause_of};
-ghost use Rattle.board.specs.Fits.{IsOf, IsSettled};
+ghost use Rattle.board.specs.Fits.{IsSettled};
 ghost use Rattle.turn_tests.specs.Books.{state_of};
-ghost use Rattle.turn_tests.specs.GoesOn.{IsListener, IsUnparked};
+ghost use Rattle.turn_tests.specs.GoesOn.{IsListener, IsOfButWaits, IsUnparked};
 
 use crate::clients::link_of;
 use crate::laws::turns_rest_on_these;
@@ -141,7 +141,7 @@ fn accepts<R: Wait>(
     }
 }
 
-/// The connection of that name, which was taken and never waited, of the client of that number.
+/// The connection of that name, which was taken, of the client of that number.
 fn conn_for(
     alloc: Global,
     board: &ScriptBoard,
@@ -149,13 +149,11 @@ fn conn_for(
     name: ConnName,
     client: u32,
 ) -> Option<Conn<ScriptLink, Nothing>>
-    requires { IsUnparked board.now.book.state name }
     ensures name { IfSome result (λ conn. conn.name ≡ name) }
-    ensures fits { IfSome result (IsOf board.now.book.state) }
+    ensures fits { IfSome result (IsOfButWaits board.now.book.state) }
     ensures settled { IfSome result
         (λ conn. IsSettled Reading (cause_of board.now.book.state name) conn) }
 {
-    waits_are_backed_by_calls();
     if board.cause(name).is_some() {
         return None;
     }
