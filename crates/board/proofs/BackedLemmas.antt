@@ -42,7 +42,7 @@ count-last test waits kind b is =
     let both : count_by test (waits ++ kind ∷ []) ≡ count_by test waits + count_by test (kind ∷ []) =
     sum_by-append (λ (k : Kind). cond (test k) 1 0) waits (kind ∷ []) in
     let last : count_by test (kind ∷ []) ≡ cond (test kind) 1 0 + count_by test [] = sum_by-cons (λ (k : Kind). cond (test k) 1 0) kind [] in
-    let one : cond (test kind) 1 0 ≡ cond b 1 0 = ap (λ (t : Bool). cond t 1 0) is in
+    let one : cond (test kind) 1 0 + 0 ≡ cond b 1 0 + 0 = ap (λ (t : Bool). cond t 1 0 + 0) is in
     omega (arith, both, last, one)
 
 -- a wait for something to read isn't one for room
