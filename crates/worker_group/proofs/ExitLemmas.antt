@@ -11,6 +11,7 @@ use Rattle.mpm_base.specs.declared.conn.Kind.{Kind}
 use Rattle.mpm_base.specs.declared.conn.Kind.TheVariants.{KeepAlive}
 use Rattle.mpm_base.specs.declared.conn.Tail.{Tail}
 use Rattle.mpm_base.specs.declared.conn.Tail.TheVariants.{Direct}
+use Rattle.mpm_base.specs.declared.note.Note.{Note}
 use Rattle.conn_machine.specs.declared.event.Event.TheVariants as event
 use Rattle.conn_machine.specs.declared.row.Row.{Row}
 use Rattle.conn_machine.specs.declared.state.State.{State}
@@ -29,7 +30,7 @@ use Rattle.board.specs.declared.faults.BoardFault.TheVariants as fault
 use Rattle.board.specs.Book.{SeenBook, book_with_entry}
 use Rattle.board.specs.Board.{SeenBoard, Agrees, conn_at}
 use Rattle.board.specs.Faults.{IsRefusedFor}
-use Rattle.board.specs.Fits.{IsClosing}
+use Rattle.board.specs.Fits.{IsClosing, NotesEnd}
 use Rattle.worker_group.specs.declared.service.Exit.{Exit}
 use Rattle.worker_group.specs.declared.service.Exit.TheVariants as exit
 use Rattle.worker_group.specs.Acts.{Acts}
@@ -89,7 +90,9 @@ closing-ended s why how c e may ends = record {
   tail = refl;
   child = ends.child ∙ may.child;
   generation = ends.generation ∙ may.generation;
-  notes = rw (ends.cause, ends.notes) may.notes;
+  notes =
+      subst (λ (w : Cause). NotesEnd w e.notes may.row.notes) (sym ends.cause)
+      (subst (λ (ns : List Note). NotesEnd why ns may.row.notes) (sym ends.notes) may.notes);
   rank = rank-map after_close c.told e.told may.row.arrival (λ t. refl) ends.told may.rank;
   backed =
       backed-on may.row.waits c.counts e.counts (stays-there c.counts.late_reads e.counts.late_reads ends.counts.late_reads)
