@@ -327,7 +327,7 @@ def reset_at(server, place):
 
 def reset_at_each(places):
     """Has clients reset behind so many bytes of a response, one behind the other, and another one be served between them."""
-    with serving(files={**SITE, "letters.txt": LETTERS}) as server:
+    with serving("MaxKeepAliveRequests 0", files={**SITE, "letters.txt": LETTERS}) as server:
         with connect(server.port) as other:
             for turn, place in enumerate(places):
                 reset_at(server, place)
