@@ -18,7 +18,7 @@ use Rattle.mpm_base.specs.declared.note.Snapshot.{Snapshot}
 use Rattle.conn_machine.specs.declared.event.Event.TheVariants as event
 use Rattle.conn_machine.specs.declared.row.Row.{Row}
 use Rattle.conn_machine.specs.declared.state.State.{State}
-use Rattle.conn_machine.specs.Rows.{is_held, is_working}
+use Rattle.conn_machine.specs.Rows.{is_held, is_working, live_row}
 use Rattle.conn_machine.specs.Runs.{after}
 use Rattle.conn_machine.specs.Shown.{snapshot_of}
 use Rattle.conn_machine.specs.Sound.{IsSound}
@@ -333,19 +333,17 @@ close_allowed s why c e may ends =
     ∙ test may.row may.in_hand may.end_fits)
 
 pub closing : (s : State) (why : Cause) (c : SeenConn) (e : SeenEnded) → IsClosable s why Direct c → IsEndOf c why Direct e → IsClosing s e.name e.cause e.tail e
-closing s why c e may ends =
-    rw (ends.name, ends.cause, ends.tail)
-    record {
-      row = may.row;
-      found = may.found;
-      name_is = ends.name;
-      cause = ends.cause;
-      tail = ends.tail;
-      child = ends.child ∙ may.child;
-      generation = ends.generation ∙ may.generation;
-      notes = subst (λ ns. NotesEnd why ns may.row.notes) (sym ends.notes) may.notes;
-      rank = rank_ended c e may.row.arrival ends.told may.rank;
-    }
+closing s why c e may ends = record {
+  row = may.row;
+  found = ap (live_row s.rows) ends.name ∙ may.found;
+  name_is = refl;
+  cause = refl;
+  tail = refl;
+  child = ends.child ∙ may.child;
+  generation = ends.generation ∙ may.generation;
+  notes = subst (λ w. NotesEnd w e.notes may.row.notes) (sym ends.cause) (subst (λ ns. NotesEnd why ns may.row.notes) (sym ends.notes) may.notes);
+  rank = rank_ended c e may.row.arrival ends.told may.rank;
+}
 
 -- ## Behind the wait
 

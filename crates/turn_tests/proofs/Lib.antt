@@ -3,5 +3,6 @@ mod GoesOnLemmas
 mod LeavesLemmas
 mod ListenerLemmas
 mod OpeningLemmas
+mod SendLemmas
 mod ServiceLemmas
 mod ThenLemmas

@@ -72,5 +72,5 @@ accepted_row v w u old new name child generation rests took gave number m taken 
 pub parked_row : {K T E : Type 0} (v w u : Me (Option K) View) (e : Event) (old new : SeenBoard) (r : Result T E) (ok : Bool) → TurnsRestOn → TookTurn v w (ledger_of old)
     → GaveBack w u (ledger_of new) → v.0.who.number ≡ 0 → Changes (is_ok r) 0 e old new → has_after v.0.row e (entry_of 0 e old.book).reply ≡ None
     → ok ≡ is_ok r → ok ≡ true → u.0.row ≡ None
-parked_row v w u e old new (Ok x) ok rests took gave number m leaves is yes = row_then v w u 0 e old new rests took gave number m ∙ leaves
-parked_row v w u e old new (Err x) ok rests took gave number m leaves is yes = absurd (cc (is, yes))
+parked_row v w u e old new (Ok x) ok rests took gave number m leaves is made = row_then v w u 0 e old new rests took gave number m ∙ leaves
+parked_row v w u e old new (Err x) ok rests took gave number m leaves is made = absurd (cc (is, made))

@@ -1,5 +1,5 @@
 -- A lock with a board, and its passes.
-use Rattle.std.proofs.Common.{◌≡◌, ℕ, zero, suc, ◌≤◌, true, List, [], ◌∷◌, ◌++◌, length, Option, Some, None, refl, sym, ap, subst, ◌∙◌, arith}
+use Rattle.std.proofs.Common.{◌≡◌, ◌≢◌, ℕ, zero, suc, ◌≤◌, true, List, [], ◌∷◌, ◌++◌, length, Option, Some, None, refl, sym, ap, subst, ◌∙◌, arith}
 use Rattle.std.specs.Prelude.{map, slice_get, slice_index, option_to_list, IfSome}
 use Rattle.atomic_table.specs.Table.{Me}
 use Rattle.mpm_base.specs.declared.shape.Shape.{Shape}
@@ -10,6 +10,7 @@ use Rattle.table_rule.specs.declared.view.Origin.{Origin}
 use Rattle.table_rule.specs.declared.view.View.{View}
 use Rattle.table_rule.specs.Tie.{IsNew}
 use Rattle.board_lock.specs.Passes.{fresh_view}
+use Rattle.recycle_perch.specs.Resting.{IsFreeCarrier}
 use Rattle.board.specs.Board.{SeenBoard}
 use Rattle.board.specs.Ledger.{ledger_of}
 use Rattle.board.specs.ReportLine.{line_of}
@@ -59,6 +60,15 @@ no_row me fresh = fresh_row fresh.0 fresh.1 me fresh.2
 
 pub listener : {S : Type 0} (me : Me S View) → IsFresh me → me.0.who.number ≡ 0 → IsListener me
 listener me fresh number = record { turnless = (player me fresh).turnless; number = number }
+
+-- one that went to a thread is that of the listener, or a carrier that has nothing
+pub player_listener : {S : Type 0} (me : Me S View) (n : ℕ) → IsPlayer me → n ≡ me.0.who.number → n ≡ 0 → IsListener me
+player_listener me n is same number = record { turnless = is.turnless; number = sym same ∙ number }
+
+pub player_carrier : {S : Type 0} (me : Me S View) (n : ℕ) → IsPlayer me → n ≡ me.0.who.number → (n ≡ 0 → ⊥) → IsFreeCarrier me
+player_carrier me n is same other =
+    let number : me.0.who.number ≢ 0 = λ z. other (same ∙ z) in
+    record { free = record { hand = is.turnless.hand; idle = is.idle number }; number = number }
 
 -- pass 0 may go to a thread
 pub listener_player : {S : Type 0} (me : Me S View) → IsListener me → IsPlayer me

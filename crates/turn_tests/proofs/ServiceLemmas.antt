@@ -9,8 +9,8 @@ use Rattle.turn_tests.specs.Carries.{HasPermitOnly}
 
 -- one that got a permit has that alone
 pub reserved : {S : Type 0} (v w : Me S View) (child : ℕ) (done : Bool) → IsFreeCarrier v → ReservesPermit child v.0 done w.0 → done ≡ true → HasPermitOnly child w.0
-reserved v w child done free took yes =
-    let is = took.kept yes in record {
+reserved v w child done free took got =
+    let is = took.kept got in record {
       turn = ap (λ (q : View). q.turn) is ∙ free.free.idle.turn;
       number = λ z. free.number (sym (ap (λ (q : View). q.who.number) is) ∙ z);
       hand = ap (λ (q : View). q.hand) is ∙ ap (λ (h : Hand). record h { permit = Some child }) free.free.idle.hand;
@@ -19,8 +19,8 @@ reserved v w child done free took yes =
 
 -- one that got none has nothing
 pub unreserved : {S : Type 0} (v w : Me S View) (child : ℕ) (done : Bool) → IsFreeCarrier v → ReservesPermit child v.0 done w.0 → done ≡ false → w.1 ≡ v.1 → IsFreeCarrier w
-unreserved v w child done free took no hand =
-    let is = took.left no in record {
+unreserved v w child done free took none hand =
+    let is = took.left none in record {
       free = record {
         hand = hand ∙ free.free.hand;
         idle = record {

@@ -193,6 +193,12 @@ permit_still v w u b child rests took gave has =
       row = nothing_row v w u b rests took gave ∙ has.row;
     }
 
+-- by the board that was left, which is the one that was found
+pub permit_left : {K : Type 0} (v w u : Me (Option K) View) (old new : SeenBoard) (child : ℕ) → TurnsRestOn → TookTurn v w (ledger_of old) → GaveBack w u (ledger_of new)
+    → new ≡ old → HasPermitOnly child v.0 → HasPermitOnly child u.0
+permit_left v w u old new child rests took gave same has =
+    permit_still v w u old child rests took (subst (λ (b : SeenBoard). GaveBack w u (ledger_of b)) same gave) has
+
 -- ## A connection that was queued
 
 -- its row is on its way to a worker

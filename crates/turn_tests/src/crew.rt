@@ -18,53 +18,41 @@ use std::thread::{self, Threads};
 use test_rows::grown;
 use worker_group::Exit;
 
-/// How connections were left.
-#[derive(Clone, Copy, Debug)]
+/// How many connections were left in each way, as all threads count them.
+#[derive(Drop)]
 struct Left {
-    kept: u32,
-    writing: u32,
-    reading: u32,
-    lingering: u32,
-    ended: u32,
-    given_up: u32,
+    kept: AtomicU64,
+    writing: AtomicU64,
+    reading: AtomicU64,
+    lingering: AtomicU64,
+    ended: AtomicU64,
+    given_up: AtomicU64,
 }
 
 impl Left {
     /// None yet.
     fn none() -> Left {
         Left {
-            kept: 0,
-            writing: 0,
-            reading: 0,
-            lingering: 0,
-            ended: 0,
-            given_up: 0,
+            kept: AtomicU64::new(0),
+            writing: AtomicU64::new(0),
+            reading: AtomicU64::new(0),
+            lingering: AtomicU64::new(0),
+            ended: AtomicU64::new(0),
+            given_up: AtomicU64::new(0),
         }
     }
 
-    /// One was left so.
-    fn add(&mut self, way: Exit) {
+    /// One more was left so.
+    fn add(&self, way: Exit) {
         let count = match way {
-            Exit::Park(Kind::KeepAlive) => &mut self.kept,
-            Exit::Park(Kind::Writing) => &mut self.writing,
-            Exit::Park(_) => &mut self.reading,
-            Exit::Linger(_) => &mut self.lingering,
-            Exit::Close(_, _) => &mut self.ended,
-            Exit::GiveUp(_) => &mut self.given_up,
+            Exit::Park(Kind::KeepAlive) => &self.kept,
+            Exit::Park(Kind::Writing) => &self.writing,
+            Exit::Park(_) => &self.reading,
+            Exit::Linger(_) => &self.lingering,
+            Exit::Close(_, _) => &self.ended,
+            Exit::GiveUp(_) => &self.given_up,
         };
-        *count = count.saturating_add(1);
-    }
-
-    /// Both together.
-    fn and(self, other: Left) -> Left {
-        Left {
-            kept: self.kept.saturating_add(other.kept),
-            writing: self.writing.saturating_add(other.writing),
-            reading: self.reading.saturating_add(other.reading),
-            lingering: self.lingering.saturating_add(other.lingering),
-            ended: self.ended.saturating_add(other.ended),
-            given_up: self.given_up.saturating_add(other.given_up),
-        }
+        count.fetch_add(1, Ordering::SeqCst);
     }
 }
 
@@ -72,15 +60,15 @@ impl Left {
 #[derive(Drop)]
 struct Stage {
     folds: Folds,
+    left: Left,
     /// How many connections are still to be served.
     to_serve: AtomicU64,
 }
 
 /// What came of it.
-#[derive(Clone, Copy, Debug)]
+#[derive(Drop)]
 struct Served {
-    left: Left,
-    folds: u64,
+    stage: Stage,
     /// Of the board: how many connections were taken, closed, and responses decided, in what was folded.
     accepted: u64,
     closed: u64,
@@ -94,28 +82,35 @@ pub fn show_service<R: Print + Threads + Wait + Sync>(
     threads: u32,
 ) -> io::Result<()> {
     match grown(serve_all(rt, alloc, threads.clamp(2, 64)))? {
-        Some(served) => show_served(rt, served),
+        Some(served) => show_served(rt, &served),
         None => println!(rt; "a pass is missing, or the board doesn't begin"),
     }
 }
 
 /// Shows what came of it, as far as no schedule changes it.
-fn show_served(rt: &impl Print, served: Served) -> io::Result<()> {
-    let left = served.left;
-    println!(rt; "kept alive => {}", left.kept)?;
-    println!(rt; "waits for room => {}", left.writing)?;
-    println!(rt; "waits for a request => {}", left.reading)?;
-    println!(rt; "lingers => {}", left.lingering)?;
-    println!(rt; "ended => {}", left.ended)?;
-    println!(rt; "given up => {}", left.given_up)?;
+fn show_served(rt: &impl Print, served: &Served) -> io::Result<()> {
+    let left = &served.stage.left;
+    println!(rt; "kept alive => {}", left.kept.load(Ordering::SeqCst))?;
+    println!(rt; "waits for room => {}", left.writing.load(Ordering::SeqCst))?;
+    println!(rt;
+        "waits for a request => {}",
+        left.reading.load(Ordering::SeqCst)
+    )?;
+    println!(rt; "lingers => {}", left.lingering.load(Ordering::SeqCst))?;
+    println!(rt; "ended => {}", left.ended.load(Ordering::SeqCst))?;
+    println!(rt; "given up => {}", left.given_up.load(Ordering::SeqCst))?;
     println!(rt;
         "taken => {}, closed => {}, responses => {}",
         served.accepted, served.closed, served.responses
     )?;
-    println!(rt; "seven folds or more => {}", 7 <= served.folds)
+    println!(rt;
+        "seven folds or more => {}",
+        7 <= served.stage.folds.count()
+    )
 }
 
 /// One thread listens, and each other one serves.
+#[tactic(auto, using(crate::proofs::OpeningLemmas::listener_player))]
 fn serve_all<R: Threads + Wait + Sync>(
     rt: &R,
     alloc: Global,
@@ -146,24 +141,20 @@ fn serve_all<R: Threads + Wait + Sync>(
     })?;
     let stage = Stage {
         folds: Folds::make(),
+        left: Left::none(),
         to_serve: AtomicU64::new(CLIENTS as u64),
     };
-    let stage = &stage;
-    let Ok(all) = thread::map_vec(rt, jobs, &|player: Player| plays(rt, player, stage)) else {
+    let seen = &stage;
+    let Ok(_) = thread::map_vec(rt, jobs, &|player: Player| plays(rt, player, seen)) else {
         return Err(NoMemory);
     };
     let board = shared.close(rt, last);
-    let mut left = Left::none();
-    for one in &all {
-        left = left.and(*one);
-    }
     let folded = board.folded();
     Ok(Some(Served {
-        left,
-        folds: stage.folds.count(),
         accepted: folded.accepted,
         closed: folded.closed,
         responses: folded.responses,
+        stage,
     }))
 }
 
@@ -193,8 +184,8 @@ fn begins<R: Wait>(
     true
 }
 
-/// Pass 0 listens, and each other one serves: how the connections were left that it served.
-fn plays<R: Wait>(rt: &R, player: Player, stage: &Stage) -> Left {
+/// Pass 0 listens, and each other one serves.
+fn plays<R: Wait>(rt: &R, player: Player, stage: &Stage) {
     match number(&player.pass) {
         0 => listens(rt, player, stage),
         _ => works(rt, player, stage),
@@ -203,10 +194,11 @@ fn plays<R: Wait>(rt: &R, player: Player, stage: &Stage) -> Left {
 
 /// Pass 0 signals each connection once, and then a slot without one, and folds the board wherever that may be, until it folded once behind
 /// all services.
-fn listens<R: Wait>(rt: &R, player: Player, stage: &Stage) -> Left {
+#[tactic(auto, using(crate::proofs::OpeningLemmas::player_listener))]
+fn listens<R: Wait>(rt: &R, player: Player, stage: &Stage) {
     let Player { shared, mut pass } = player;
     if number(&pass) != 0 {
-        return Left::none();
+        return;
     }
     let mut signalled: u32 = 0;
     for _ in rt.forever() {
@@ -215,7 +207,7 @@ fn listens<R: Wait>(rt: &R, player: Player, stage: &Stage) -> Left {
         if goes_on(rt, shared, &mut pass, signalled.min(CLIENTS)) {
             stage.folds.made(turn);
             if over {
-                return Left::none();
+                return;
             }
         } else {
             signalled = signalled.saturating_add(1);
@@ -225,19 +217,19 @@ fn listens<R: Wait>(rt: &R, player: Player, stage: &Stage) -> Left {
 }
 
 /// Serves connections until all are served.
-fn works<R: Wait>(rt: &R, player: Player, stage: &Stage) -> Left {
+#[tactic(auto, using(crate::proofs::OpeningLemmas::player_carrier))]
+fn works<R: Wait>(rt: &R, player: Player, stage: &Stage) {
     let Player { shared, mut pass } = player;
-    let mut left = Left::none();
     if number(&pass) == 0 {
-        return left;
+        return;
     }
     for _ in rt.forever() {
         if stage.to_serve.load(Ordering::SeqCst) == 0 {
-            return left;
+            return;
         }
         match serves_one(rt, shared, &mut pass, 0, &stage.folds) {
             Some(way) => {
-                left.add(way);
+                stage.left.add(way);
                 stage.to_serve.fetch_sub(1, Ordering::SeqCst);
             }
             None => thread::yield_now(),

@@ -66,6 +66,7 @@ pub fn last_of(
         → IsFresh pass.seat.me }
     ensures last { IfSome result (λ pass. pass.seat.table_id ≡ shared.now.table.shared.table_id) }
     ensures last_fresh { IfSome result (λ pass. IsFresh pass.seat.me) }
+    ensures ready { IfSome result (λ pass. IsPlayer pass.seat.me) }
 {
     passes.pop()
 }

@@ -14,17 +14,17 @@ done-requires-clause-left g c =
 pub returns-then-can_fold-clause-listener : goal.returns-then-can_fold-clause-listener
 returns-then-can_fold-clause-listener g c = listener_then _ _ _ _ _ c.turn-turn.ensures.turn c.done.ensures.given c.requires.listener
 
-pub done-requires-2-clause-left : goal.done-requires-2-clause-left
-done-requires-2-clause-left g c = may_stay _ _ (ap (λ (q : View). q.turn) c.turn-turn.ensures.turn.view)
+pub done-requires-then-not-may_make-clause-left : goal.done-requires-then-not-may_make-clause-left
+done-requires-then-not-may_make-clause-left g c = may_stay _ _ (ap (λ (q : View). q.turn) c.turn-turn.ensures.turn.view)
 
 pub returns-then-not-may_make-clause-listener : goal.returns-then-not-may_make-clause-listener
-returns-then-not-may_make-clause-listener g c = listener_then _ _ _ _ _ c.turn-turn.ensures.turn c.done-2.ensures.given c.requires.listener
+returns-then-not-may_make-clause-listener g c = listener_then _ _ _ _ _ c.turn-turn.ensures.turn c.done-then-not-may_make.ensures.given c.requires.listener
 
 pub ready-requires-clause-who : goal.ready-requires-clause-who
 ready-requires-clause-who g c = pass_as _ _ c.turn-turn.result.kept 0 c.turn-turn.ensures.turn (sym c.requires.listener.number)
 
-pub done-requires-3-clause-left : goal.done-requires-3-clause-left
-done-requires-3-clause-left g c =
+pub done-requires-2-clause-left : goal.done-requires-2-clause-left
+done-requires-2-clause-left g c =
     let b = c.turn-turn.result.kept in
     let q = c.ready in
     let e = event.Ready c.args.slot in
@@ -32,4 +32,4 @@ done-requires-3-clause-left g c =
     (changed q.result 0 e b q.new.self q.new.self.conns q.ensures.ok q.ensures.err q.ensures.entries) tt
 
 pub returns-clause-listener : goal.returns-clause-listener
-returns-clause-listener g c = listener_then _ _ _ _ _ c.turn-turn.ensures.turn c.done-3.ensures.given c.requires.listener
+returns-clause-listener g c = listener_then _ _ _ _ _ c.turn-turn.ensures.turn c.done-2.ensures.given c.requires.listener

@@ -12,8 +12,8 @@ use Rattle.turn_tests.proofs.listener_turns.parks_new.Goals as goal
 pub done-requires-clause-left : goal.done-requires-clause-left
 done-requires-clause-left g c = may_stay _ _ (ap (λ (q : View). q.turn) c.turn-turn.ensures.turn.view)
 
-pub done-requires-2-clause-left : goal.done-requires-2-clause-left
-done-requires-2-clause-left g c = may_stay _ _ (ap (λ (q : View). q.turn) c.turn-turn.ensures.turn.view)
+pub done-requires-then-not-may_make-clause-left : goal.done-requires-then-not-may_make-clause-left
+done-requires-then-not-may_make-clause-left g c = may_stay _ _ (ap (λ (q : View). q.turn) c.turn-turn.ensures.turn.view)
 
 pub park-parked-requires-clause-who : goal.park-parked-requires-clause-who
 park-parked-requires-clause-who g c = pass_as _ _ c.turn-turn.result.kept 0 c.turn-turn.ensures.turn (sym c.requires.listener.number)
@@ -23,8 +23,8 @@ park-parked-requires-clause-row g c =
     row_as _ _ c.turn-turn.result.kept 0 _ c.turns_rest_on_these.ensures c.turn-turn.ensures.turn (sym c.requires.listener.number)
     (c.requires.row ∙ ap (λ (n : ConnName). Some n) (sym c.in-Some.ensures.name))
 
-pub done-requires-3-clause-left : goal.done-requires-3-clause-left
-done-requires-3-clause-left g c =
+pub done-requires-2-clause-left : goal.done-requires-2-clause-left
+done-requires-2-clause-left g c =
     let b = c.turn-turn.result.kept in
     let q = c.park-parked in
     let e = event.Park c.in-Some.conn.name Reading in
@@ -35,15 +35,15 @@ pub returns-in_default-clause-listener : goal.returns-in_default-clause-listener
 returns-in_default-clause-listener g c = listener_then _ _ _ _ _ c.turn-turn.ensures.turn c.done.ensures.given c.requires.listener
 
 pub returns-then-not-may_make-clause-listener : goal.returns-then-not-may_make-clause-listener
-returns-then-not-may_make-clause-listener g c = listener_then _ _ _ _ _ c.turn-turn.ensures.turn c.done-2.ensures.given c.requires.listener
+returns-then-not-may_make-clause-listener g c = listener_then _ _ _ _ _ c.turn-turn.ensures.turn c.done-then-not-may_make.ensures.given c.requires.listener
 
 pub returns-clause-listener : goal.returns-clause-listener
-returns-clause-listener g c = listener_then _ _ _ _ _ c.turn-turn.ensures.turn c.done-3.ensures.given c.requires.listener
+returns-clause-listener g c = listener_then _ _ _ _ _ c.turn-turn.ensures.turn c.done-2.ensures.given c.requires.listener
 
 pub returns-clause-none : goal.returns-clause-none
 returns-clause-none g c =
     let b = c.turn-turn.result.kept in
     let q = c.park-parked in
     let e = event.Park c.in-Some.conn.name Reading in
-    parked_row _ _ _ e b q.new.self q.result _ c.turns_rest_on_these.ensures c.turn-turn.ensures.turn c.done-3.ensures.given c.requires.listener.number
+    parked_row _ _ _ e b q.new.self q.result _ c.turns_rest_on_these.ensures c.turn-turn.ensures.turn c.done-2.ensures.given c.requires.listener.number
     (changed q.result 0 e b q.new.self b.conns q.ensures.ok q.ensures.err q.ensures.entries) refl c.is_ok.ensures.value

@@ -1,7 +1,7 @@
 use Rattle.std.proofs.Common.{◌≡◌, ap, ◌∙◌}
 use Rattle.std.specs.Prelude.{slice_get}
-use Rattle.turn_tests.specs.GoesOn.{IsFresh}
-use Rattle.turn_tests.proofs.OpeningLemmas.{at_first, last_has}
+use Rattle.turn_tests.specs.GoesOn.{IsFresh, IsPlayer}
+use Rattle.turn_tests.proofs.OpeningLemmas.{at_first, last_has, player}
 use Rattle.turn_tests.proofs.opening.last_of.Goals as goal
 
 pub returns-clause-fresh : goal.returns-clause-fresh
@@ -15,3 +15,7 @@ returns-clause-last c =
 pub returns-clause-last_fresh : goal.returns-clause-last_fresh
 returns-clause-last_fresh c =
     last_has (λ pass. IsFresh pass.seat.me) _ c.pop.new.self.items c.pop.result c.pop.ensures.items c.requires.fresh
+
+pub returns-clause-ready : goal.returns-clause-ready
+returns-clause-ready c =
+    last_has (λ pass. IsPlayer pass.seat.me) _ c.pop.new.self.items c.pop.result c.pop.ensures.items (λ p pass at. player _ (c.requires.fresh p pass at))

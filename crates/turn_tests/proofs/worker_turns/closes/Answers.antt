@@ -10,7 +10,7 @@ use Rattle.turn_tests.proofs.ThenLemmas.{left_then}
 use Rattle.turn_tests.proofs.worker_turns.closes.Goals as goal
 
 pub end-ended-requires : goal.end-ended-requires
-end-ended-requires g c = c.requires.may.may.1.shown
+end-ended-requires g c = record { shown = c.requires.may.may.1.shown }
 
 pub close-requires-clause-who : goal.close-requires-clause-who
 close-requires-clause-who g c = pass_as _ _ c.turn-turn.result.kept _ c.turn-turn.ensures.turn c.number-who.ensures

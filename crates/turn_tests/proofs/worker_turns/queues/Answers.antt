@@ -1,12 +1,9 @@
-use Rattle.std.proofs.Common.{ap, sym, subst, is_ok}
+use Rattle.std.proofs.Common.{ap, sym, is_ok}
 use Rattle.conn_machine.specs.declared.event.Event.TheVariants as event
-use Rattle.board.specs.Board.{SeenBoard}
-use Rattle.board.specs.Ledger.{ledger_of}
-use Rattle.board_lock.specs.Passes.{GaveBack}
 use Rattle.table_rule.specs.declared.view.View.{View}
 use Rattle.turn_tests.proofs.FoundLemmas.{due_here, has_child, has_room, pass_as, queue_permitted, row_as}
 use Rattle.turn_tests.proofs.GoesOnLemmas.{changed, made_added, may_change, may_stay}
-use Rattle.turn_tests.proofs.ThenLemmas.{carried_then, permit_still}
+use Rattle.turn_tests.proofs.ThenLemmas.{carried_then, permit_left, permit_still}
 use Rattle.turn_tests.proofs.worker_turns.queues.Goals as goal
 
 pub signalled_of-requires : goal.signalled_of-requires
@@ -68,5 +65,5 @@ returns-in-Ok-clause-child g c =
 
 pub returns-in-Err-clause-nothing : goal.returns-in-Err-clause-nothing
 returns-in-Err-clause-nothing g c =
-    permit_still _ _ _ c.turn-turn.result.kept c.args.child c.turns_rest_on_these.ensures c.turn-turn.ensures.turn
-    (subst (λ (b : SeenBoard). GaveBack _ _ (ledger_of b)) c.in-Err.ensures.err c.done-2.ensures.given) c.requires.permit
+    permit_left _ _ _ c.turn-turn.result.kept c.queue-queued.new.self c.args.child c.turns_rest_on_these.ensures c.turn-turn.ensures.turn c.done-2.ensures.given
+    c.in-Err.ensures.err c.requires.permit
