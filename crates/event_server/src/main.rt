@@ -53,16 +53,41 @@ fn outcome_of<
     let mut front = SocketFront::make(rt, &operator, alloc, clock.twin(), SLOTS)?;
     let mut folder = Folder::new(rt, &operator, alloc);
     let mut output = Output::new(io::writer(rt));
-    Ok(run(
+    Ok(run_over(
         rt,
         alloc,
         &words,
         &mut folder,
         &mut front,
         &mut clock,
-        &OpenGate,
         &mut output,
     ))
+}
+
+/// How the run of the words over these ends. Nothing is let go here, so that what `run` says isn't carried through the ends of them all.
+fn run_over<
+    'a,
+    R: Alloc<A = Global>
+        + Files
+        + Eprint
+        + time::Clock
+        + Net
+        + Threads
+        + Wait
+        + Sync
+        + Clone
+        + Drop,
+    W: io::Write + Drop,
+>(
+    rt: &R,
+    alloc: Global,
+    words: &Words,
+    folder: &mut Folder<'a, R>,
+    front: &mut SocketFront<'a, R>,
+    clock: &mut SystemClock<'a, R>,
+    output: &mut Output<W>,
+) -> Outcome<SocketLink> {
+    run(rt, alloc, words, folder, front, clock, &OpenGate, output)
 }
 
 /// Who is told of what the words do: whoever runs a server or sends it a command, and else nobody. The configuration of a server is read

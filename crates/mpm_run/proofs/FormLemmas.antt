@@ -7,8 +7,8 @@ use Rattle.run_opening.specs.Calls.{Call}
 use Rattle.run_opening.specs.Refusals.{EndsSilently}
 use Rattle.run_opening.specs.RefusalsInside.{RefusesRun}
 use Rattle.run_report.specs.Texts.{usage}
-use Rattle.mpm_run.specs.ExitStatuses.{Causes, EndsConfigRefused, EndsUnread, LeavesAll}
-use Rattle.mpm_run.specs.ExitStatusesInside.{EndsSend, EndsServe, EndsTest}
+use Rattle.mpm_run.specs.ExitStatuses.{Causes, LeavesAll}
+use Rattle.server_run.specs.EndsInside.{EndsSend, EndsServe, EndsTest}
 use Rattle.script_run.specs.PlayedInside.{EndsScript}
 use Rattle.script_run.specs.declared.scripted.Scripted.{Scripted}
 
@@ -54,14 +54,14 @@ pub serve-causes : (call : Call) (f f' : FrontSeen) (calls calls' : Option (List
 serve-causes call f f' calls calls' status left ends = record {
   known = (omega (arith, ends.known), λ seven. absurd (omega (arith, ends.known, seven)));
   served = λ zero. inr (inl (ends.opened (inl zero)));
-  misconfigured = ends.misconfigured;
+  misconfigured = λ one. inr (ends.misconfigured one);
   unknown = λ two. absurd (omega (arith, ends.known, two));
   unread = ends.unread;
   front_failed = λ four. elim (ends.front_failed four) [ inl opened ↦ inl opened | inr unbound ↦ inr (inl unbound) ];
   unwritten = λ five. inr (inl (ends.opened (inr five)));
   silent = λ six none nothing. ends.silent six nothing;
   refused = λ eight. absurd (omega (arith, ends.known, eight));
-  site_refused = ends.site_refused;
+  site_refused = λ nine. inr (ends.site_refused nine);
   uncontrolled = λ ten. absurd (omega (arith, ends.known, ten));
 }
 
@@ -78,7 +78,7 @@ pub test-causes : (call : Call) (f : FrontSeen) (status : ℕ) → EndsTest call
 test-causes call f status ends = record {
   known = (omega (arith, ends.known), λ seven. absurd (omega (arith, ends.known, seven)));
   served = λ zero. inr (inr (inl (ends.tested zero)));
-  misconfigured = ends.misconfigured;
+  misconfigured = λ one. inr (ends.misconfigured one);
   unknown = λ two. absurd (omega (arith, ends.known, two));
   unread = ends.unread;
   front_failed = λ four. absurd (omega (arith, ends.known, four));
@@ -100,7 +100,7 @@ pub send-causes : (call : Call) (f f' : FrontSeen) (status : ℕ) → EndsSend c
 send-causes call f f' status ends = record {
   known = (omega (arith, ends.known), λ seven. absurd (omega (arith, ends.known, seven)));
   served = λ zero. inr (inr (inr (ends.sent zero)));
-  misconfigured = ends.misconfigured;
+  misconfigured = λ one. inr (ends.misconfigured one);
   unknown = λ two. absurd (omega (arith, ends.known, two));
   unread = ends.unread;
   front_failed = λ four. inr (inr (ends.undialled four));
@@ -133,29 +133,3 @@ unknown-causes call f status known unknown unasked refused silent = record {
   site_refused = λ nine. absurd (omega (arith, known, nine));
   uncontrolled = λ ten. absurd (omega (arith, known, ten));
 }
-
--- ## A configuration that isn't there, or is refused
-
--- a test, a command and a server that have none
-module _ (call : Call) (status : ℕ) (known : (status ≡ 1) ⊎ (status ≡ 3) ⊎ (status ≡ 6)) (refused : status ≡ 1 → EndsConfigRefused call) (unread : status ≡ 3 → EndsUnread call) (silent : status ≡ 6 → EndsSilently call.sink call.sink' call.shown) where
-  pub test-unconfigured : EndsTest call status
-  test-unconfigured = record {
-    known = elim known [ inl one ↦ inr (inl one) | inr other ↦ elim other [ inl three ↦ inr (inr (inl three)) | inr six ↦ inr (inr (inr (inr six))) ] ];
-    tested = λ zero. absurd (omega (arith, known, zero));
-    misconfigured = refused;
-    unread = unread;
-    unwritten = λ five. absurd (omega (arith, known, five));
-    silent = silent;
-  }
-
-  pub send-unconfigured : (f : FrontSeen) → EndsSend call f f status
-  send-unconfigured f = record {
-    known = elim known [ inl one ↦ inr (inl one) | inr other ↦ elim other [ inl three ↦ inr (inr (inl three)) | inr six ↦ inr (inr (inr (inr (inl six)))) ] ];
-    front = inl refl;
-    sent = λ zero. absurd (omega (arith, known, zero));
-    misconfigured = refused;
-    unread = unread;
-    undialled = λ four. absurd (omega (arith, known, four));
-    silent = silent;
-    uncontrolled = λ ten. absurd (omega (arith, known, ten));
-  }

@@ -1,4 +1,1 @@
-pub mod ConfigLemmas
 pub mod FormLemmas
-pub mod InvocationLemmas
-pub mod ServeLemmas

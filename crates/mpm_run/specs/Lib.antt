@@ -1,2 +1,1 @@
 pub mod ExitStatuses
-pub mod ExitStatusesInside

@@ -9,7 +9,8 @@
 //! - of a run, `Runs.antt`, `Listen.antt`, `Served.antt`, `Generations.antt`, `Orders.antt`, `Commands.antt`, `Stops.antt`, `Stores.antt`,
 //!   `FirstNumbers.antt`, `StartedFirst.antt`, `Outside.antt`, `Unused.antt`, `Watched.antt`, `Links.antt`, `Tells.antt`, `Times.antt` and
 //!   `Patient.antt` of `listener`, and `AtRest.antt`, `ClosedDown.antt`, `Moments.antt` and `Started.antt` of `rounds`;
-//! - of a script, `Scripts.antt`, `Played.antt` and `ScriptRefusals.antt` of `script_run`.
+//! - of a script, `Scripts.antt`, `Played.antt` and `ScriptRefusals.antt` of `script_run`;
+//! - of a server, of the test of a configuration and of a command, `Ends.antt` of `server_run`.
 //!
 //! Of a run that opened they say this, whatever its exit status. It works by the configuration and the site that the script's lines write,
 //! or the store has, and then by the editions of each restart. The history that the board keeps is a run of the connection machine, in the
@@ -25,10 +26,7 @@
 //! nothing more could come all that was to come was taken.
 #![tactic(auto)]
 
-mod command_run;
-mod config_test;
 mod outcome;
-mod serve_run;
 mod top_call;
 
 pub use outcome::{Outcome, lacks_memory};

@@ -8,14 +8,12 @@ ghost use Rattle.script_run.specs.Played.{IsLeftOfRun};
 ghost use Rattle.listener.specs.Unused.{IsUnused};
 ghost use Rattle.run_opening.specs.Calls.{seen_call};
 
-use crate::command_run::send_command;
-use crate::config_test::test_config;
 use crate::outcome::{Outcome, closed_outcome, scripted_outcome, served_outcome};
-use crate::serve_run::serve_file;
 use command_words::{Invocation, NoInvocation, invocation_of};
 use mpm_base::{Clock, Front, Gate, Sink, Store, Words};
 use run_opening::{no_memory, refuse_words};
 use script_run::{run_load, run_script};
+use server_run::{send_command, serve_file, test_config};
 use std::alloc::Global;
 use std::sync::Wait;
 use std::thread::Threads;
@@ -47,7 +45,7 @@ pub fn run<R: Threads + Wait + Sync, D: Store, F: Front, C: Clock, G: Gate + Syn
     // (`specs/Played.antt` of `script_run`).
     ensures left { IfSome result.scripted IsLeftOfRun }
 
-    // What a call leaves, and why it has its exit status (`specs/ExitStatuses.antt`).
+    // What a call leaves, and why it has its exit status (`specs/ExitStatuses.antt`; `specs/Ends.antt` of `server_run`).
     //
     // What is left of a script's run is of one of the script that was read or made, by the configuration that it writes and the site that
     // it has by that, and then by the editions that its lines make: it closed each connection that it took, each child is gone, and each

@@ -1,12 +1,12 @@
 //! What links answer and keep.
 use crate::calls::calls_of;
-use mpm_base::{Got, Link, LinkCall};
-use stand_ins::{PlainLink, ScriptLink, Wire};
+use mpm_base::{Got, Link, LinkCall, NoMemory, Octets};
+use stand_ins::{Calls, PlainLink, ScriptLink, Wire};
 use std::alloc::Global;
 use std::io;
 use std::str::Lines;
 use std::sync::Arc;
-use test_rows::{Marks, grown, number_of, show_bytes, text_of, words};
+use test_rows::{Marks, grown, number_of, show_bytes, small_of, text_of, words};
 
 /// A link that can be shown.
 trait Shown {
@@ -44,16 +44,46 @@ impl Shown for ScriptLink {
     }
 }
 
+/// What a link is made of.
+#[derive(Drop)]
+struct Parts {
+    coming: Octets,
+    rank: u64,
+    ends: bool,
+    reads: Calls,
+    writes: Calls,
+    drops: bool,
+}
+
+/// What the first five rows say.
+fn parts_of(alloc: Global, rows: &mut Lines<'_>) -> Result<Parts, NoMemory> {
+    let coming = text_of(alloc, rows.next().unwrap_or(""), Marks::Lines)?;
+    let (number, ends) = words(rows.next().unwrap_or(""));
+    let reads = calls_of(alloc, rows.next().unwrap_or(""))?;
+    let writes = calls_of(alloc, rows.next().unwrap_or(""))?;
+    Ok(Parts {
+        coming,
+        rank: number_of(number),
+        ends: ends == "ends",
+        reads,
+        writes,
+        drops: rows.next().unwrap_or("") == "drops",
+    })
+}
+
 /// Shows what a link of that kind answers to each call.
 pub fn show_link(rt: &impl Print, alloc: Global, kind: &str, rows: &str) -> io::Result<()> {
     let mut calls = rows.lines();
-    let coming = grown(text_of(alloc, calls.next().unwrap_or(""), Marks::Lines))?;
-    let (number, ends) = words(calls.next().unwrap_or(""));
-    let reads = grown(calls_of(alloc, calls.next().unwrap_or("")))?;
-    let writes = grown(calls_of(alloc, calls.next().unwrap_or("")))?;
-    let drops = calls.next().unwrap_or("") == "drops";
-    let (rank, ends) = (number_of(number), ends == "ends");
+    let parts = grown(parts_of(alloc, &mut calls))?;
     let wire = Arc::new(alloc, Wire::make())?;
+    let Parts {
+        coming,
+        rank,
+        ends,
+        reads,
+        writes,
+        drops,
+    } = parts;
     match kind {
         "plain" => {
             let mut link = PlainLink::make(alloc, rank, coming, ends);
@@ -81,20 +111,59 @@ fn show_calls<L: Link + Shown>(
 ) -> io::Result<()> {
     for call in calls {
         print!(rt; "{call} => ")?;
-        let (word, rest) = words(call);
-        match word {
-            "read" => show_read(rt, alloc, link, number_of(rest))?,
-            "write" => println!(rt; "{:?}", link.write(rest.as_bytes()))?,
-            "shut" => println!(rt; "{}", link.shut())?,
-            "close" => {
-                link.close();
-                println!(rt; "done")?;
-            }
-            "show" => link.show(rt, alloc)?,
-            _ => show_pace(rt, wire, word, rest)?,
-        }
+        show_call(rt, alloc, wire, link, call)?;
     }
     link.show(rt, alloc)
+}
+
+/// Shows what the link answers to the call.
+fn show_call<L: Link + Shown>(
+    rt: &impl Print,
+    alloc: Global,
+    wire: &Wire,
+    link: &mut L,
+    call: &str,
+) -> io::Result<()> {
+    let (word, rest) = words(call);
+    match word {
+        "read" | "write" | "shut" | "close" | "show" => show_answer(rt, alloc, link, word, rest),
+        _ => show_pace(rt, wire, word, rest),
+    }
+}
+
+/// Shows what the link of that number answers to a call of it.
+pub fn show_link_call(
+    rt: &impl Print,
+    alloc: Global,
+    links: &mut [ScriptLink],
+    word: &str,
+    rest: &str,
+) -> io::Result<()> {
+    let (number, what) = words(rest);
+    match links.get_mut(small_of(number) as usize) {
+        Some(link) => show_answer(rt, alloc, link, word, what),
+        None => println!(rt; "there is no such link"),
+    }
+}
+
+/// Shows what the link answers to the call, or what it says of itself.
+fn show_answer<L: Link + Shown>(
+    rt: &impl Print,
+    alloc: Global,
+    link: &mut L,
+    word: &str,
+    what: &str,
+) -> io::Result<()> {
+    match word {
+        "read" => show_read(rt, alloc, link, number_of(what)),
+        "write" => println!(rt; "{:?}", link.write(what.as_bytes())),
+        "shut" => println!(rt; "{}", link.shut()),
+        "close" => {
+            link.close();
+            println!(rt; "done")
+        }
+        _ => link.show(rt, alloc),
+    }
 }
 
 /// Shows what a read into so many bytes answers, at most eight.

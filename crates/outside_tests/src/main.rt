@@ -1,48 +1,83 @@
-//! Tests of the words of the server and of what stands in for the outside in memory, by their public calls alone. The file `stdin` has
-//! calls, section by section, and `stdout` what each must answer.
+//! Tests of the words of the server, of what stands in for the outside in memory, of scripts and of fronts that play them, by their public
+//! calls alone. The file `stdin` has calls and scripts, section by section, and `stdout` what must come of each.
 //!
-//! In the input a line that begins with `== ` begins a section: the word behind it says what its rows are, and the rest is its title.
-//! In a text `|` stands for a line feed.
+//! In the input a line that begins with `== ` begins a section: the word up to a colon says what its rows are, and the rest is its
+//! title. In a text `|` stands for a line feed; in that of a script `^` and a letter stand for a control byte (`^M` for a carriage
+//! return, `^?` for byte 127), and a number and a text between backquotes for the text so many times.
 //!
 //! - `plain`, `listed`, `paced`: a link. Its first row has the bytes that come, its second one its number and whether its client ends,
 //!   its third and fourth one the reads and the writes that fail, its fifth one whether a line drops it. The others are calls of it,
 //!   or of the wire that paces it.
 //! - `sink`: an output. Its first row has the writes that fail, the others are pieces that are written. `slow` takes single bytes.
 //! - `files`: files are set and unset. `store`: the same up to a row `--`, then a row with the calls that fail, and calls of the store.
+//!   Where there is no such row the rows are scripts, of each of which is shown what its store has in `httpd.conf` and below `htdocs`
+//!   at first, and behind each of three renewals.
 //! - `editions`: what a file is in one edition after the other. `history`: files are set and unset, and editions end, up to a row
 //!   `--`; then calls of the store that has it. `notes`: whether each note is the last.
+//! - `script`: scripts, of each of which the lines are shown, or why it is refused.
+//! - `load`: numbers, for each of which the script of a load of so many connections is shown.
+//! - `front`: a front. Its first row is a script that is made by hand, each of whose lines ends with `|`; it need not be one that is
+//!   read. The others are calls. A link is named by its place among those that were taken and not turned away, from 0.
+//!   - `wait MOMENT WORD`: until the moment, which is `-` for none; the word is `quiet` where no connection is being served.
+//!   - `accept`, and `turn`, which turns the link away that was taken last; `watch LINK SLOT`; `all`, which takes each link that waits,
+//!     and watches it in a slot from 0 on.
+//!   - `read LINK ROOM`, with room for eight bytes at most; `write LINK TEXT`, `shut LINK`, `close LINK`, and `show LINK`.
+//!   - `bind`, `hush`, `command`, `dial PORT WORD`, and `bell`, which makes a bell and rings it; `faults` shows how many waits and
+//!     accepts failed.
+//! - `failing`: the same of a front some of whose calls fail. Its first row has the numbers of the waits that fail, a semicolon, those
+//!   of the accepts, and perhaps a further one and those of the watches; the script stands in the second.
 #![tactic(auto)]
 
+mod by_hand;
 mod calls;
+mod fronts;
 mod links;
 mod notes;
+mod script_stores;
+mod scripts;
 mod sinks;
 mod stores;
 
 use std::alloc::Global;
 use std::io;
+use std::sync::Wait;
 use test_rows::{Section, begin_section, sections_of};
 
 fn main(rt: HostRuntime) -> io::Result<()> {
     let input = io::read_to_string(rt.alloc(), rt.reader())?;
-    for text in sections_of(input.as_str()) {
-        let section = begin_section(&rt, text)?;
-        show_section(&rt, rt.alloc(), section)?;
+    show_sections(&rt, rt.alloc(), input.as_str())
+}
+
+/// Shows what comes of each section of the input.
+fn show_sections<R: Print + Wait>(rt: &R, alloc: Global, input: &str) -> io::Result<()> {
+    for text in sections_of(input) {
+        let section = begin_section(rt, text)?;
+        show_section(rt, alloc, section)?;
     }
     Ok(())
 }
 
 /// Shows what comes of the rows of the section.
-fn show_section(rt: &impl Print, alloc: Global, section: Section<'_>) -> io::Result<()> {
+fn show_section<R: Print + Wait>(rt: &R, alloc: Global, section: Section<'_>) -> io::Result<()> {
     let Section { word, rows, .. } = section;
     match word {
+        "plain" | "listed" | "paced" => links::show_link(rt, alloc, word, rows),
         "sink" => sinks::show_sink(rt, alloc, false, rows),
         "slow" => sinks::show_sink(rt, alloc, true, rows),
         "files" => stores::show_files(rt, alloc, rows),
-        "store" => stores::show_store(rt, alloc, rows),
+        "store" => match rows.split_once("--\n") {
+            Some((files, calls)) => stores::show_store(rt, alloc, files, calls),
+            None => script_stores::show_stores(rt, alloc, rows),
+        },
         "editions" => stores::show_editions(rt, alloc, rows),
         "history" => stores::show_history(rt, alloc, rows),
         "notes" => notes::show_notes(rt, alloc, rows),
-        _ => links::show_link(rt, alloc, word, rows),
+        "script" => scripts::show_scripts(rt, alloc, rows),
+        "load" => scripts::show_loads(rt, alloc, rows),
+        "failing" => {
+            let (lists, rest) = rows.split_once('\n').unwrap_or((rows, ""));
+            fronts::show_front(rt, alloc, lists, rest)
+        }
+        _ => fronts::show_front(rt, alloc, "", rows),
     }
 }

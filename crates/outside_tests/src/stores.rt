@@ -4,7 +4,7 @@ use mpm_base::{NoMemory, Store};
 use stand_ins::{Calls, Files, History, MemStore, PlainStore};
 use std::alloc::Global;
 use std::io;
-use test_rows::{grown, number_of, show_bytes, words};
+use test_rows::{grown, number_of, show_bytes, small_of, words};
 
 /// The files that the rows set and unset.
 fn files_of(alloc: Global, rows: &str) -> Result<Files, NoMemory> {
@@ -35,9 +35,8 @@ pub fn show_files(rt: &impl Print, alloc: Global, rows: &str) -> io::Result<()> 
 }
 
 /// Shows what a store of the files answers whose listed calls fail, and where call 0 is listed, which is none, also what a plain one does.
-pub fn show_store(rt: &impl Print, alloc: Global, rows: &str) -> io::Result<()> {
-    let (files, rest) = rows.split_once("--\n").unwrap_or((rows, ""));
-    let (fails, calls) = rest.split_once('\n').unwrap_or((rest, ""));
+pub fn show_store(rt: &impl Print, alloc: Global, files: &str, rows: &str) -> io::Result<()> {
+    let (fails, calls) = rows.split_once('\n').unwrap_or((rows, ""));
     let listed = grown(calls_of(alloc, fails))?;
     let mut store = MemStore::make(alloc, grown(files_of(alloc, files))?, listed);
     show_calls(rt, alloc, &mut store, calls)?;
@@ -78,7 +77,7 @@ fn show_call<D: Store>(
             Ok(bytes) => show_bytes(rt, alloc, "", bytes.as_slice()),
             Err(fault) => print!(rt; " {fault:?}"),
         },
-        "names" => match store.names(alloc, name, most.parse::<u32>().unwrap_or(0)) {
+        "names" => match store.names(alloc, name, small_of(most)) {
             Ok(names) => print!(rt; " {} names", names.len()),
             Err(fault) => print!(rt; " {fault:?}"),
         },

@@ -1,4 +1,4 @@
-use Rattle.std.proofs.Common.{refl, sym, ◌∙◌, true}
+use Rattle.std.proofs.Common.{refl, sym, ◌∙◌}
 use Rattle.conn_state.specs.declared.turn.ReadTurn.TheVariants as read
 use Rattle.turn_tests.proofs.LeavesLemmas.{read_failed, read_gone, read_kept, read_lacking, read_more, read_on}
 use Rattle.turn_tests.proofs.service.reads.Goals as goal

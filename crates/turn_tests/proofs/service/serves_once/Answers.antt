@@ -1,4 +1,4 @@
-use Rattle.std.proofs.Common.{sym, ◌∙◌, subst, true, false}
+use Rattle.std.proofs.Common.{sym, ◌∙◌, subst}
 use Rattle.conn_state.specs.Turns.{ShutsOn}
 use Rattle.turn_tests.proofs.LeavesLemmas.{shut_failed, shut_on, written, written_failed, written_late}
 use Rattle.turn_tests.proofs.service.serves_once.Goals as goal

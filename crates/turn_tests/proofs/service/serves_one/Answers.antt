@@ -1,4 +1,4 @@
-use Rattle.std.proofs.Common.{◌≡◌, ap, true, false, Some}
+use Rattle.std.proofs.Common.{ap}
 use Rattle.table_rule.specs.declared.view.Hand.{Hand}
 use Rattle.turn_tests.proofs.ServiceLemmas.{has_permit_as, released, reserved, unreserved}
 use Rattle.turn_tests.proofs.service.serves_one.Goals as goal

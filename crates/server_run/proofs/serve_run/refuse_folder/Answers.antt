@@ -2,9 +2,9 @@ use Rattle.std.proofs.Common.{◌≡◌, ℕ, List, None, ap, sym, subst, ◌∙
 use Rattle.mpm_config.specs.Config.{Configuration}
 use Rattle.file_table.specs.declared.load_fault.LoadFault.{LoadFault}
 use Rattle.run_opening.specs.RefusalsInside.{RefusesRun}
-use Rattle.mpm_run.specs.ExitStatusesInside.{RefusesFolder}
+use Rattle.server_run.specs.EndsInside.{RefusesFolder}
 use Rattle.run_report.specs.Texts.{site_refused, store_fault}
-use Rattle.mpm_run.proofs.serve_run.refuse_folder.Goals as goal
+use Rattle.server_run.proofs.serve_run.refuse_folder.Goals as goal
 
 pub returns-in-StoreFault-clause-refused : goal.returns-in-StoreFault-clause-refused
 returns-in-StoreFault-clause-refused g c is =

@@ -12,7 +12,7 @@ use Rattle.mpm_config.specs.Reading.{Refuses as refuses}
 use Rattle.run_opening.specs.Calls.{Call}
 use Rattle.restart_control.specs.Reload.{most_config}
 use Rattle.run_opening.specs.ConfiguredInside.{IsConfigFrom}
-use Rattle.mpm_run.specs.ExitStatuses.{EndsConfigRefused, EndsTested, EndsTestUnwritten, EndsUncontrolled, EndsUnread, HasDialled, Sends}
+use Rattle.server_run.specs.Ends.{EndsFileRefused, EndsTested, EndsTestUnwritten, EndsUncontrolled, EndsUnread, HasDialled, Sends}
 use Rattle.run_opening.specs.RefusalsInside.{RefusesConfigOf, RefusesRun}
 use Rattle.command_words.specs.Invocations.{IsSendWords, IsTestWords, NamesConfig}
 use Rattle.run_report.specs.Texts.{config_refused, no_control_line, syntax_ok}
@@ -20,17 +20,17 @@ use Rattle.run_opening.specs.declared.config_reading.NoConfig.{NoConfig}
 use Rattle.run_opening.specs.declared.config_reading.NoConfig.TheVariants as no
 use Rattle.run_report.specs.declared.texts.ConfigRefusal.{ConfigRefusal}
 use Rattle.run_opening.proofs.FileLemmas.{has_file, too_large, unread-failed, unread-missing}
-use Rattle.mpm_run.proofs.InvocationLemmas.{config-file}
+use Rattle.server_run.proofs.InvocationLemmas.{config-file}
 
 -- ## A configuration that is refused
 
 -- it is refused
 refuses-named : (call : Call) (name : List ℕ) (answer : Result (List ℕ) StoreFault) (why : ConfigRefusal) (number : ℕ) → NamesConfig call.words name
     → ReadsFile call.store call.store' name most_config answer → RefusesText answer why number ⊎ RefusesSize answer why number
-    → RefusesRun call.sink call.sink' (Some number) (config_refused number why) call.shown → EndsConfigRefused call
+    → RefusesRun call.sink call.sink' (Some number) (config_refused number why) call.shown → EndsFileRefused call
 refuses-named call name answer why number command reads (inl refuses) refused =
     let has = has_file most_config call call.store' name refuses.text answer reads refl refuses.is in
-    inr (inr (record {
+    inr (record {
       name = name;
       bytes = refuses.text;
       number = number;
@@ -40,24 +40,24 @@ refuses-named call name answer why number command reads (inl refuses) refused =
       refused = record { few = has.few; refused = refuses.refused };
       shows = refused.shows;
       text = refused.writes;
-    }))
+    })
 refuses-named call name answer why number command reads (inr refuses) refused =
     let here =
     subst (λ (w : ConfigRefusal). RefusesRun call.sink call.sink' (Some 0) (config_refused 0 w) call.shown) refuses.why_is
     (subst (λ (n : ℕ). RefusesRun call.sink call.sink' (Some n) (config_refused n why) call.shown) refuses.number_is refused) in
-    inr (inl (record {
+    inl (record {
       name = name;
       command = command;
       kept = reads.told_stays;
       cause = too_large most_config call name refuses.size answer reads refuses.is;
       shows = here.shows;
       text = here.writes;
-    }))
+    })
 
 -- with exit status 1
 pub config-refused : (call : Call) (name : List ℕ) (answer : Result (List ℕ) StoreFault) (why : NoConfig) (status : ℕ) → NamesConfig call.words name
     → ReadsFile call.store call.store' name most_config answer → IsConfigFrom answer (Err why)
-    → RefusesConfigOf call.sink call.sink' name why status call.shown → status ≡ 1 → EndsConfigRefused call
+    → RefusesConfigOf call.sink call.sink' name why status call.shown → status ≡ 1 → EndsFileRefused call
 config-refused call name answer (no.Refused why number) status command reads is refused one =
     refuses-named call name answer why number command reads (from-refused answer why number is) refused.1
 config-refused call name answer no.Missing status command reads is refused one = absurd (omega (arith, refused.0, one))

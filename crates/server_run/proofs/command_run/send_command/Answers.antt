@@ -1,9 +1,9 @@
 use Rattle.std.proofs.Common.{◌≡◌, true, false, None, inl, inr, refl, ap, sym, ◌∙◌, arith}
 use Rattle.mpm_config.specs.Config.{Configuration}
-use Rattle.mpm_run.proofs.ConfigLemmas.{config-refused, config-unread, ends-uncontrolled, has-dialled}
-use Rattle.mpm_run.proofs.FormLemmas.{send-unconfigured}
-use Rattle.mpm_run.proofs.InvocationLemmas.{send-config}
-use Rattle.mpm_run.proofs.command_run.send_command.Goals as goal
+use Rattle.server_run.proofs.ConfigLemmas.{config-refused, config-unread, ends-uncontrolled, has-dialled}
+use Rattle.server_run.proofs.FormLemmas.{send-unconfigured}
+use Rattle.server_run.proofs.InvocationLemmas.{send-config}
+use Rattle.server_run.proofs.command_run.send_command.Goals as goal
 
 pub returns-in-Err-clause-ends : goal.returns-in-Err-clause-ends
 returns-in-Err-clause-ends g c words command =

@@ -1,7 +1,7 @@
 //! A command that is sent to a running server: `-k WORD -f FILE`. It loads no files, and writes nothing where it succeeds.
 ghost use Rattle.std.specs.Prelude.{◌≡◌, ℕ, List};
 ghost use Rattle.command_words.specs.Invocations.{IsSendWords};
-ghost use Rattle.mpm_run.specs.ExitStatusesInside.{EndsSend};
+ghost use Rattle.server_run.specs.EndsInside.{EndsSend};
 ghost use Rattle.listener.specs.Outside.{clients_told, comings_told};
 ghost use Rattle.run_opening.specs.Calls.{seen_call};
 

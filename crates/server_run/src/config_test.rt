@@ -3,7 +3,7 @@
 ghost use Rattle.std.specs.Prelude.{◌≡◌, ◌⊎◌, ◌++◌, ℕ, List, None, option_map};
 ghost use Rattle.command_words.specs.Invocations.{IsTestWords};
 ghost use Rattle.mpm_base.specs.Count.{Rises};
-ghost use Rattle.mpm_run.specs.ExitStatusesInside.{EndsTest};
+ghost use Rattle.server_run.specs.EndsInside.{EndsTest};
 ghost use Rattle.run_opening.specs.Calls.{seen_call};
 ghost use Rattle.run_opening.specs.Refusals.{EndsSilently};
 ghost use Rattle.run_report.specs.Texts.{syntax_ok};

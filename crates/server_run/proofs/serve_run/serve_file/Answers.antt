@@ -3,10 +3,10 @@ use Rattle.mpm_base.specs.Store.{StoreSeen}
 use Rattle.file_table.specs.Site.{SeenSite}
 use Rattle.run_opening.proofs.ConfigLemmas.{had-accepted, has-accepted}
 use Rattle.listener.specs.RunsInside.{HasRunBy}
-use Rattle.mpm_run.proofs.ConfigLemmas.{config-refused, config-unread}
-use Rattle.mpm_run.proofs.InvocationLemmas.{serve-config}
-use Rattle.mpm_run.proofs.ServeLemmas.{asked-only, folder-refused, folder-unread, is-ready, leaves-front, serves, unbound, unserved}
-use Rattle.mpm_run.proofs.serve_run.serve_file.Goals as goal
+use Rattle.server_run.proofs.ConfigLemmas.{config-refused, config-unread}
+use Rattle.server_run.proofs.InvocationLemmas.{serve-config}
+use Rattle.server_run.proofs.ServeLemmas.{asked-only, folder-refused, folder-unread, is-ready, leaves-front, serves, unbound, unserved}
+use Rattle.server_run.proofs.serve_run.serve_file.Goals as goal
 
 pub returns-in-Err-clause-ends : goal.returns-in-Err-clause-ends
 returns-in-Err-clause-ends g c words command =

@@ -10,7 +10,7 @@ use Rattle.file_table.specs.declared.load_fault.LoadFault.TheVariants as fault
 use Rattle.board.specs.Board.{SeenBoard}
 use Rattle.run_opening.specs.Calls.{Call}
 use Rattle.run_opening.specs.Refusals.{EndsSilently}
-use Rattle.mpm_run.specs.ExitStatuses.{EndsConfigRefused, EndsSent, EndsSiteRefused, EndsTested, EndsTestUnwritten, EndsUnbound, EndsUncontrolled, EndsUndialled, EndsUnread, HasRunServer, LeavesFront, LeavesOutside}
+use Rattle.server_run.specs.Ends.{EndsFileRefused, EndsSent, EndsServedSiteRefused, EndsTested, EndsTestUnwritten, EndsUnbound, EndsUncontrolled, EndsUndialled, EndsUnread, HasRunServer, LeavesFront, LeavesOutside}
 
 -- ## The exit status on the way
 
@@ -49,7 +49,7 @@ RefusesFolder sink sink' c fault.NoMemory status shown = ⊥
 pub record EndsTest (call : Call) (status : ℕ) : Type 0 where
   pub known : IsTestStatus status
   pub tested : status ≡ 0 → EndsTested call
-  pub misconfigured : status ≡ 1 → EndsConfigRefused call
+  pub misconfigured : status ≡ 1 → EndsFileRefused call
   pub unread : status ≡ 3 → EndsUnread call
   pub unwritten : status ≡ 5 → EndsTestUnwritten call
   pub silent : status ≡ 6 → EndsSilently call.sink call.sink' call.shown
@@ -59,7 +59,7 @@ pub record EndsSend (call : Call) (f f' : FrontSeen) (status : ℕ) : Type 0 whe
   pub known : IsSentStatus status
   pub front : LeavesFront call f f' status
   pub sent : status ≡ 0 → EndsSent call f f'
-  pub misconfigured : status ≡ 1 → EndsConfigRefused call
+  pub misconfigured : status ≡ 1 → EndsFileRefused call
   pub unread : status ≡ 3 → EndsUnread call
   pub undialled : status ≡ 4 → EndsUndialled call f f'
   pub silent : status ≡ 6 → EndsSilently call.sink call.sink' call.shown
@@ -72,8 +72,8 @@ pub record EndsServe (call : Call) (f f' : FrontSeen) (calls calls' : Option (Li
   pub server : IfSome left (HasRunServer call f f' calls' status)
   pub opened : (status ≡ 0) ⊎ (status ≡ 5) → IsSome left
   pub unopened : IsNone left → LeavesOutside call f f' calls calls' status
-  pub misconfigured : status ≡ 1 → EndsConfigRefused call
+  pub misconfigured : status ≡ 1 → EndsFileRefused call
   pub unread : status ≡ 3 → EndsUnread call
   pub front_failed : status ≡ 4 → IsSome left ⊎ EndsUnbound call f f'
   pub silent : status ≡ 6 → IsNone left → EndsSilently call.sink call.sink' call.shown
-  pub site_refused : status ≡ 9 → EndsSiteRefused call
+  pub site_refused : status ≡ 9 → EndsServedSiteRefused call

@@ -4,9 +4,9 @@ use Rattle.run_report.specs.EndingsInside.{WritesAll}
 use Rattle.listener.specs.OrdersInside.{opening_by}
 use Rattle.run_report.proofs.EndingLemmas.{ends-as}
 use Rattle.listener.proofs.LeftLemmas.{stopped-end}
-use Rattle.mpm_run.proofs.ServeLemmas.{opened-status}
+use Rattle.server_run.proofs.ServeLemmas.{opened-status}
 use Rattle.listener.proofs.LeftLemmas.{has-run-by}
-use Rattle.mpm_run.proofs.serve_run.serve_edition.Goals as goal
+use Rattle.server_run.proofs.serve_run.serve_edition.Goals as goal
 
 pub returns-in-Ok-clause-run : goal.returns-in-Ok-clause-run
 returns-in-Ok-clause-run g c =

@@ -17,9 +17,9 @@ use Rattle.run_opening.specs.Calls.{Call, HadConfigAccepted, HasConfigAccepted, 
 use Rattle.restart_control.specs.Reload.{most_config, order_of}
 use Rattle.run_opening.specs.Configured.{warnings_of}
 use Rattle.run_report.specs.Endings.{EndsAs, MayEndWith}
-use Rattle.mpm_run.specs.ExitStatuses.{EndsSiteRefused, EndsUnbound, EndsUnread, HasRunServer, IsUnbound, LeavesFront, EndsConfigRefused}
+use Rattle.server_run.specs.Ends.{EndsServedSiteRefused, EndsUnbound, EndsUnread, HasRunServer, IsUnbound, LeavesFront, EndsFileRefused}
 use Rattle.listener.specs.RunsInside.{HasRunBy}
-use Rattle.mpm_run.specs.ExitStatusesInside.{LeavesUnbound, RefusesFolder, IsOpenedStatus, EndsServe}
+use Rattle.server_run.specs.EndsInside.{LeavesUnbound, RefusesFolder, IsOpenedStatus, EndsServe}
 use Rattle.run_opening.specs.RefusalsInside.{RefusesRun}
 use Rattle.listener.specs.FirstNumbers.{numbers_of, opened_by}
 use Rattle.listener.specs.Generations.{Opening}
@@ -186,11 +186,11 @@ lacks-site (Some t) told' c e name same means may =
 pub folder-refused : (call : Call) (read : StoreSeen) (name : List ℕ) (c : Configuration) (e : LoadFault) (answer : Result (List ℕ) StoreFault) (status : ℕ)
     → IsServeWords call.words name → HasConfigAccepted call name c → ReadsFile call.store read name most_config answer
     → LeavesStore {T = SeenSite} read call.store' (Err e) → IfSome read.told (λ t. MayLoad (order_of c) t.files (Err e))
-    → RefusesFolder call.sink call.sink' c e status call.shown → status ≡ 9 → EndsSiteRefused call
+    → RefusesFolder call.sink call.sink' c e status call.shown → status ≡ 9 → EndsServedSiteRefused call
 folder-refused call read name c fault.StoreFault answer status command accepted reads leaves may refused nine = absurd (omega (arith, refused.0, nine))
 folder-refused call read name c fault.TooMany answer status command accepted reads leaves may refused nine =
     let stays = where-stays (answers_with is_refusal answer) call.store.counts.refusals read.counts.refusals reads.counted.refusals in
-    inr (record {
+    record {
       name = name;
       config = c;
       refused_for = c.root;
@@ -202,10 +202,10 @@ folder-refused call read name c fault.TooMany answer status command accepted rea
       };
       shows = refused.1.shows;
       text = refused.1.writes;
-    })
+    }
 folder-refused call read name c (fault.TooLarge file size) answer status command accepted reads leaves may refused nine =
     let stays = where-stays (answers_with is_refusal answer) call.store.counts.refusals read.counts.refusals reads.counted.refusals in
-    inr (record {
+    record {
       name = name;
       config = c;
       refused_for = file;
@@ -217,15 +217,15 @@ folder-refused call read name c (fault.TooLarge file size) answer status command
       };
       shows = refused.1.shows;
       text = refused.1.writes;
-    })
+    }
 folder-refused call read name c fault.NoMemory answer status command accepted reads leaves may refused nine = absurd refused
 
 -- ## How a server ends that never opened
 
 -- its configuration or its site is none, or memory lacked for them
 pub unserved : (call : Call) (f : FrontSeen) (calls : Option (List (ℕ × ℕ))) (status : ℕ) (left : Option SeenBoard) → IsNone left
-    → (status ≡ 1) ⊎ (status ≡ 3) ⊎ (status ≡ 6) ⊎ (status ≡ 9) → (status ≡ 1 → EndsConfigRefused call) → (status ≡ 3 → EndsUnread call)
-    → (status ≡ 6 → EndsSilently call.sink call.sink' call.shown) → (status ≡ 9 → EndsSiteRefused call) → EndsServe call f f calls calls status left
+    → (status ≡ 1) ⊎ (status ≡ 3) ⊎ (status ≡ 6) ⊎ (status ≡ 9) → (status ≡ 1 → EndsFileRefused call) → (status ≡ 3 → EndsUnread call)
+    → (status ≡ 6 → EndsSilently call.sink call.sink' call.shown) → (status ≡ 9 → EndsServedSiteRefused call) → EndsServe call f f calls calls status left
 unserved call f calls status None none known refused unread silent siteless = record {
   known =
       elim known [

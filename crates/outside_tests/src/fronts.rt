@@ -1,10 +1,11 @@
 //! Fronts that play a script, call by call. A call whose contract is long stands in a function without any, so that its clauses
 //! aren't carried through what is shown.
 use crate::by_hand::script_by_hand;
+use crate::calls::calls_of;
 use crate::links::show_link_call;
 use mpm_base::{Addr, Arrival, Bell, ConnName, Front, Line, Moment, NoMemory, Ready, Woke};
 use script_front::{FailingFront, ScriptBell, ScriptFront};
-use stand_ins::{Calls, ScriptLink};
+use stand_ins::ScriptLink;
 use std::alloc::Global;
 use std::io::{self, ErrorKind};
 use std::sync::Wait;
@@ -18,20 +19,14 @@ struct Play {
     links: Vec<ScriptLink>,
 }
 
-/// Shows what a front of the script answers to each call. None of its calls fails.
-pub fn show_front<R: Print + Wait>(rt: &R, alloc: Global, rows: &str) -> io::Result<()> {
-    show_failing(rt, alloc, "", rows)
-}
-
-/// Shows what a front of the script answers to each call. The first row has the numbers of the waits that are to fail, a semicolon, those
-/// of the accepts, and perhaps a further one and those of the watches.
-pub fn show_failing_front<R: Print + Wait>(rt: &R, alloc: Global, rows: &str) -> io::Result<()> {
-    let (lists, rest) = rows.split_once('\n').unwrap_or((rows, ""));
-    show_failing(rt, alloc, lists, rest)
-}
-
-/// The same where the calls of these lists are to fail.
-fn show_failing<R: Print + Wait>(rt: &R, alloc: Global, lists: &str, rows: &str) -> io::Result<()> {
+/// Shows what a front of the script in the first row answers to each call. The calls of these lists fail: the numbers of the waits, a
+/// semicolon, those of the accepts, and perhaps a further one and those of the watches.
+pub fn show_front<R: Print + Wait>(
+    rt: &R,
+    alloc: Global,
+    lists: &str,
+    rows: &str,
+) -> io::Result<()> {
     let (script, calls) = rows.split_once('\n').unwrap_or((rows, ""));
     let mut play = grown(play_of(alloc, script, lists))?;
     show_calls(rt, alloc, &mut play, calls)
@@ -45,16 +40,10 @@ fn show_calls<R: Print + Wait>(
     calls: &str,
 ) -> io::Result<()> {
     for call in calls.lines() {
-        show_row(rt, alloc, play, call)?;
+        print!(rt; "{call} => ")?;
+        show_call(rt, alloc, play, call)?;
     }
     Ok(())
-}
-
-/// Shows the call, and what is answered to it.
-fn show_row<R: Print + Wait>(rt: &R, alloc: Global, play: &mut Play, call: &str) -> io::Result<()> {
-    print!(rt; "{call} => ")?;
-    let (word, rest) = words(call);
-    show_call(rt, alloc, play, word, rest)
 }
 
 /// A front of the script, of which no line has happened, and whose listed calls fail.
@@ -77,25 +66,14 @@ fn front_of(alloc: Global, row: &str, lists: &str) -> Result<FailingFront, NoMem
     ScriptFront::failing(alloc, script, bad_waits, bad_accepts, bad_watches)
 }
 
-/// The numbers that the words of the text write.
-fn calls_of(alloc: Global, text: &str) -> Result<Calls, NoMemory> {
-    let mut calls = Calls::make(alloc);
-    for word in text.split(' ') {
-        if !word.is_empty() {
-            calls.add(number_of(word))?;
-        }
-    }
-    Ok(calls)
-}
-
 /// Shows what the front, or one of its links, answers to the call.
 fn show_call<R: Print + Wait>(
     rt: &R,
     alloc: Global,
     play: &mut Play,
-    word: &str,
-    rest: &str,
+    call: &str,
 ) -> io::Result<()> {
+    let (word, rest) = words(call);
     match word {
         "wait" => show_wait(rt, play, rest),
         "accept" => show_accept(rt, play),
@@ -156,15 +134,6 @@ fn show_accept(rt: &impl Print, play: &mut Play) -> io::Result<()> {
     }
 }
 
-/// Takes the next link where no accept is to fail. Whether there was one.
-fn is_taken(play: &mut Play) -> io::Result<bool> {
-    match take(play)? {
-        Taken::Link => Ok(true),
-        Taken::None => Ok(false),
-        Taken::Failed => Err(io::Error::from(ErrorKind::Other)),
-    }
-}
-
 fn show_turn(rt: &impl Print, play: &mut Play) -> io::Result<()> {
     match play.links.pop() {
         Some(link) => {
@@ -195,12 +164,14 @@ fn is_watched(play: &mut Play, number: usize, slot: u32) -> bool {
     }
 }
 
-/// Takes each link that waits and watches it.
+/// Takes each link that waits and watches it. No accept is to fail.
 fn show_all(rt: &impl Print, play: &mut Play) -> io::Result<()> {
     for slot in 0..u32::MAX {
         let number = play.links.len();
-        if !is_taken(play)? {
-            return println!(rt; "{slot} links");
+        match take(play)? {
+            Taken::Link => (),
+            Taken::None => return println!(rt; "{slot} links"),
+            Taken::Failed => return Err(io::Error::from(ErrorKind::Other)),
         }
         if !is_watched(play, number, slot) {
             return println!(rt; "link {number} isn't watched");

@@ -1,8 +1,8 @@
 use Rattle.std.proofs.Common.{inl, inr, arith}
-use Rattle.mpm_run.proofs.ConfigLemmas.{config-refused, config-unread, ends-test-unwritten, ends-tested}
-use Rattle.mpm_run.proofs.FormLemmas.{test-unconfigured}
-use Rattle.mpm_run.proofs.InvocationLemmas.{test-config}
-use Rattle.mpm_run.proofs.config_test.test_config.Goals as goal
+use Rattle.server_run.proofs.ConfigLemmas.{config-refused, config-unread, ends-test-unwritten, ends-tested}
+use Rattle.server_run.proofs.FormLemmas.{test-unconfigured}
+use Rattle.server_run.proofs.InvocationLemmas.{test-config}
+use Rattle.server_run.proofs.config_test.test_config.Goals as goal
 
 pub returns-in-Ok : goal.returns-in-Ok
 returns-in-Ok g c words command =

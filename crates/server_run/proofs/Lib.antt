@@ -1,0 +1,4 @@
+pub mod ConfigLemmas
+pub mod FormLemmas
+pub mod InvocationLemmas
+pub mod ServeLemmas

@@ -1,0 +1,204 @@
+-- Why a form of the command line that goes by a configuration file of the store ends with its exit status, and what it leaves.
+use Rattle.board.specs.Board.{SeenBoard}
+use Rattle.command_words.specs.Invocations.{IsSendWords, IsServeWords, IsTestWords, NamesConfig, NamesFile}
+use Rattle.file_table.specs.Site.{SeenSite}
+use Rattle.mpm_base.specs.CommandWord.{command_word}
+use Rattle.mpm_base.specs.Count.{Rises}
+use Rattle.mpm_base.specs.Front.{Binds, Dials, FrontSeen}
+use Rattle.mpm_base.specs.declared.script_line.CommandWord.{CommandWord}
+use Rattle.mpm_config.specs.Config.{Configuration}
+use Rattle.listener.specs.Commands.{GivesLines}
+use Rattle.listener.specs.FirstNumbers.{numbers_of}
+use Rattle.listener.specs.Generations.{Opening}
+use Rattle.listener.specs.Outside.{KeepsOutside}
+use Rattle.listener.specs.Runs.{HasRun, entries_of_run, KeepsLines}
+use Rattle.listener.specs.Stores.{KeepsStore}
+use Rattle.restart_control.specs.Reload.{most_config}
+use Rattle.run_opening.specs.Calls.{Call, HadConfigAccepted, HasConfigAccepted, HasFile, IsRefusedAsLarge, IsFileUnread, KeepsFiles, HasSiteRefused, LoadsSite, StoreFailed}
+use Rattle.run_opening.specs.Configured.{IsRefused, warnings_of}
+use Rattle.run_report.specs.Endings.{EndsAs}
+use Rattle.run_report.specs.Texts.{config_refused, front_fault, no_control_line, site_refused, store_fault, syntax_ok}
+use Rattle.run_report.specs.Written.{WritesText}
+use Rattle.run_report.specs.declared.texts.ConfigRefusal.{ConfigRefusal}
+use Rattle.run_report.specs.declared.texts.ConfigRefusal.TheVariants.{BadValue}
+use Rattle.std.specs.Prelude.{◌≡◌, ℕ, ◌⊎◌, Bool, true, false, List, ◌++◌, Option, Some, None, option_map, IfSome}
+
+-- ## Where no run opened
+
+-- with exit status 3, for the file that the words name
+pub record EndsFileUnread (call : Call) : Type 0 where
+  pub name : List ℕ
+  pub command : NamesFile call.words name
+  pub unread : IsFileUnread call name
+
+-- with exit status 3, for the files of the site: the configuration is accepted, and a call of the store failed
+pub record EndsSiteUnread (call : Call) : Type 0 where
+  pub name : List ℕ
+  pub config : Configuration
+  pub command : IsServeWords call.words name
+  pub accepted : HasConfigAccepted call name config
+  pub failed : StoreFailed call
+  pub shows : call.shown ≡ None
+  pub text : WritesText call.sink call.sink' (store_fault config.root)
+
+-- with exit status 3
+abbrev pub EndsUnread : Call → Type 0
+EndsUnread call = EndsFileUnread call ⊎ EndsSiteUnread call
+
+-- ## Where a configuration is refused
+
+-- with exit status 1, for the size of the configuration that the words name
+pub record EndsConfigTooLarge (call : Call) : Type 0 where
+  pub name : List ℕ
+  pub command : NamesConfig call.words name
+  pub kept : KeepsFiles call
+  pub cause : IsRefusedAsLarge most_config call name
+  pub shows : call.shown ≡ Some 0
+  pub text : WritesText call.sink call.sink' (config_refused 0 BadValue)
+
+-- with exit status 1, for a line or a place of the configuration that the words name
+pub record EndsConfigUnfit (call : Call) : Type 0 where
+  pub name : List ℕ
+  pub bytes : List ℕ
+  pub number : ℕ
+  pub why : ConfigRefusal
+  pub command : NamesConfig call.words name
+  pub has : HasFile most_config call name bytes
+  pub refused : IsRefused bytes why number
+  pub shows : call.shown ≡ Some number
+  pub text : WritesText call.sink call.sink' (config_refused number why)
+
+-- with exit status 1, for the configuration that the words name
+abbrev pub EndsFileRefused : Call → Type 0
+EndsFileRefused call = EndsConfigTooLarge call ⊎ EndsConfigUnfit call
+
+-- ## Where a site is refused
+
+-- with exit status 9, for the site that was to be served, whose configuration is accepted
+pub record EndsServedSiteRefused (call : Call) : Type 0 where
+  pub name : List ℕ
+  pub config : Configuration
+  pub refused_for : List ℕ
+  pub command : IsServeWords call.words name
+  pub accepted : HasConfigAccepted call name config
+  pub refused : HasSiteRefused call config refused_for
+  pub shows : call.shown ≡ None
+  pub text : WritesText call.sink call.sink' (site_refused refused_for)
+
+-- ## Where a configuration was tested
+
+-- with exit status 0, of a test: the configuration is accepted, its warnings were written, and that it is
+pub record EndsTested (call : Call) : Type 0 where
+  pub name : List ℕ
+  pub config : Configuration
+  pub command : IsTestWords call.words name
+  pub accepted : HasConfigAccepted call name config
+  pub shows : call.shown ≡ None
+  pub text : call.sink'.told ≡ option_map (λ written. written ++ (warnings_of config ++ syntax_ok)) call.sink.told
+
+-- with exit status 5, of a test: the configuration is accepted, and a write of its texts failed
+pub record EndsTestUnwritten (call : Call) : Type 0 where
+  pub name : List ℕ
+  pub config : Configuration
+  pub command : IsTestWords call.words name
+  pub accepted : HasConfigAccepted call name config
+  pub shows : call.shown ≡ None
+  pub failed : Rises call.sink.faults call.sink'.faults
+
+-- ## Where a command was sent
+
+-- the words have the command sent to the control port of the configuration of that name, which is accepted
+pub record Sends (call : Call) (word : CommandWord) (port : ℕ) : Type 0 where
+  pub name : List ℕ
+  pub config : Configuration
+  pub command : IsSendWords call.words word name
+  pub accepted : HasConfigAccepted call name config
+  pub control : config.control ≡ Some port
+  pub shows : call.shown ≡ None
+
+-- the front was asked once to dial the port of such a command with its word, and answered so
+pub record HasDialled (call : Call) (f f' : FrontSeen) (answer : Bool) : Type 0 where
+  pub word : CommandWord
+  pub port : ℕ
+  pub sends : Sends call word port
+  pub dials : Dials f f' port (command_word word) answer
+
+-- with exit status 0, of a command: the front dialled the port with its word, and nothing was written
+pub record EndsSent (call : Call) (f f' : FrontSeen) : Type 0 where
+  pub dialled : HasDialled call f f' true
+  pub unwritten : call.sink' ≡ call.sink
+
+-- with exit status 10: the configuration is accepted, and has no control line
+pub record EndsUncontrolled (call : Call) : Type 0 where
+  pub word : CommandWord
+  pub name : List ℕ
+  pub config : Configuration
+  pub command : IsSendWords call.words word name
+  pub accepted : HasConfigAccepted call name config
+  pub control : config.control ≡ None
+  pub shows : call.shown ≡ None
+  pub text : WritesText call.sink call.sink' no_control_line
+
+-- ## Where the front failed before a run opened
+
+-- with exit status 4, of a command: the dial failed
+pub record EndsUndialled (call : Call) (f f' : FrontSeen) : Type 0 where
+  pub dialled : HasDialled call f f' false
+  pub text : WritesText call.sink call.sink' front_fault
+
+-- the configuration of a server is accepted and its site loaded, and the front could not be bound to what the configuration says
+pub record IsUnbound (call : Call) (f f' : FrontSeen) : Type 0 where
+  pub name : List ℕ
+  pub config : Configuration
+  pub site : SeenSite
+  pub command : IsServeWords call.words name
+  pub accepted : HasConfigAccepted call name config
+  pub loads : LoadsSite call config site
+  pub binds : Binds f f' config.listen config.control false
+
+-- with exit status 4, of a server: the front could not be bound
+pub record EndsUnbound (call : Call) (f f' : FrontSeen) : Type 0 where
+  pub unbound : IsUnbound call f f'
+  pub shows : call.shown ≡ None
+  pub text : WritesText call.sink call.sink' front_fault
+
+-- ## What became of the front and the clock where no run of a server opened
+
+-- a bind or a dial of the front failed, with exit status 4, or with 6 where memory lacked for the text of that
+pub record FailsFront (call : Call) (f f' : FrontSeen) (status : ℕ) : Type 0 where
+  pub status_is : (status ≡ 4) ⊎ (status ≡ 6)
+  pub failed : IsUnbound call f f' ⊎ HasDialled call f f' false
+
+-- the front is as it was; or it dialled for a command, with exit status 0; or a bind or a dial of it failed
+abbrev pub LeavesFront : Call → FrontSeen → FrontSeen → ℕ → Type 0
+LeavesFront call f f' status = (f' ≡ f) ⊎ ((status ≡ 0) × HasDialled call f f' true) ⊎ FailsFront call f f' status
+
+-- so it is with the front, and a clock that tells has told no further call
+pub record LeavesOutside (call : Call) (f f' : FrontSeen) (calls calls' : Option (List (ℕ × ℕ))) (status : ℕ) : Type 0 where
+  pub front : LeavesFront call f f' status
+  pub clock : calls' ≡ calls
+
+-- ## Of a server
+
+-- how a server opened by the configuration of that name, and by this site
+abbrev pub server_opening : Call → FrontSeen → List ℕ → Configuration → SeenSite → Opening
+server_opening call f name c site = record { name = name; config = c; site = site; store = call.store; front = f }
+
+-- a server was run over the front and the clock, and what is left is of a run by the configuration of the file that the words name and
+-- by the site of the store, and then by the store's editions; it is tied to the front, the clock and the store, and ended as its exit status
+-- says
+pub record HasRunServer (call : Call) (f f' : FrontSeen) (calls : Option (List (ℕ × ℕ))) (status : ℕ) (b : SeenBoard) : Type 0 where
+  pub name : List ℕ
+  pub config : Configuration
+  pub site : SeenSite
+  pub command : IsServeWords call.words name
+  pub accepted : HadConfigAccepted call name config
+  pub loads : LoadsSite call config site
+  pub shows : call.shown ≡ None
+  pub has_run : HasRun (server_opening call f name config site) b
+  pub outside : KeepsOutside (numbers_of config) f f' calls b
+  pub lines : IfSome f'.told (KeepsLines (entries_of_run (server_opening call f name config site) b has_run) b)
+  pub given : GivesLines (entries_of_run (server_opening call f name config site) b has_run) f f'
+  pub store :
+      KeepsStore b.book.state.going (entries_of_run (server_opening call f name config site) b has_run) call.store call.store'
+  pub ends : EndsAs call.sink call.sink' (warnings_of config) b status
