@@ -93,7 +93,8 @@ CHANGES = [
     Change("folders come", lambda folder: lay_out(folder, {"new/d": b"d", "docs/new/e": b"e"})),
     Change("the configuration vanishes", lambda folder: os.remove(f"{folder}/httpd.conf"), refused=True),
     Change(
-        "the configuration is replaced", lambda folder: rename_over(folder, "httpd.conf", b"DocumentRoot other\n"),
+        # Of a front of the old one and the rest of this one no line is right.
+        "the configuration is replaced", lambda folder: rename_over(folder, "httpd.conf", b"#" * 1_000 + b"\nDocumentRoot other\n"),
         lambda name, came: came == OTHERS[name],
     ),
     Change("the configuration becomes a wrong one", lambda folder: rename_over(folder, "httpd.conf", b"Timeout 0\n"), refused=True),

@@ -52,5 +52,5 @@ of-answered law s c c' ask note of decided takes =
     (record {
       row = answered_row s c.name.slot ask of.row;
       found = answered-found law s c.name ask of.row of.found;
-      fits = record { child = of.fits.child; generation = of.fits.generation; notes = notes; rank = of.fits.rank };
+      fits = record { child = of.fits.child; generation = of.fits.generation; notes = notes; rank = of.fits.rank; backed = of.fits.backed };
     })

@@ -1,5 +1,5 @@
 -- What each event does to the connections that wait, and to the room for those that live.
-use Rattle.std.proofs.Common.{◌≡◌, ◌==◌, ℕ, zero, suc, ◌+◌, ◌<◌, ◌≤◌, Bool, true, false, not, ◌&&◌, ◌||◌, cond, if◌then◌else◌, nat_lt, is_some, List, ◌∷◌, Option, None, Some, slice_get, get_or, count_by, replicate, refl, sym, ap, subst, ◌∙◌, arith}
+use Rattle.std.proofs.Common.{◌≡◌, ◌==◌, ℕ, zero, suc, ◌+◌, ◌<◌, ◌≤◌, Bool, true, false, not, ◌&&◌, ◌||◌, cond, if◌then◌else◌, nat_lt, is_some, List, [], ◌∷◌, ◌++◌, Option, None, Some, slice_get, get_or, count_by, replicate, refl, sym, ap, subst, ◌∙◌, arith}
 use Rattle.std.specs.Option.{option_map_or}
 use Rattle.std.proofs.Math.ListN.{set}
 use Rattle.std.proofs.lemmas.Bool.{and_parts}
@@ -25,6 +25,7 @@ use Rattle.conn_machine.specs.Table.{is_allowed, next, is_vacant_at, may_wait, m
 use Rattle.conn_machine.specs.Sound.{KindFits}
 use Rattle.timeout_queues.specs.Waiting.{ParkedName}
 use Rattle.conn_state.specs.Conn.{SeenConn, IsConn}
+use Rattle.board.specs.Backed.{AreBacked}
 use Rattle.board.specs.Fits.{Fits, IsSettled, IsSettledFrom, LingersFor}
 use Rattle.board.specs.Board.{IsHeldHere, IsAtHome, IsHome, AreHome, conn_at}
 use Rattle.board.specs.QueuesInside.{waits_in, queues_of}
@@ -183,9 +184,9 @@ accept-there law s slot conns queues ended room room' may there space =
 -- a connection waits, and is as one that waits so
 pub park-there : RowsChangeOneAtATime → (s : State) (name : ConnName) (kind : Kind) (conns : List (Option SeenConn)) (queues : List (Option ParkedName)) (c : SeenConn) (r : Row) (ended room : ℕ)
     → is_allowed s (event.Park name kind) ≡ true → AreThere s.rows conns queues ended room → live_row s.rows name ≡ Some r → c.name ≡ name
-    → Fits c r → IsSettled kind r.cause c
+    → Fits c r → IsSettled kind r.cause c → AreBacked (r.waits ++ kind ∷ []) c.counts
     → AreThere (next s (event.Park name kind)).rows (set conns name.slot (Some c)) (set queues name.slot (waits_in (parked_row s kind r))) ended room
-park-there law s name kind conns queues c r ended room may there found name_is fits settled =
+park-there law s name kind conns queues c r ended room may there found name_is fits settled backed =
     let lives = lives_as s.rows name (may_wait s.moment kind) (and_parts (not (is_halted s.going)) (lives_and (may_wait s.moment kind) s.rows name) may).1 in
     let same : r ≡ lives.row = cc (lives.found, found) in
     let count = live-same s.rows name.slot lives.row (parked_row s kind) lives.at lives.live refl in
@@ -194,7 +195,7 @@ park-there law s name kind conns queues c r ended room may there found name_is f
     there_set law s.rows conns queues name.slot lives.row (parked_row s kind) (Some c) (waits_in (parked_row s kind r)) ended ended room room there lives.at
     (record {
       name = named;
-      fits = record { child = fits'.child; generation = fits'.generation; notes = fits'.notes; rank = fits'.rank };
+      fits = record { child = fits'.child; generation = fits'.generation; notes = fits'.notes; rank = fits'.rank; backed = subst (λ (x : Row). AreBacked (x.waits ++ kind ∷ []) c.counts) same backed };
       here = subst (λ (x : Row). IsSettled kind x.cause c) same settled;
     })
     (ap (λ (x : Row). waits_in (parked_row s kind x)) (sym same))
@@ -225,7 +226,7 @@ linger-there law s name why conns queues c r ended room may there found name_is 
     there_set law s.rows conns queues name.slot lives.row (lingering_row s why) (Some c) (waits_in (lingering_row s why r)) ended ended room room there lives.at
     (record {
       name = named;
-      fits = record { child = fits'.child; generation = fits'.generation; notes = fits'.notes; rank = fits'.rank };
+      fits = record { child = fits'.child; generation = fits'.generation; notes = fits'.notes; rank = fits'.rank; backed = fits'.backed };
       here = lingering-settled why c lives.row.short waits is;
     })
     (ap (λ (x : Row). waits_in (lingering_row s why x)) (sym same))

@@ -101,7 +101,7 @@ hold-given law s name conns sound may are =
     let here = home-of s.rows conns name.slot r are lives.at parked in
     let fits = here.2.fits in
     given law s (next s (event.Hold name)) conns name r held_row here.0 are lives.at lives.life here.1 here.2 refl refl refl
-    (record { child = fits.child; generation = fits.generation; notes = fits.notes; rank = fits.rank })
+    (record { child = fits.child; generation = fits.generation; notes = fits.notes; rank = fits.rank; backed = fits.backed })
     (parked-settled r.place r here.0 parked (sound.kinds name.slot r lives.at lives.live) here.2.here)
 
 -- the worker of a queue is given the connection
@@ -115,7 +115,7 @@ queue-given law s name conns sound may are =
     let here = home-of s.rows conns name.slot r are lives.at parked in
     let fits = here.2.fits in
     given law s (next s (event.Queue name)) conns name r queued_row here.0 are lives.at lives.life here.1 here.2 refl refl refl
-    (record { child = fits.child; generation = fits.generation; notes = fits.notes; rank = fits.rank })
+    (record { child = fits.child; generation = fits.generation; notes = fits.notes; rank = fits.rank; backed = fits.backed })
     (parked-settled r.place r here.0 parked (sound.kinds name.slot r lives.at lives.live) here.2.here)
 
 -- ## The timeout queues
@@ -289,7 +289,7 @@ start-taken law s name c may taken =
           record {
             row = served_row s lives.row;
             found = own.1;
-            fits = record { child = fits.child; generation = fits.generation; notes = fits.notes; rank = fits.rank };
+            fits = record { child = fits.child; generation = fits.generation; notes = fits.notes; rank = fits.rank; backed = fits.backed };
             settled = subst (λ (r : Row). IsSettledFrom r.from r.cause c) own.0 taken.settled;
           }
       | inr other ↦ record { row = taken.row; found = other; fits = taken.fits; settled = taken.settled }

@@ -1,5 +1,6 @@
 pub mod AheadLemmas
 pub mod AnsweredLemmas
+pub mod BackedLemmas
 pub mod BoardLemmas
 pub mod BookLemmas
 pub mod ClientLemmas

@@ -1,5 +1,5 @@
 -- The laws of a board's connections.
-use Rattle.std.specs.Prelude.{◌≡◌, ◌<◌, ◌≤◌, ℕ, false, List, ◌++◌, length, count_by, Option}
+use Rattle.std.specs.Prelude.{◌≡◌, ◌<◌, ◌≤◌, ℕ, true, false, List, [], ◌∷◌, ◌++◌, length, count_by, Option}
 use Rattle.std.specs.List.{list_any}
 use Rattle.mpm_base.specs.Count.{greatest_count}
 use Rattle.mpm_base.specs.declared.conn.Ask.{Ask}
@@ -18,6 +18,11 @@ use Rattle.conn_state.specs.Answered.{SeenEnded}
 use Rattle.conn_state.specs.Conn.{SeenConn}
 use Rattle.conn_state.specs.Known.{KnownOutside}
 use Rattle.conn_state.specs.Turns.{TakesNote}
+use Rattle.mpm_base.specs.Count.{NeverFalls, Rises}
+use Rattle.mpm_base.specs.Link.{LinkCounts}
+use Rattle.mpm_base.specs.declared.conn.Kind.{Kind}
+use Rattle.mpm_base.specs.declared.conn.Kind.TheVariants.{Reading}
+use Rattle.board.specs.Backed.{AllBacked, AreBacked, waits_to_read, waits_to_write}
 use Rattle.board.specs.Board.{AreClosed, AreEnded, EndedOfOutside}
 use Rattle.board.specs.Book.{SeenBook}
 use Rattle.board.specs.Editions.{KeepsEditions}
@@ -81,6 +86,40 @@ pub record EndedConnectionsJoin : Type 0 where
   pub many : (base : State) (history : List Entry) (ended : List SeenEnded)
       → AreClosed base history ended
       → length ended ≡ count_events is_close history
+
+-- what backs waits: the calls of a link that were not ready
+pub record WaitsAreBackedByCalls : Type 0 where
+  -- no wait is backed less where neither count fell
+  pub stay : (waits : List Kind) (old new : LinkCounts)
+      → NeverFalls old.late_reads new.late_reads
+      → NeverFalls old.late_writes new.late_writes
+      → AreBacked waits old
+      → AreBacked waits new
+  -- a read that was not ready backs one more for something to read
+  pub read : (waits : List Kind) (kind : Kind) (old new : LinkCounts)
+      → waits_to_read kind ≡ true
+      → Rises old.late_reads new.late_reads
+      → NeverFalls old.late_writes new.late_writes
+      → AreBacked waits old
+      → AreBacked (waits ++ kind ∷ []) new
+  -- a write that was not ready one more for room
+  pub write : (waits : List Kind) (kind : Kind) (old new : LinkCounts)
+      → waits_to_write kind ≡ true
+      → NeverFalls old.late_reads new.late_reads
+      → Rises old.late_writes new.late_writes
+      → AreBacked waits old
+      → AreBacked (waits ++ kind ∷ []) new
+  -- and neither none, nor the first one for something to read, needs any
+  pub none : (counts : LinkCounts) → AreBacked [] counts
+  pub first : (counts : LinkCounts) → AreBacked (Reading ∷ []) counts
+
+-- of each connection that ended in a run from the opening state the link backs its waits
+abbrev pub EndedConnectionsAreBacked : Type 0
+EndedConnectionsAreBacked =
+    (slots children : ℕ) (shape : Shape) (history : List Entry) (ended : List SeenEnded)
+    → Run (opening_state slots children shape) history
+    → AreClosed (opening_state slots children shape) history ended
+    → AllBacked history ended
 
 -- a connection that took the note of the response that was decided for it still fits its row
 abbrev pub AnsweredConnectionsFitTheirRows : Type 0

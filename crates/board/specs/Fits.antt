@@ -16,13 +16,15 @@ use Rattle.conn_state.specs.declared.turn.LastLinger.TheVariants as linger
 use Rattle.conn_state.specs.Reader.{keeps_none}
 use Rattle.conn_state.specs.Conn.{SeenConn, IsConn, is_usable, lingers}
 use Rattle.conn_state.specs.Answered.{SeenEnded, MayLinger}
+use Rattle.board.specs.Backed.{AreBacked}
 
--- the connection is the one of the row: a link that tells has the row's arrival as its rank
+-- the connection is the one of the row: a link that tells has the row's arrival as its rank, and the link backs the row's waits
 pub record Fits (c : SeenConn) (r : Row) : Type 0 where
   pub child : c.child ≡ r.child
   pub generation : c.generation ≡ r.generation
   pub notes : c.notes ≡ r.notes
   pub rank : IfSome c.told (λ t. t.rank ≡ r.arrival)
+  pub backed : AreBacked r.waits c.counts
 
 -- ## A connection that waits
 
@@ -92,7 +94,7 @@ NotesEnd cause.NoMemory notes noted =
     (notes ≡ noted) ⊎ ((note : Note) × (noted ≡ notes ++ note ∷ []))
 NotesEnd other notes noted = notes ≡ noted
 
--- the connection that ended so is the one of a live row
+-- the connection that ended so is the one of a live row, whose waits its link backs
 pub record IsClosing (s : State) (name : ConnName) (why : Cause) (how : Tail)
     (e : SeenEnded) : Type 0 where
   pub row : Row
@@ -104,3 +106,4 @@ pub record IsClosing (s : State) (name : ConnName) (why : Cause) (how : Tail)
   pub generation : e.generation ≡ row.generation
   pub notes : NotesEnd why e.notes row.notes
   pub rank : IfSome e.told (λ t. t.rank ≡ row.arrival)
+  pub backed : AreBacked row.waits e.counts

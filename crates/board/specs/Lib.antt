@@ -1,4 +1,5 @@
 pub mod AheadInside
+pub mod Backed
 pub mod Board
 pub mod BoardInside
 pub mod BoardLaws

@@ -21,6 +21,7 @@ ghost use Rattle.conn_state.specs.declared.turn.LastLinger.TheVariants as linger
 ghost use Rattle.conn_state.specs.Answered.{IsEnded, MayLinger};
 ghost use Rattle.conn_state.specs.Conn.{SeenConn};
 ghost use Rattle.conn_state.specs.Known.{IsOfClient};
+ghost use Rattle.board.specs.Backed.{BacksWait};
 ghost use Rattle.board.specs.Book.{AddsOnly, book_with_entry, row_in};
 ghost use Rattle.board.specs.Board.{Agrees, AreOfOutside, conn_at, folded_board};
 ghost use Rattle.board.specs.Editions.{IsOfGeneration, UsedHaveEditions, edition_of, orders_in};
@@ -322,6 +323,7 @@ impl<L: Link, N: Known> Board<L, N> {
         requires fits { IsOf self.old.book.state conn }
         requires settled { IsSettled kind (cause_of self.old.book.state conn.name) conn }
         requires turned { FoundNoMore kind conn }
+        requires backed { BacksWait kind self.old.book.state conn }
         requires edition { IsOfGeneration N.known self.old.book conn.generation conn.reader.limits
             conn.site }
         ensures ok { OnOk result

@@ -2,9 +2,9 @@
 //! `specs/BoardLaws.antt`, in `specs/Editions.antt`, or in `specs/WholeEditions.antt`.
 ghost use Rattle.board.specs.Editions.{GenerationsKeepTheirEditions};
 ghost use Rattle.board.specs.WholeEditions.{EditionsStandForWholeHistories};
-ghost use Rattle.board.specs.BoardLaws.{EndedLinksAreOfClosedConnections, EndedConnectionsJoin, AnsweredConnectionsFitTheirRows};
+ghost use Rattle.board.specs.BoardLaws.{EndedLinksAreOfClosedConnections, EndedConnectionsAreBacked, EndedConnectionsJoin, AnsweredConnectionsFitTheirRows, WaitsAreBackedByCalls};
 
-use conn_machine::laws::arrivals_are_taken_once;
+use conn_machine::laws::{arrivals_are_taken_once, rows_keep_their_waits};
 use conn_machine::laws_of_runs::{generations_begin_in_order, rows_change_one_at_a_time};
 
 /// The links of the connections that ended, where they tell, are those of the connections that the history closed, in order. In
@@ -15,6 +15,20 @@ pub fn ended_links_are_of_closed_connections()
     ensures { EndedLinksAreOfClosedConnections }
 {
     arrivals_are_taken_once();
+}
+
+/// What backs the waits of a connection: each call of its link that was not ready backs one wait more of its kind, and what is backed stays
+/// so. A connection that was just taken may wait for its first request without any.
+pub fn waits_are_backed_by_calls()
+    ensures { WaitsAreBackedByCalls }
+{}
+
+/// Of each connection that ended in a run from the opening state the link backs its waits: each wait for something to read, but for the
+/// first, by a read that was not ready, and each one for room by a write that was not.
+pub fn ended_connections_are_backed()
+    ensures { EndedConnectionsAreBacked }
+{
+    rows_keep_their_waits();
 }
 
 /// The connections that ended in one history, and behind them those that ended in the next, are those that ended in both as one history.

@@ -1,16 +1,30 @@
 -- Connections that were handed out.
-use Rattle.std.proofs.Common.{◌≡◌, inl, inr, ℕ, true, Option, None, Some, refl, sym, ap, subst, ◌∙◌}
+use Rattle.std.proofs.Common.{◌≡◌, inl, inr, ℕ, ◌+◌, ◌≤◌, Bool, true, false, List, [], ◌∷◌, ◌++◌, count_by, slice_get, Option, None, Some, refl, sym, ap, subst, ◌∙◌, arith}
 use Rattle.std.specs.Prelude.{IfSome, option_map}
-use Rattle.mpm_base.specs.Link.{LinkTold}
+use Rattle.mpm_base.specs.Count.{NeverFalls, RisesExactlyWhere}
+use Rattle.mpm_base.specs.Link.{LinkCounts, LinkTold}
 use Rattle.mpm_base.specs.declared.conn.ConnName.{ConnName}
 use Rattle.mpm_base.specs.declared.conn.Cause.{Cause}
 use Rattle.mpm_base.specs.declared.conn.Kind.{Kind}
 use Rattle.mpm_base.specs.declared.conn.Kind.TheVariants.{Reading, KeepAlive, Writing, Linger, ShortLinger}
+use Rattle.conn_machine.specs.declared.event.Entry.{Entry}
+use Rattle.conn_machine.specs.declared.event.Event.TheVariants as event
+use Rattle.conn_machine.specs.declared.row.Row.{Row}
 use Rattle.conn_machine.specs.declared.state.State.{State}
-use Rattle.conn_machine.specs.Rows.{live_row}
+use Rattle.conn_machine.specs.MachineLaws.{TakenConnectionsStartAfresh}
+use Rattle.conn_machine.specs.Rows.{is_live_as, live_row, row_where}
+use Rattle.conn_machine.specs.Runs.{Run, after}
+use Rattle.conn_machine.specs.Table.{is_allowed, next}
 use Rattle.conn_state.specs.declared.turn.LingerTurn.{LingerTurn}
+use Rattle.conn_state.specs.declared.turn.LingerTurn.TheVariants as turned
+use Rattle.conn_state.specs.declared.turn.ReadTurn.TheVariants as read
+use Rattle.conn_state.specs.declared.turn.WriteTurn.TheVariants as write
 use Rattle.conn_state.specs.Conn.{SeenConn, is_usable}
-use Rattle.conn_state.specs.Turns.{LingersOn}
+use Rattle.conn_state.specs.Turns.{LingersOn, ReadsOn, WritesOn, is_linger_late}
+use Rattle.board.specs.Backed.{AreBacked, BacksWait, waits_to_read, waits_to_write}
+use Rattle.board.specs.Board.{SeenBoard}
+use Rattle.board.specs.BoardLaws.{WaitsAreBackedByCalls}
+use Rattle.board.specs.Book.{SeenBook, book_with_entry, entry_of}
 use Rattle.board.specs.Finds.{cause_of}
 use Rattle.board.specs.Fits.{IsOf, IsSettled, IsSettledFrom, IsTakenUp, WaitsAs}
 
@@ -36,6 +50,93 @@ settled_usable (Some kind) why c settled = waits_usable kind c settled.waits
 pub taken_usable : (s : State) (c : SeenConn) → IsTakenUp s c → is_usable c.turn ≡ true
 taken_usable s c taken = settled_usable taken.row.from taken.row.cause c taken.settled
 
+-- ## What backs its waits
+
+-- a count that rises where a test holds never falls
+never_falls : (test : Bool) (old new : ℕ) → RisesExactlyWhere test old new → NeverFalls old new
+never_falls true old new rises = rises.0
+never_falls false old new same = omega (arith, same)
+
+-- what was backed is so still where no count fell
+pub backed_on : (waits : List Kind) (old new : LinkCounts) → NeverFalls old.late_reads new.late_reads → NeverFalls old.late_writes new.late_writes
+    → AreBacked waits old → AreBacked waits new
+backed_on waits old new reads writes backed = record {
+  reads = λ below.
+      let before : count_by waits_to_read waits ≤ old.late_reads + 1 = backed.reads (omega (arith, below, reads)) in
+      omega (arith, before, reads);
+  writes = λ below.
+      let before : count_by waits_to_write waits ≤ old.late_writes = backed.writes (omega (arith, below, writes)) in
+      omega (arith, before, writes);
+}
+
+-- a turn that found no room backs a wait for it
+pub backs_write : WaitsAreBackedByCalls → (s : State) (c c' : SeenConn) → IsOf s c → WritesOn c c' write.NotReady → BacksWait Writing s c'
+backs_write law s c c' is writes = record {
+  row = is.row;
+  found = ap (λ (n : ConnName). live_row s.rows n) writes.name ∙ is.found;
+  backed =
+      law.write is.row.waits Writing c.counts c'.counts refl (omega (arith, writes.late_reads)) writes.late_writes is.fits.backed;
+}
+
+-- one that found that more has to come a wait for that
+pub backs_read : WaitsAreBackedByCalls → (s : State) (c c' : SeenConn) (kind : Kind) → waits_to_read kind ≡ true → IsOf s c → ReadsOn c c' read.More
+    → BacksWait kind s c'
+backs_read law s c c' kind reads_for is reads = record {
+  row = is.row;
+  found = ap (λ (n : ConnName). live_row s.rows n) reads.name ∙ is.found;
+  backed = law.read is.row.waits kind c.counts c'.counts reads_for reads.late_reads (omega (arith, reads.late_writes)) is.fits.backed;
+}
+
+-- and so does one that dropped what came
+pub backs_drop : WaitsAreBackedByCalls → (s : State) (c c' : SeenConn) (kind : Kind) → waits_to_read kind ≡ true → IsOf s c
+    → LingersOn c c' turned.NotReady → BacksWait kind s c'
+backs_drop law s c c' kind reads_for is drops = record {
+  row = is.row;
+  found = ap (λ (n : ConnName). live_row s.rows n) drops.name ∙ is.found;
+  backed = law.read is.row.waits kind c.counts c'.counts reads_for drops.late_reads (omega (arith, drops.late_writes)) is.fits.backed;
+}
+
+-- ## A connection that was taken
+
+-- the last entry of a run was allowed where it stands
+last_allowed : (s : State) (history : List Entry) (e : Entry) → Run s (history ++ e ∷ []) → is_allowed (after s history) e.event ≡ true
+last_allowed s [] e run = run.0
+last_allowed s (x ∷ history) e run = last_allowed (next s x.event) history e run.2
+
+row_once : (test : Row → Bool) (o : Option Row) (r row : Row) → o ≡ Some r → row_where test o ≡ Some row → row ≡ r
+row_once test o r row is found = by (test r) refl where
+  by : (b : Bool) → test r ≡ b → row ≡ r
+  by true passes = cc (is, found, passes)
+  by false passes = absurd (cc (is, found, passes))
+
+-- its row has no wait
+pub unwaited : TakenConnectionsStartAfresh → (who : ℕ) (b b' : SeenBook) (name : ConnName) (row : Row) → after b.base b.history ≡ b.state
+    → Run b'.base b'.history → b' ≡ book_with_entry who (event.Accept name.slot) b → live_row b'.state.rows name ≡ Some row → row.waits ≡ []
+unwaited law who b b' name row state run is found =
+    let here = subst (λ (x : SeenBook). Run x.base x.history) is run in
+    let may =
+    subst (λ (s : State). is_allowed s (event.Accept name.slot) ≡ true) state
+    (last_allowed b.base b.history (entry_of who (event.Accept name.slot) b) here) in
+    let fresh = law b.state name.slot may in
+    let same = row_once (is_live_as name) (slice_get (next b.state (event.Accept name.slot)).rows name.slot) fresh.row row fresh.there
+    (subst (λ (x : SeenBook). live_row x.state.rows name ≡ Some row) is found) in
+    ap (λ (r : Row). r.waits) same ∙ fresh.fresh.no_wait
+
+-- so its first wait needs nothing
+pub backs_first : WaitsAreBackedByCalls → (s : State) (c : SeenConn) (row : Row) → live_row s.rows c.name ≡ Some row → row.waits ≡ []
+    → BacksWait Reading s c
+backs_first law s c row found none = record {
+  row = row;
+  found = found;
+  backed = subst (λ (waits : List Kind). AreBacked (waits ++ Reading ∷ []) c.counts) (sym none) (law.first c.counts);
+}
+
+-- and its link backs the waits that it has
+pub backed_first : WaitsAreBackedByCalls → (c : SeenConn) (row : Row) → row.waits ≡ [] → AreBacked row.waits c.counts
+backed_first law c row none = subst (λ (waits : List Kind). AreBacked waits c.counts) (sym none) (law.none c.counts)
+
+-- ## A connection that lingers
+
 -- a change of what the link tells keeps its rank
 rank_map : (change : LinkTold → LinkTold) (told told' : Option LinkTold) (n : ℕ) → ((t : LinkTold) → (change t).rank ≡ t.rank)
     → told' ≡ option_map change told → IfSome told (λ t. t.rank ≡ n) → IfSome told' (λ t. t.rank ≡ n)
@@ -51,13 +152,16 @@ dropped_is_of s c c' answer drops is = record {
     child = drops.child ∙ is.fits.child;
     generation = drops.generation ∙ is.fits.generation;
     notes = drops.notes ∙ is.fits.notes;
+    backed =
+        backed_on is.row.waits c.counts c'.counts (never_falls (is_linger_late answer) c.counts.late_reads c'.counts.late_reads drops.late_reads)
+        (omega (arith, drops.late_writes)) is.fits.backed;
     rank = rank_map _ c.told c'.told is.row.arrival (λ t. refl) drops.told is.fits.rank;
   };
 }
 
 -- a connection that lingers for its row's cause may wait as one that lingers for that
-pub settled_by : (kind : Kind) (s : State) (c : SeenConn) (why : Cause) (seen : SeenConn × Cause) (name : ConnName) → (c, why) ≡ seen
-    → name ≡ c.name → cause_of s name ≡ Some why → IsSettled kind (Some seen.1) seen.0 → IsSettled kind (cause_of s c.name) c
-settled_by kind s c why seen name view named is settled =
-    subst (λ (w : Option Cause). IsSettled kind w c) (sym (subst (λ (n : ConnName). cause_of s n ≡ Some why) named is))
-    (subst (λ (p : SeenConn × Cause). IsSettled kind (Some p.1) p.0) (sym view) settled)
+pub settled_by : (kind : Kind) (b : SeenBoard) (c : SeenConn) (why : Cause) (seen : SeenBoard × SeenConn × Cause) (name : ConnName) → (b, c, why) ≡ seen
+    → name ≡ c.name → cause_of b.book.state name ≡ Some why → IsSettled kind (Some seen.2) seen.1 → IsSettled kind (cause_of b.book.state c.name) c
+settled_by kind b c why seen name view named is settled =
+    subst (λ (w : Option Cause). IsSettled kind w c) (sym (subst (λ (n : ConnName). cause_of b.book.state n ≡ Some why) named is))
+    (subst (λ (p : SeenBoard × SeenConn × Cause). IsSettled kind (Some p.2) p.1) (sym view) settled)

@@ -2,6 +2,7 @@
 //! answers none, so that another board is made.
 ghost use Rattle.std.specs.Prelude.{◌≡◌, ◌<◌, true, false, None, Some, [], IfSome, OnSome};
 ghost use Rattle.mpm_base.specs.Notes.{says_last};
+ghost use Rattle.mpm_base.specs.declared.conn.Kind.{Kind};
 ghost use Rattle.conn_machine.specs.States.{is_halted};
 ghost use Rattle.conn_machine.specs.Table.{is_allowed};
 ghost use Rattle.conn_machine.specs.declared.event.Event.TheVariants.{Command};
@@ -9,14 +10,16 @@ ghost use Rattle.conn_state.specs.declared.turn.LastTurn.TheVariants as turn;
 ghost use Rattle.conn_state.specs.declared.turn.LastLinger.TheVariants as linger;
 ghost use Rattle.conn_state.specs.Answered.{IsShown, MayLinger};
 ghost use Rattle.conn_state.specs.Conn.{is_usable, lingers};
+ghost use Rattle.board.specs.Backed.{BacksWait, waits_to_read};
 ghost use Rattle.board.specs.Book.{row_in};
 ghost use Rattle.board.specs.Finds.{cause_of};
 ghost use Rattle.board.specs.Fits.{FoundNoMore, IsOf, IsSettled};
 
 use crate::clients::link_of;
 use crate::seen::{ScriptBoard, Seen};
-use board::laws::answered_connections_fit_their_rows;
+use board::laws::{answered_connections_fit_their_rows, waits_are_backed_by_calls};
 use board::{Board, BoardFault};
+use conn_machine::laws::taken_connections_start_afresh;
 use conn_machine::laws_of_runs::records_go_on_by_folds;
 use conn_machine::{Commanded, Event, Why, may};
 use conn_state::laws::lingering_connections_keep_their_cause;
@@ -84,7 +87,7 @@ impl Model for InHand {
     ghost invariant = { λ h. (0 < h.board.book.passes) × (row_in 0 h.board.book ≡ Some h.conn.name) × IsOf h.board.book.state h.conn × (is_usable h.conn.turn ≡ true) × (h.conn.linger ≡ linger.Open) };
 }
 
-/// A board whose pass has the connection, which lingers for the cause: contracts see the connection and the cause.
+/// A board whose pass has the connection, which lingers for the cause: contracts see the three.
 #[derive(Drop)]
 struct Lingering {
     board: ScriptBoard,
@@ -95,13 +98,14 @@ struct Lingering {
 impl Model for Lingering {
     ghost use Rattle.std.specs.Prelude.{◌≡◌, ◌<◌, true, Some};
     ghost use Rattle.mpm_base.specs.declared.conn.Cause.{Cause};
+    ghost use Rattle.board.specs.Board.{SeenBoard};
     ghost use Rattle.board.specs.Book.{row_in};
     ghost use Rattle.board.specs.Fits.{IsOf, LingersFor};
     ghost use Rattle.conn_state.specs.Conn.{SeenConn};
 
-    ghost Value = { SeenConn × Cause };
+    ghost Value = { SeenBoard × SeenConn × Cause };
 
-    ghost view = { λ h. (h.conn, h.cause) };
+    ghost view = { λ h. (h.board, h.conn, h.cause) };
 
     ghost invariant = { λ h. (0 < h.board.book.passes) × (row_in 0 h.board.book ≡ Some h.conn.name) × IsOf h.board.book.state h.conn × LingersFor h.cause h.conn };
 }
@@ -320,10 +324,14 @@ impl Driven {
         site: &Arc<Site>,
         client: u64,
     ) -> Option<Driven> {
+        taken_connections_start_afresh();
+        waits_are_backed_by_calls();
         let Driven { mut board } = self;
+        board.show();
         let Ok(taken) = board.accept(0) else {
             return None;
         };
+        board.show();
         seen.look(&board);
         let Ok(site) = Arc::try_clone(site) else {
             return None;
@@ -392,6 +400,7 @@ impl InHand {
     fn park(self, seen: &mut Seen, kind: Kind) -> Option<Driven>
         requires settled { IsSettled kind None self.1 }
         requires turned { FoundNoMore kind self.1 }
+        requires backed { BacksWait kind self.0.book.state self.1 }
     {
         let InHand { mut board, conn } = self;
         let name = conn.name();
@@ -475,6 +484,7 @@ impl InHand {
 
     /// What is pending is sent, and what was asked is answered.
     fn write(self, seen: &mut Seen) -> Option<Service> {
+        waits_are_backed_by_calls();
         let InHand { board, mut conn } = self;
         match conn.write_turn() {
             WriteTurn::Done => InHand { board, conn }.go_on(seen),
@@ -504,6 +514,7 @@ impl InHand {
         requires sent { self.1.pending ≡ [] }
         requires not_last { says_last self.1.notes ≡ false }
     {
+        waits_are_backed_by_calls();
         let InHand { board, mut conn } = self;
         let found = conn.read_turn();
         conn.show();
@@ -527,7 +538,9 @@ impl InHand {
 
     /// The connection waits for more of a request, or for a further one.
     fn wait(self, seen: &mut Seen) -> Option<Driven>
-        requires { self.1.turn ≡ turn.More }
+        requires turned { self.1.turn ≡ turn.More }
+        requires backed { (kind : Kind) → waits_to_read kind ≡ true
+            → BacksWait kind self.0.book.state self.1 }
     {
         self.conn.show();
         if self.conn.noted() && self.conn.rest_empty() {
@@ -581,6 +594,7 @@ impl Lingering {
     /// What came is dropped, and the connection lingers on or ends.
     fn read(self, seen: &mut Seen) -> Option<Driven> {
         lingering_connections_keep_their_cause();
+        waits_are_backed_by_calls();
         let Lingering {
             board,
             mut conn,
@@ -596,7 +610,9 @@ impl Lingering {
 
     /// The connection lingers on.
     fn wait(self, seen: &mut Seen) -> Option<Driven>
-        requires { self.0.linger ≡ linger.NotReady }
+        requires turned { self.1.linger ≡ linger.NotReady }
+        requires backed { (kind : Kind) → waits_to_read kind ≡ true
+            → BacksWait kind self.0.book.state self.1 }
     {
         self.conn.show();
         if self.allows(Kind::Linger) {
@@ -608,8 +624,9 @@ impl Lingering {
 
     /// The connection lingers on, in the queue of that kind.
     fn park(self, seen: &mut Seen, kind: Kind) -> Option<Driven>
-        requires settled { IsSettled kind (Some self.1) self.0 }
-        requires turned { FoundNoMore kind self.0 }
+        requires settled { IsSettled kind (Some self.2) self.1 }
+        requires turned { FoundNoMore kind self.1 }
+        requires backed { BacksWait kind self.0.book.state self.1 }
     {
         let Lingering {
             mut board,

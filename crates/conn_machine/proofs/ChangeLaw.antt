@@ -20,15 +20,15 @@ use Rattle.conn_machine.specs.Rows.{is_vacant, is_unused, is_held, is_queued, is
 use Rattle.conn_machine.specs.States.{is_serving, is_halted, is_signalled, pick_child}
 use Rattle.conn_machine.specs.Table.{is_allowed, next, may_accept, next_accept, is_vacant_at, taken_row, may_wait, parked_row, may_be_held, held_row, may_be_queued, queued_row, served_row, may_answer, next_answer, note_for, answered_row, linger_cause_fits, lingering_row, greatest_life, closed_row, end_fits, next_command}
 
--- what an event makes of a row: it is as it was; a live one goes on, or has one more response; a vacant one is taken; a live one
--- is closed, so that its slot has a next life or is given no more
+-- what an event makes of a row: it is as it was; a live one goes on, or has one more response; a vacant one is taken, and has no wait; a
+-- live one is closed, so that its slot has a next life or is given no more
 pub data Change (r r' : Row) : Type 0 where
   stays : r' ≡ r → Change r r'
   goes_on : is_live r ≡ true → is_live r' ≡ true → r'.life ≡ r.life → r'.notes ≡ r.notes → Change r r'
   answered : (note : Note) → is_live r ≡ true → is_live r' ≡ true → r.last ≡ false → r'.life ≡ r.life
       → r'.notes ≡ r.notes ++ note ∷ [] → Change r r'
-  taken : is_vacant r.place ≡ true → r'.life ≡ r.life → Change r r'
-  closed : is_live r ≡ true → r'.life ≡ r.life + 1 → Change r r'
+  taken : is_vacant r.place ≡ true → is_live r' ≡ true → r'.life ≡ r.life → r'.waits ≡ [] → Change r r'
+  closed : is_live r ≡ true → is_vacant r'.place ≡ true → r'.life ≡ r.life + 1 → Change r r'
   spent : is_live r ≡ true → r'.place ≡ Spent → Change r r'
 
 -- the row of the slot was made of one of these rows
@@ -104,7 +104,7 @@ made_taken : (s : State) (i slot : ℕ) (r' : Row) → may_accept s i ≡ true �
 made_taken s i slot r' may at =
     let vacant : is_vacant_at s i ≡ true =
     (and_parts (is_serving s.going) (is_vacant_at s i) (and_parts (is_serving s.going && is_vacant_at s i) (is_some (pick_child s)) may).0).1 in
-    made_by (taken_row s) s.rows i slot r' (λ r there. taken (met_at (λ x. is_vacant x.place) s.rows i r vacant there) refl) at
+    made_by (taken_row s) s.rows i slot r' (λ r there. taken (met_at (λ x. is_vacant x.place) s.rows i r vacant there) refl refl refl) at
 
 -- a place in another phase of its service is used as before
 pub unused-in_phase : (phase : Phase) (place : Place) → is_unused (in_phase phase place) ≡ is_unused place
@@ -137,7 +137,7 @@ change_either r x y false first second = second
 
 -- a close ends the life, or the slot's use
 change_closed : (r : Row) → is_live r ≡ true → Change r (closed_row r)
-change_closed r live = change_either r _ _ (r.life == greatest_life) (spent live refl) (closed live refl)
+change_closed r live = change_either r _ _ (r.life == greatest_life) (spent live refl) (closed live refl refl)
 
 -- a command leaves the rows
 made_commanded : (s : State) (c : Commanded) (slot : ℕ) (r' : Row) → slice_get (next_command s c).rows slot ≡ Some r' → IsMade s.rows slot r'

@@ -29,6 +29,7 @@ starts_fresh s slot may =
         not_refused = refl;
         in_service = refl;
         no_response = refl;
+        no_wait = refl;
       };
       no_signal = cleared s.signals slot;
     }

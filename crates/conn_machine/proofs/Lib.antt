@@ -41,4 +41,5 @@ pub mod SoundLemmas
 pub mod SoundRuns
 pub mod UpdateLemmas
 pub mod WaitLemmas
+pub mod WaitsLaw
 pub mod WeightLemmas

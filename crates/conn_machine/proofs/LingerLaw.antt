@@ -158,8 +158,8 @@ still_by name first r r' (goes_on live live' same notes) so still =
     inl (record { live = live'; life = same ∙ still.life; lingers = lingers_further first r r' still.lingers (so live') })
 still_by name first r r' (answered note live live' more same notes) so still =
     inl (record { live = live'; life = same ∙ still.life; lingers = lingers_further first r r' still.lingers (so live') })
-still_by name first r r' (taken vacant same) so still = vacant_live r vacant still.live
-still_by name first r r' (closed live up) so still =
+still_by name first r r' (taken vacant live' same fresh) so still = vacant_live r vacant still.live
+still_by name first r r' (closed live vacant up) so still =
     let same = still.life in
     inr (inl (omega arith))
 still_by name first r r' (spent live over) so still = inr (inr over)

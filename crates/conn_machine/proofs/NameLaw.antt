@@ -56,14 +56,14 @@ past_stays life r r' (goes_on live live' same notes) (inl later) = inl (omega ar
 past_stays life r r' (goes_on live live' same notes) (inr over) = spent_live r over live
 past_stays life r r' (answered note live live' more same notes) (inl later) = inl (omega arith)
 past_stays life r r' (answered note live live' more same notes) (inr over) = spent_live r over live
-past_stays life r r' (taken vacant same) (inl later) = inl (omega arith)
-past_stays life r r' (taken vacant same) (inr over) = spent_vacant r over vacant
-past_stays life r r' (closed live up) (inl later) = inl (omega arith)
-past_stays life r r' (closed live up) (inr over) = spent_live r over live
+past_stays life r r' (taken vacant live' same fresh) (inl later) = inl (omega arith)
+past_stays life r r' (taken vacant live' same fresh) (inr over) = spent_vacant r over vacant
+past_stays life r r' (closed live vacant up) (inl later) = inl (omega arith)
+past_stays life r r' (closed live vacant up) (inr over) = spent_live r over live
 past_stays life r r' (spent live over) past = inr over
 
 -- a name that is gone is gone after every event
-gone_next : (s : State) (e : Event) (name : ConnName) → is_allowed s e ≡ true → IsGoneFrom name s.rows → IsGoneFrom name (next s e).rows
+pub gone_next : (s : State) (e : Event) (name : ConnName) → is_allowed s e ≡ true → IsGoneFrom name s.rows → IsGoneFrom name (next s e).rows
 gone_next s e name may gone r' at =
     let made = is_made s e name.slot r' may at in
     past_stays name.life made.old r' made.change (gone made.old made.at)
@@ -97,7 +97,7 @@ gone_update name (x ∷ rows) zero r' same at =
 gone_update name (x ∷ rows) (suc slot) r' same at = gone_update name rows slot r' same at
 
 -- a close takes the name away
-gone_closed : (s : State) (name : ConnName) (why : Cause) (how : Tail) → is_allowed s (event.Close name why how) ≡ true
+pub gone_closed : (s : State) (name : ConnName) (why : Cause) (how : Tail) → is_allowed s (event.Close name why how) ≡ true
     → IsGoneFrom name (next s (event.Close name why how)).rows
 gone_closed s name why how may r' at =
     gone_update name s.rows name.slot r'

@@ -65,8 +65,8 @@ grown_by name old r r' (answered note live live' more same notes) last grown =
       life = same ∙ grown.life;
       grows = subst (OnlyGrows old) (sym notes) (grows_more old r.notes note grown.grows undecided);
     })
-grown_by name old r r' (taken vacant same) last grown = vacant_live r vacant grown.live
-grown_by name old r r' (closed live up) last grown =
+grown_by name old r r' (taken vacant live' same fresh) last grown = vacant_live r vacant grown.live
+grown_by name old r r' (closed live vacant up) last grown =
     let same = grown.life in
     inr (inl (omega arith))
 grown_by name old r r' (spent live over) last grown = inr (inr over)

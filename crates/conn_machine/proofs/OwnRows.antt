@@ -368,7 +368,7 @@ pub owned : (start : State) (f : Folded) (history : List Entry) → IsOwned star
     → IsOwned (after start history).rows (rows_from f history)
 owned start f history begun made = owned_behind start f [] history begun made
 
-unused_is : (n slot : ℕ) (r : Row) → slice_get (replicate n unused_row) slot ≡ Some r → r ≡ unused_row
+pub unused_is : (n slot : ℕ) (r : Row) → slice_get (replicate n unused_row) slot ≡ Some r → r ≡ unused_row
 unused_is zero slot r at = absurd (cc)
 unused_is (suc n) zero r at = cc
 unused_is (suc n) (suc slot) r at = unused_is n slot r at

@@ -79,6 +79,7 @@ pub record IsFreshRow (r : Row) : Type 0 where
   pub not_refused : r.short ≡ false
   pub in_service : r.cause ≡ None
   pub no_response : r.notes ≡ []
+  pub no_wait : r.waits ≡ []
 
 -- nor is the signal of its slot
 pub record StartsFresh (s : State) (slot : ℕ) : Type 0 where

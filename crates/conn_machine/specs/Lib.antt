@@ -19,3 +19,5 @@ pub mod Sizes
 pub mod Sound
 pub mod States
 pub mod Table
+pub mod Waits
+pub mod WaitsInside

@@ -1,5 +1,5 @@
 -- The laws of the machine: what holds of every state, and of every run, that the event table allows.
-use Rattle.std.specs.Prelude.{◌≡◌, ◌≢◌, ◌<◌, ◌≤◌, ◌↔◌, ℕ, ◌+◌, true, false, List, ◌∷◌, ◌++◌, count_by, map, min, Option, None, Some, slice_get}
+use Rattle.std.specs.Prelude.{◌≡◌, ◌≢◌, ◌<◌, ◌≤◌, ◌↔◌, ℕ, ◌+◌, true, false, List, [], ◌∷◌, ◌++◌, count_by, map, min, Option, None, Some, slice_get}
 use Rattle.std.specs.List.{list_any}
 use Rattle.mpm_base.specs.Count.{greatest_count}
 use Rattle.mpm_base.specs.declared.conn.ConnName.{ConnName}
@@ -28,6 +28,7 @@ use Rattle.conn_machine.specs.Made.{AreMade, AreOfPasses, HasSeen, IsOpened}
 use Rattle.conn_machine.specs.Passes.{EachHasItsOwn, HasNoneInHand, OnlyServes, asking_count}
 use Rattle.conn_machine.specs.Events.{count_events, is_accept, is_close}
 use Rattle.conn_machine.specs.Sound.{IsSound}
+use Rattle.conn_machine.specs.Waits.{waits_of}
 use Rattle.conn_machine.specs.Laws.{IsChosen, IsEarned, IsTakenFor, StaysLingering, OnlyGrows, StartsFresh, StaysSound, is_alive, is_alive_or_closed}
 
 -- soundness is kept: the opening state has it, each event that the table allows keeps it, and so
@@ -162,8 +163,8 @@ pub record ConnectionsGoToTheChosenChild : Type 0 where
       → e.event ≡ event.Accept slot
       → IsTakenFor (after s before) slot e.reply
 
--- a connection that is taken has no flag, no response, no cause and no signal of the one that was
--- in its slot before
+-- a connection that is taken has no flag, no response, no wait, no cause and no signal of the one
+-- that was in its slot before
 abbrev pub TakenConnectionsStartAfresh : Type 0
 TakenConnectionsStartAfresh =
     (s : State) (slot : ℕ)
@@ -191,6 +192,20 @@ ResponsesOnlyGrow =
     → live_row s.rows name ≡ Some r
     → live_row (after s history).rows name ≡ Some r'
     → OnlyGrows r.notes r'.notes
+
+-- a row has what the history had its connection wait for
+pub record RowsKeepTheirWaits : Type 0 where
+  -- so has the row of each live connection, in every run from the opening state
+  pub live : (slots children : ℕ) (shape : Shape) (history : List Entry) (name : ConnName) (r : Row)
+      → Run (opening_state slots children shape) history
+      → live_row (after (opening_state slots children shape) history).rows name ≡ Some r
+      → r.waits ≡ waits_of name history
+  -- one that was closed waits no more
+  pub closed : (s : State) (before rest : List Entry) (e : Entry) (name : ConnName) (why : Cause)
+      (how : Tail)
+      → Run s (before ++ e ∷ rest)
+      → e.event ≡ event.Close name why how
+      → waits_of name rest ≡ []
 
 -- each pass has a connection of its own, or none, and each one that somebody has is some pass's
 pub record EachPassHasItsOwnConnection : Type 0 where

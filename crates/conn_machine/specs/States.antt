@@ -89,6 +89,7 @@ unused_row =
       short = false;
       cause = None;
       notes = [];
+      waits = [];
     }
 
 -- the state in which a server opens

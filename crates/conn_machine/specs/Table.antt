@@ -71,6 +71,7 @@ taken_row s r =
       short = false;
       cause = None;
       notes = [];
+      waits = [];
     }
 
 -- the state after Accept: the row is held for the child picked, and its signal goes
@@ -125,7 +126,7 @@ mid_after Writing r = r.mid
 mid_after Linger r = r.mid
 mid_after ShortLinger r = r.mid
 
--- the row that waits, for this and until its deadline
+-- the row that waits, for this and until its deadline, which is one wait more
 abbrev pub parked_row : State → Kind → Row → Row
 parked_row s kind r =
     record r {
@@ -133,6 +134,7 @@ parked_row s kind r =
       from = Some kind;
       deadline = wait_until s kind r;
       mid = mid_after kind r;
+      waits = r.waits ++ kind ∷ [];
     }
 
 -- the state after Park

@@ -25,6 +25,7 @@ impl Row {
               short = false;
               cause = None;
               notes = [];
+              waits = [];
             } }
     {
         self.arrival = arrival;
@@ -37,6 +38,7 @@ impl Row {
         self.short = false;
         self.cause = None;
         self.notes.clear();
+        self.waits.clear();
     }
 
     /// It waits for this until the deadline.
@@ -47,6 +49,7 @@ impl Row {
               from = Some kind;
               deadline = deadline;
               mid = mid_after kind self.old;
+              waits = self.old.waits ++ kind ∷ [];
             } }
     {
         self.place = Place::Parked(kind);
@@ -56,6 +59,7 @@ impl Row {
             Kind::Reading | Kind::KeepAlive => false,
             Kind::Writing | Kind::Linger | Kind::ShortLinger => self.mid,
         };
+        self.waits.add(kind);
     }
 
     /// The listener holds it.

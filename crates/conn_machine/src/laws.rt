@@ -1,6 +1,6 @@
 //! Laws of the machine: what holds of every state, and of every run, that the event table allows. Each is the contract
 //! of a function that does nothing, and stands in full in `specs/MachineLaws.antt`.
-ghost use Rattle.conn_machine.specs.MachineLaws.{EventsKeepStatesSound, QueuesAndHoldsAreEarned, AcceptedConnectionsAreClosedOrLive, ArrivalsAreTakenOnce, ClosedNamesStayClosed, LiveConnectionsShareNothing, LiveConnectionsHaveOneOwner, ReplacedGenerationsTakeNothing, RetiredChildrenAreDrained, ConnectionsGoToTheChosenChild, TakenConnectionsStartAfresh, LingeringDeadlinesNeverMove, ResponsesOnlyGrow, EachPassHasItsOwnConnection, ConnectionsStayWhileOthersGoOn, PassesLeaveTheRestToTheListener};
+ghost use Rattle.conn_machine.specs.MachineLaws.{EventsKeepStatesSound, QueuesAndHoldsAreEarned, AcceptedConnectionsAreClosedOrLive, ArrivalsAreTakenOnce, ClosedNamesStayClosed, LiveConnectionsShareNothing, LiveConnectionsHaveOneOwner, ReplacedGenerationsTakeNothing, RetiredChildrenAreDrained, ConnectionsGoToTheChosenChild, TakenConnectionsStartAfresh, LingeringDeadlinesNeverMove, ResponsesOnlyGrow, RowsKeepTheirWaits, EachPassHasItsOwnConnection, ConnectionsStayWhileOthersGoOn, PassesLeaveTheRestToTheListener};
 
 use admission::pick_is_a_candidate;
 
@@ -66,8 +66,8 @@ pub fn connections_go_to_the_chosen_child()
     pick_is_a_candidate();
 }
 
-/// A connection that is taken starts afresh: its row has no flag, no response and no cause, and its slot no signal, of the
-/// one that was there before.
+/// A connection that is taken starts afresh: its row has no flag, no response, no wait and no cause, and its slot no signal, of
+/// the one that was there before.
 pub fn taken_connections_start_afresh()
     ensures { TakenConnectionsStartAfresh }
 {}
@@ -80,6 +80,12 @@ pub fn lingering_deadlines_never_move()
 /// The responses of a live connection only grow, and none comes after one that says that it is the last.
 pub fn responses_only_grow()
     ensures { ResponsesOnlyGrow }
+{}
+
+/// In every run from the opening state the row of a live connection has what the history had that connection wait for, in order; and one
+/// that was closed waits no more.
+pub fn rows_keep_their_waits()
+    ensures { RowsKeepTheirWaits }
 {}
 
 /// Where each pass has its own connection at the base of a history that passes made as they may, each has it behind the history

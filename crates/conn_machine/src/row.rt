@@ -5,6 +5,7 @@ ghost use Rattle.conn_machine.specs.Shown as shown;
 ghost use Rattle.conn_machine.specs.States.{unused_row};
 
 use crate::row_notes::RowNotes;
+use crate::row_waits::RowWaits;
 use mpm_base::{Cause, Kind, Moment};
 use std::mem::size_of;
 
@@ -183,6 +184,8 @@ pub struct Row {
     pub cause: Option<Cause>,
     /// Its responses so far.
     pub notes: RowNotes,
+    /// What it was parked for so far.
+    pub waits: RowWaits,
 }
 
 // A table has a row for each slot, used or not, and a row keeps nothing elsewhere.
@@ -230,6 +233,7 @@ impl Row {
             short: false,
             cause: None,
             notes: RowNotes::make(),
+            waits: RowWaits::make(),
         }
     }
 

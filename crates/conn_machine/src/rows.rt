@@ -284,6 +284,7 @@ impl Rows {
               short = false;
               cause = None;
               notes = [];
+              waits = [];
             }) }
     {
         let row = &mut self.items[slot as usize];
@@ -304,6 +305,7 @@ impl Rows {
               from = Some kind;
               deadline = deadline;
               mid = mid_after kind r;
+              waits = r.waits ++ kind ∷ [];
             }) }
     {
         let row = &mut self.items[slot as usize];

@@ -9,15 +9,12 @@ use Rattle.worker_group.specs.Acts.{Acts, ActsInSteps}
 use Rattle.worker_group.specs.Service.{give_up_events}
 use Rattle.rounds.specs.ClosingInside.{GivesUpDrained, lingering_give_up_events}
 use Rattle.listener.specs.RoundInside.{ChangesNothing, EndsRound, GivesUpTaken}
-use Rattle.rounds.proofs.AskedLemmas.{AreStartless}
-use Rattle.listener.proofs.StartlessLemmas.{startless-held, startless-left}
 use Rattle.listener.proofs.EventLemmas.{AreSilent, silent-held, silent-none, silent-taken}
 
--- events that neither tick nor signal, nor start a child, and nothing else
+-- events none of which ticks, and nothing else
 pub record EndsSilently (a b : SeenBook) : Type 0 where
   pub events : List Event
   pub silent : AreSilent events
-  pub startless : AreStartless events
   pub acts : Acts 0 events None a b
 
 -- a connection that lingers was held and given up
@@ -25,7 +22,6 @@ ends-drained : ActsInSteps → (fault : BoardFault) (a b : SeenBook) → GivesUp
 ends-drained steps fault a b gives = record {
   events = event.Hold gives.name ∷ lingering_give_up_events fault gives.ending gives.name;
   silent = silent-held fault gives.ending gives.name;
-  startless = startless-held fault gives.ending gives.name;
   acts =
       steps.more 0 (event.Hold gives.name ∷ []) (lingering_give_up_events fault gives.ending gives.name) (Some gives.name) None a gives.book b gives.held
       gives.acts;
@@ -36,14 +32,13 @@ ends-taken : ActsInSteps → (fault : BoardFault) (a b : SeenBook) → GivesUpTa
 ends-taken steps fault a b gives = record {
   events = event.Accept gives.name.slot ∷ give_up_events fault gives.name;
   silent = silent-taken (record { name = gives.name; way = exit.GiveUp fault });
-  startless = startless-left (exit.GiveUp fault) gives.name;
   acts = steps.more 0 (event.Accept gives.name.slot ∷ []) (give_up_events fault gives.name) (Some gives.name) None a gives.book b gives.took gives.acts;
 }
 
 -- nothing was done
 ends-still : ActsInSteps → (fault : BoardFault) (a b : SeenBook) → row_in 0 a ≡ None → ChangesNothing fault a b → EndsSilently a b
 ends-still steps fault a b row still =
-    subst (EndsSilently a) (sym still.same) (record { events = []; silent = silent-none; startless = refl; acts = steps.none 0 None a row })
+    subst (EndsSilently a) (sym still.same) (record { events = []; silent = silent-none; acts = steps.none 0 None a row })
 
 -- in each case the listener has no connection then
 pub ends-silently : ActsInSteps → (fault : BoardFault) (a b : SeenBook) → row_in 0 a ≡ None → EndsRound fault a b → EndsSilently a b

@@ -19,7 +19,7 @@ use Rattle.listener.specs.ListenInside.{HasNoneToHeed, HasOneToHeed, HasReadAll,
 -- ## Lists
 
 -- the item at a place is behind those before it
-take-next : {X : Type 0} (xs : List X) (i : ℕ) (x : X) → slice_get xs i ≡ Some x → take (suc i) xs ≡ take i xs ++ x ∷ []
+pub take-next : {X : Type 0} (xs : List X) (i : ℕ) (x : X) → slice_get xs i ≡ Some x → take (suc i) xs ≡ take i xs ++ x ∷ []
 take-next [] i x at = absurd (cc at)
 take-next (y ∷ xs) zero x at =
     let same : y ≡ x = cc at in

@@ -153,7 +153,7 @@ unordered (e ∷ entries) none =
     sum_by-cons (λ (x : Entry). cond (is_order x.event) 1 0) e entries
     ∙ counted-none (is_order e.event) (count_events is_order entries) parts.0 (unordered entries parts.1)
 
-orders-added : (orders : ℕ) (old more new : List Entry) → new ≡ old ++ more → count_events is_order more ≡ 0
+pub orders-added : (orders : ℕ) (old more new : List Entry) → new ≡ old ++ more → count_events is_order more ≡ 0
     → orders + count_events is_order new ≡ orders + count_events is_order old
 orders-added orders old more new is none =
     let both : count_events is_order (old ++ more) ≡ count_events is_order old + count_events is_order more =

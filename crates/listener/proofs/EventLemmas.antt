@@ -1,4 +1,4 @@
--- What the events of the listener tick and signal.
+-- What the events of the listener tick.
 use Rattle.std.proofs.Common.{◌≡◌, ℕ, List, [], ◌∷◌, ◌++◌, map, Option, None, Some, Result, Ok, Err, refl, ap, ◌∙◌, append-nil, append_assoc}
 use Rattle.std.proofs.lemmas.Grind.{flat_map-append}
 use Rattle.std.specs.List.{flat_map}
@@ -19,7 +19,24 @@ use Rattle.rounds.specs.EndsInside.{why_of}
 use Rattle.rounds.specs.ClosingInside.{Departure, departure_events, lingering_give_up_events}
 use Rattle.rounds.specs.PartsInside.{Departures, gone_events, departures_events, halt_events, halts_for, time_events}
 use Rattle.listener.specs.RoundInside.{Round, Intake, round_events, intake_events}
-use Rattle.listener.specs.Times.{signals_in, signals_of, ticks_in, ticks_of}
+
+-- ## Ticks
+
+-- the moment of a tick
+abbrev pub ticks_in : Event → List ℕ
+ticks_in (event.Accept slot) = []
+ticks_in (event.Park name kind) = []
+ticks_in (event.Hold name) = []
+ticks_in (event.Queue name) = []
+ticks_in (event.Start name) = []
+ticks_in (event.Answer name ask) = []
+ticks_in (event.Linger name cause) = []
+ticks_in (event.Close name cause tail) = []
+ticks_in (event.Ready slot) = []
+ticks_in (event.Tick m) = m ∷ []
+ticks_in (event.StartChild k) = []
+ticks_in (event.Command c) = []
+ticks_in (event.Retire k) = []
 
 -- ## Lists of events
 
@@ -29,55 +46,53 @@ pub in-both : (find : Event → List ℕ) (es fs : List Event) (xs ys : List ℕ
 in-both find es fs xs ys first second =
     flat_map-append find es fs ∙ ap (λ (zs : List ℕ). zs ++ flat_map find fs) first ∙ ap (λ (zs : List ℕ). xs ++ zs) second
 
--- events that neither tick nor signal
+-- events that don't tick
 pub record AreSilent (es : List Event) : Type 0 where
   pub ticks : flat_map ticks_in es ≡ []
-  pub signals : flat_map signals_in es ≡ []
 
 silent-both : (es fs : List Event) → AreSilent es → AreSilent fs → AreSilent (es ++ fs)
 silent-both es fs first second = record {
   ticks = in-both ticks_in es fs [] [] first.ticks second.ticks;
-  signals = in-both signals_in es fs [] [] first.signals second.signals;
 }
 
 pub silent-none : AreSilent []
-silent-none = record { ticks = refl; signals = refl }
+silent-none = record { ticks = refl }
 
 pub silent-starts : (children : List ℕ) → AreSilent (map event.StartChild children)
 silent-starts [] = silent-none
-silent-starts (k ∷ children) = record { ticks = (silent-starts children).ticks; signals = (silent-starts children).signals }
+silent-starts (k ∷ children) = record { ticks = (silent-starts children).ticks }
 
 pub silent-retires : (children : List ℕ) → AreSilent (map event.Retire children)
 silent-retires [] = silent-none
-silent-retires (k ∷ children) = record { ticks = (silent-retires children).ticks; signals = (silent-retires children).signals }
+silent-retires (k ∷ children) = record { ticks = (silent-retires children).ticks }
 
 pub silent-orders : (orders : List Commanded) → AreSilent (map event.Command orders)
 silent-orders [] = silent-none
-silent-orders (c ∷ orders) = record { ticks = (silent-orders orders).ticks; signals = (silent-orders orders).signals }
+silent-orders (c ∷ orders) = record { ticks = (silent-orders orders).ticks }
 
 silent-halting : (o : Option Why) → AreSilent (halts_for o)
 silent-halting None = silent-none
-silent-halting (Some why) = record { ticks = refl; signals = refl }
+silent-halting (Some why) = record { ticks = refl }
 
 pub silent-halts : (turns : Result End BoardFault) → AreSilent (halt_events turns)
 silent-halts (Ok end) = silent-halting (why_of end)
-silent-halts (Err fault) = record { ticks = refl; signals = refl }
+silent-halts (Err fault) = record { ticks = refl }
 
 silent-left : (way : Exit) (name : ConnName) → AreSilent (left_events way name)
-silent-left (exit.Park kind) name = record { ticks = refl; signals = refl }
-silent-left (exit.Linger why) name = record { ticks = refl; signals = refl }
-silent-left (exit.Close why how) name = record { ticks = refl; signals = refl }
-silent-left (exit.GiveUp fault) name = record { ticks = refl; signals = refl }
+silent-left (exit.Park kind) name = record { ticks = refl }
+silent-left (exit.Linger why) name = record { ticks = refl }
+silent-left (exit.Close why how) name = record { ticks = refl }
+silent-left (exit.GiveUp fault) name = record { ticks = refl }
 
 silent-letting : (l : Departure) → AreSilent (departure_events l)
-silent-letting l = record { ticks = (silent-left l.way l.name).ticks; signals = (silent-left l.way l.name).signals }
+silent-letting l = record { ticks = (silent-left l.way l.name).ticks }
 
 pub silent-gone : (gone : List Departure) → AreSilent (gone_events gone)
 silent-gone [] = silent-none
 silent-gone (l ∷ gone) = silent-both (departure_events l) (gone_events gone) (silent-letting l) (silent-gone gone)
 
 pub silent-held : (fault : BoardFault) (ending : Cause) (name : ConnName) → AreSilent (event.Hold name ∷ lingering_give_up_events fault ending name)
-silent-held fault ending name = record { ticks = refl; signals = refl }
+silent-held fault ending name = record { ticks = refl }
 
 silent-lettings : (l : Departures) → AreSilent (departures_events l)
 silent-lettings l =
@@ -85,7 +100,7 @@ silent-lettings l =
     (silent-both (gone_events l.retiring) (gone_events l.cut) (silent-gone l.retiring) (silent-gone l.cut)) (silent-gone l.drained)
 
 pub silent-taken : (t : Intake) → AreSilent (intake_events t)
-silent-taken t = record { ticks = (silent-left t.way t.name).ticks; signals = (silent-left t.way t.name).signals }
+silent-taken t = record { ticks = (silent-left t.way t.name).ticks }
 
 silent-takes : (takes : List Intake) → AreSilent (flat_map intake_events takes)
 silent-takes [] = silent-none
@@ -97,17 +112,9 @@ ticks-of_ticks : (ms : List ℕ) → flat_map ticks_in (map event.Tick ms) ≡ m
 ticks-of_ticks [] = refl
 ticks-of_ticks (m ∷ ms) = ap (λ (xs : List ℕ). m ∷ xs) (ticks-of_ticks ms)
 
-signals-of_ticks : (ms : List ℕ) → flat_map signals_in (map event.Tick ms) ≡ []
-signals-of_ticks [] = refl
-signals-of_ticks (m ∷ ms) = signals-of_ticks ms
-
 ticks-of_signals : (slots : List ℕ) → flat_map ticks_in (map event.Ready slots) ≡ []
 ticks-of_signals [] = refl
 ticks-of_signals (slot ∷ slots) = ticks-of_signals slots
-
-signals-of_signals : (slots : List ℕ) → flat_map signals_in (map event.Ready slots) ≡ slots
-signals-of_signals [] = refl
-signals-of_signals (slot ∷ slots) = ap (λ (xs : List ℕ). slot ∷ xs) (signals-of_signals slots)
 
 -- ## A round
 
@@ -116,7 +123,7 @@ in-first : (find : Event → List ℕ) (es fs : List Event) (xs : List ℕ) → 
     → flat_map find (es ++ fs) ≡ xs
 in-first find es fs xs first none = in-both find es fs xs [] first none ∙ append-nil xs
 
--- what a round did behind its signals neither ticks nor signals
+-- what a round did behind its signals doesn't tick
 abbrev rest_of : Round → List Event
 rest_of r =
     departures_events r.departures ++ map event.Command r.orders ++ map event.Retire r.retired ++ map event.StartChild r.starts
@@ -155,31 +162,3 @@ ticks-round r =
     let signals = in-first ticks_in (time_events r.early r.ticks r.late) (map event.Ready r.signals) r.ticks time (ticks-of_signals r.signals) in
     ap (flat_map ticks_in) (rest-behind r)
     ∙ in-first ticks_in (time_events r.early r.ticks r.late ++ map event.Ready r.signals) (rest_of r) r.ticks signals (silent-rest r).ticks
-
--- its signals are those of its slots
-pub signals-round : (r : Round) → flat_map signals_in (round_events r) ≡ r.signals
-signals-round r =
-    let early = in-both signals_in (gone_events r.early) (map event.Tick r.ticks) [] [] (silent-gone r.early).signals (signals-of_ticks r.ticks) in
-    let time = in-first signals_in (gone_events r.early ++ map event.Tick r.ticks) (gone_events r.late) [] early (silent-gone r.late).signals in
-    let signals = in-both signals_in (time_events r.early r.ticks r.late) (map event.Ready r.signals) [] r.signals time (signals-of_signals r.signals) in
-    ap (flat_map signals_in) (rest-behind r)
-    ∙ in-first signals_in (time_events r.early r.ticks r.late ++ map event.Ready r.signals) (rest_of r) r.signals signals (silent-rest r).signals
-
--- ## Histories
-
--- the ticks of a history are those of its events
-pub ticks-acts : (es : List Event) (a b : SeenBook) → Acts 0 es None a b → ticks_of b.history ≡ ticks_of a.history ++ flat_map ticks_in es
-ticks-acts es a b acts = ap (flat_map ticks_in) acts.made ∙ flat_map-append ticks_in (events_of 0 a.history) es
-
--- so are its signals
-pub signals-acts : (es : List Event) (a b : SeenBook) → Acts 0 es None a b → signals_of b.history ≡ signals_of a.history ++ flat_map signals_in es
-signals-acts es a b acts = ap (flat_map signals_in) acts.made ∙ flat_map-append signals_in (events_of 0 a.history) es
-
--- silent events leave them as they were
-pub ticks-kept : (es : List Event) (a b : SeenBook) → Acts 0 es None a b → AreSilent es → ticks_of b.history ≡ ticks_of a.history
-ticks-kept es a b acts silent =
-    ticks-acts es a b acts ∙ ap (λ (xs : List ℕ). ticks_of a.history ++ xs) silent.ticks ∙ append-nil (ticks_of a.history)
-
-pub signals-kept : (es : List Event) (a b : SeenBook) → Acts 0 es None a b → AreSilent es → signals_of b.history ≡ signals_of a.history
-signals-kept es a b acts silent =
-    signals-acts es a b acts ∙ ap (λ (xs : List ℕ). signals_of a.history ++ xs) silent.signals ∙ append-nil (signals_of a.history)

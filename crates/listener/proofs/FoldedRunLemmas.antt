@@ -7,19 +7,16 @@ use Rattle.conn_machine.specs.declared.state.State.{State}
 use Rattle.conn_machine.specs.Folds.{fold_of}
 use Rattle.conn_machine.specs.Made.{AreMade}
 use Rattle.conn_machine.specs.Runs.{after, entries_of}
-use Rattle.conn_state.specs.Answered.{SeenEnded}
 use Rattle.conn_state.specs.Known.{KnownOutside}
-use Rattle.board.specs.Board.{AreClosed, EndedOfOutside, SeenBoard}
+use Rattle.board.specs.Board.{AreClosed, SeenBoard}
 use Rattle.board.specs.Book.{SeenBook, folded_book}
 use Rattle.board.specs.ReportLine.{line_of}
 use Rattle.listener.specs.FirstNumbers.{folded_by, opened_by}
-use Rattle.listener.specs.FirstNumbersInside.{IsFoldedOf}
 use Rattle.listener.specs.FoldsInside.{FoldsJoin, ShowsForFolds}
 use Rattle.listener.specs.Listen.{HasFolded}
-use Rattle.listener.specs.Served.{whole_book}
-use Rattle.rounds.specs.Started.{AreAskedFor, IsAskedFor}
+use Rattle.rounds.specs.Timely.{AreTimely, IsTimely}
 use Rattle.listener.specs.declared.run_numbers.RunNumbers.{RunNumbers}
-use Rattle.rounds.proofs.AskedLemmas.{all-both}
+use Rattle.rounds.proofs.TimelyLemmas.{all-both}
 
 -- ## What was folded, and what is kept
 
@@ -41,17 +38,17 @@ module _ (joins : FoldsJoin) (known : Option KnownOutside) (n : RunNumbers) (b :
       ∙ ap (λ (lines : List (List ℕ)). fold_of (opened_by n) (f.entries ++ b.book.history) lines (folded_by n)) (sym (map-append line_of f.ended b.ended))
 
   -- so both are what a fold leaves folded
-  joined : b.book.passes ≡ n.passes → AreAskedFor b.book.base b.book.history → HasFolded n (folded_book (map line_of b.ended) b.book)
-  joined passes asked = record {
+  joined : b.book.passes ≡ n.passes → AreTimely b.book.base b.book.history → HasFolded n (folded_book (map line_of b.ended) b.book)
+  joined passes timely = record {
     entries = f.entries ++ b.book.history;
     ended = f.ended ++ b.ended;
     made = joins.made n.passes (opened_by n) (folded_by n) f.entries b.book.history (map line_of f.ended) (joins.places n.passes) f.few f.made made-behind;
     few =
         λ p past. joins.entries p f.entries b.book.history
         ∙ ap (λ (es : List Entry). es ++ entries_of p b.book.history) (f.few p past) ∙ shows.few p (omega (arith, passes, past));
-    asked =
-        all-both IsAskedFor (opened_by n) f.entries b.book.history f.asked
-        (subst (λ (s : State). AreAskedFor s b.book.history) f.base_is asked);
+    timely =
+        all-both IsTimely (opened_by n) f.entries b.book.history f.timely
+        (subst (λ (s : State). AreTimely s b.book.history) f.base_is timely);
     base_is =
         ap (λ (s : State). after s b.book.history) f.base_is ∙ sym (joins.state (opened_by n) f.entries b.book.history);
     record_is = fold-joined;
@@ -68,27 +65,7 @@ pub record HasJoined (n : RunNumbers) (b : SeenBoard) (f : HasFolded n b.book) :
   pub ended_are : whole.ended ≡ f.ended ++ b.ended
 
 pub has-joined : FoldsJoin → (known : Option KnownOutside) (n : RunNumbers) (b : SeenBoard) → ShowsForFolds known b → (f : HasFolded n b.book)
-    → b.book.passes ≡ n.passes → AreAskedFor b.book.base b.book.history → HasJoined n b f
+    → b.book.passes ≡ n.passes → AreTimely b.book.base b.book.history → HasJoined n b f
 unfolding joined
-has-joined joins known n b shows f passes asked =
-    record { whole = joined joins known n b shows f passes asked; entries_are = refl; ended_are = refl }
-
--- the whole run of a board, as one that a fold leaves, whose last connections that ended are those that are kept; those before them are of
--- the outside in some book
-pub record WholeRun (known : Option KnownOutside) (n : RunNumbers) (b : SeenBoard) : Type 0 where
-  pub whole : HasFolded n (folded_book (map line_of b.ended) b.book)
-  pub book : SeenBook
-  pub before : List SeenEnded
-  pub outside : EndedOfOutside known book before
-  pub ended_is : whole.ended ≡ before ++ b.ended
-
-pub whole-run : FoldsJoin → (known : Option KnownOutside) (n : RunNumbers) (b : SeenBoard) → ShowsForFolds known b → IsFoldedOf known n b.book
-    → AreAskedFor b.book.base b.book.history → WholeRun known n b
-unfolding joined
-whole-run joins known n b shows before asked = record {
-  whole = joined joins known n b shows before.folded before.passes asked;
-  book = whole_book n before.folded.entries;
-  before = before.folded.ended;
-  outside = before.outside;
-  ended_is = refl;
-}
+has-joined joins known n b shows f passes timely =
+    record { whole = joined joins known n b shows f passes timely; entries_are = refl; ended_are = refl }

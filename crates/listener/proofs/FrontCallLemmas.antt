@@ -1,8 +1,11 @@
 -- What a watch, a link that is turned away, the end of listening, a bind and a command line leave of a front.
 use Rattle.std.proofs.Common.{◌≡◌, ℕ, Bool, true, false, not, List, Option, None, Some, is_some, option_map, IfSome, refl, sym, ap, subst, ◌∙◌, arith}
 use Rattle.mpm_base.specs.Front.{FrontTold, FrontSeen, Commands, TellsOn, Binds, after_bind, after_command, after_hush, after_turning_away, after_watch, front_after_turning_away, front_after_watch, hushed_front}
+use Rattle.mpm_base.specs.GivenWords.{says_word}
 use Rattle.mpm_base.specs.declared.addr.Addr.{Addr}
 use Rattle.mpm_base.specs.declared.conn.ConnName.{ConnName}
+use Rattle.mpm_base.specs.declared.given_words.GivenWords.{GivenWords}
+use Rattle.mpm_base.specs.declared.script_line.CommandWord.TheVariants as word
 use Rattle.mpm_base.specs.Link.{LinkTold}
 use Rattle.conn_machine.specs.declared.state.State.{State}
 use Rattle.listener.specs.Watched.{IsHushed}
@@ -10,6 +13,7 @@ use Rattle.listener.specs.ListenInside.{Follows, IsInStep, KeepsStep, OnlyReads,
 use Rattle.listener.specs.Stops.{HasFailedLast, HasGivenAll}
 use Rattle.listener.specs.Times.{waits_of}
 use Rattle.run_report.proofs.CountLemmas.{exactly-stays, where-stays}
+use Rattle.listener.proofs.CountedLemmas.{counted-stays}
 use Rattle.listener.proofs.FrontLemmas.{clients-mapped, comings-mapped}
 
 -- ## A watch
@@ -40,6 +44,7 @@ follows-watch old new name answer link is = record {
   faults = omega (arith, ap (λ (f : FrontSeen). f.counts.faults) is);
   ends = omega (arith, ap (λ (f : FrontSeen). f.counts.ends) is);
   commands = omega (arith, ap (λ (f : FrontSeen). f.counts.commands) is);
+  stops = omega (arith, ap (λ (f : FrontSeen). f.counts.words.stop) is);
 }
 
 -- and the table in step with it
@@ -69,6 +74,7 @@ follows-turned old new link is = record {
   faults = omega (arith, ap (λ (f : FrontSeen). f.counts.faults) is);
   ends = omega (arith, ap (λ (f : FrontSeen). f.counts.ends) is);
   commands = omega (arith, ap (λ (f : FrontSeen). f.counts.commands) is);
+  stops = omega (arith, ap (λ (f : FrontSeen). f.counts.words.stop) is);
 }
 
 -- ## The end of listening
@@ -82,6 +88,7 @@ follows-hushed old new is = record {
   faults = omega (arith, ap (λ (f : FrontSeen). f.counts.faults) is);
   ends = omega (arith, ap (λ (f : FrontSeen). f.counts.ends) is);
   commands = omega (arith, ap (λ (f : FrontSeen). f.counts.commands) is);
+  stops = omega (arith, ap (λ (f : FrontSeen). f.counts.words.stop) is);
 }
 
 hushed-part : {X : Type 0} (part : FrontTold → X) (told told' : Option FrontTold) → ((t : FrontTold) → part (hushed_front t) ≡ part t)
@@ -138,6 +145,7 @@ follows-bind old new listen control answer binds = record {
   faults = where-stays (not answer) old.counts.faults new.counts.faults binds.faults;
   ends = omega (arith, binds.ends);
   commands = omega (arith, binds.commands);
+  stops = omega (arith, ap (λ (w : GivenWords). w.stop) binds.words);
 }
 
 -- ## Command lines
@@ -159,6 +167,7 @@ follows-command old new answer commands = record {
   faults = omega (arith, commands.faults);
   ends = omega (arith, commands.ends);
   commands = exactly-stays (is_some answer) old.counts.commands new.counts.commands commands.commands;
+  stops = counted-stays (says_word word.Stop answer) old.counts.words.stop new.counts.words.stop commands.words.stop;
 }
 
 after_command-only : (given : Bool) (t : FrontTold) → OnlyReads t (after_command given t)

@@ -1,7 +1,7 @@
 -- What a wait and a link that is taken leave of a front, and whether the table is in step with it.
 use Rattle.std.proofs.Common.{◌≡◌, ◌⊎◌, inl, inr, ℕ, Bool, true, false, not, List, [], ◌∷◌, ◌++◌, map, Option, None, Some, option_map, IfSome, refl, sym, ap, subst, ◌∙◌, arith}
 use Rattle.mpm_base.specs.Count.{next_count}
-use Rattle.mpm_base.specs.Front.{FrontTold, FrontSeen, BoundTold, DialTold, TellsOn, GoesForward, Waits, HasAllTaken, IsHandedOut, Accepts, WaitTold, after_accept, after_turning_away, after_watch, is_ended, moments_in, moments_of, wait_failed}
+use Rattle.mpm_base.specs.Front.{FrontTold, FrontSeen, BoundTold, DialTold, TellsOn, GoesForward, Waits, HasAllTaken, IsHandedOut, Accepts, WaitTold, after_accept, after_turning_away, after_watch, is_ended, moments_in, moments_of, progress_of, wait_failed}
 use Rattle.mpm_base.specs.Clock.{asked_at}
 use Rattle.mpm_base.specs.declared.conn.ConnName.{ConnName}
 use Rattle.std.proofs.lemmas.Grind.{flat_map-append}
@@ -10,6 +10,7 @@ use Rattle.mpm_base.specs.Link.{LinkTold, LinkSeen}
 use Rattle.mpm_base.specs.declared.front.Arrival.{Arrival}
 use Rattle.mpm_base.specs.declared.front.Arrival.TheVariants as arrival
 use Rattle.mpm_base.specs.declared.front.Woke.{Woke}
+use Rattle.mpm_base.specs.declared.given_words.GivenWords.{GivenWords}
 use Rattle.mpm_base.specs.declared.front.Woke.TheVariants as woke
 use Rattle.conn_machine.specs.declared.state.Going.{Going}
 use Rattle.conn_machine.specs.declared.state.State.{State}
@@ -32,10 +33,12 @@ follows-trans a b c first second = record {
   faults = omega (arith, first.faults, second.faults);
   ends = omega (arith, first.ends, second.ends);
   commands = omega (arith, first.commands, second.commands);
+  stops = omega (arith, first.stops, second.stops);
 }
 
 pub follows-same : (a : FrontSeen) → Follows a a
-follows-same a = record { script = refl; clients = refl; comings = refl; faults = omega arith; ends = omega arith; commands = omega arith }
+follows-same a =
+    record { script = refl; clients = refl; comings = refl; faults = omega arith; ends = omega arith; commands = omega arith; stops = omega arith }
 
 -- a part that a change keeps
 pub mapped-part : {X : Type 0} (part : FrontTold → X) (change : FrontTold → FrontTold) (told told' : Option FrontTold)
@@ -76,6 +79,7 @@ follows-wait old new until quiet answer ready waits = record {
   faults = where-stays (wait_failed answer) old.counts.faults new.counts.faults waits.faults;
   ends = exactly-stays (is_ended answer) old.counts.ends new.counts.ends waits.ends;
   commands = omega (arith, waits.commands);
+  stops = omega (arith, ap (λ (w : GivenWords). w.stop) waits.words);
 }
 
 after_accept-clients : {L : Type 0} (answer : Arrival L) (t : FrontTold) → (after_accept answer t).clients ≡ t.clients
@@ -97,6 +101,7 @@ follows-accept link_seen old new answer accepts = record {
   faults = omega (arith, accepts.faults);
   ends = omega (arith, accepts.ends);
   commands = omega (arith, accepts.commands);
+  stops = omega (arith, ap (λ (w : GivenWords). w.stop) accepts.words);
 }
 
 -- ## Links that are taken
@@ -238,7 +243,7 @@ pub waits-after : (until : Option ℕ) (quiet : Bool) (answer : Woke) (ready : L
     → TellsOn (GoesForward until quiet answer ready) told told' → WaitsMore ready answer (waits_of told) (waits_of told')
 waits-after until quiet answer ready None told' tells = ap waits_of tells
 waits-after until quiet answer ready (Some t) told' tells = record {
-  wait = record { until = until; quiet = quiet; slots = ready; answer = answer; passed = tells.2.passed };
+  wait = record { began = progress_of t; until = until; quiet = quiet; slots = ready; answer = answer; passed = tells.2.passed };
   is = ap waits_of tells.1 ∙ ap (λ (waits : List WaitTold). Some waits) tells.2.waits;
   slots = refl;
   answers = refl;
@@ -252,7 +257,7 @@ failed-last until quiet ready (Some t) told' tells =
     subst (λ (o : Option FrontTold). IfSome o HasFailedLast) (sym tells.1)
     (record {
       before = t.waits;
-      last = record { until = until; quiet = quiet; slots = ready; answer = woke.Failed; passed = tells.2.passed };
+      last = record { began = progress_of t; until = until; quiet = quiet; slots = ready; answer = woke.Failed; passed = tells.2.passed };
       waits = tells.2.waits;
       failed = refl;
     })

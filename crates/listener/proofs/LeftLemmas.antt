@@ -1,6 +1,6 @@
 -- What is left of a run.
-use Rattle.std.proofs.Common.{◌≡◌, inl, inr, ℕ, List, Option, None, Some, IfSome, subst, arith, ◌++◌, option_map}
-use Rattle.mpm_base.specs.Front.{FrontTold, FrontSeen}
+use Rattle.std.proofs.Common.{◌≡◌, inl, inr, ℕ, List, Option, None, Some, IfSome, sym, subst, arith, ◌++◌, option_map}
+use Rattle.mpm_base.specs.Front.{FrontSeen}
 use Rattle.conn_machine.specs.declared.event.Why.TheVariants as why
 use Rattle.conn_machine.specs.declared.state.Going.{Going}
 use Rattle.conn_machine.specs.declared.state.Going.TheVariants.{Halted}
@@ -8,7 +8,7 @@ use Rattle.conn_machine.specs.declared.state.State.{State}
 use Rattle.board.specs.Book.{SeenBook}
 use Rattle.board.specs.Board.{SeenBoard, AreOfOutside, EndedOfOutside}
 use Rattle.run_report.specs.EndingsInside.{IsEnd}
-use Rattle.listener.specs.Stops.{HasEnded, StoppedFor, TakesEach}
+use Rattle.listener.specs.Stops.{HasEnded, StoppedFor}
 use Rattle.run_report.proofs.CountLemmas.{never-rises}
 use Rattle.mpm_base.specs.Count.{NeverFalls}
 use Rattle.mpm_base.specs.Store.{StoreSeen, StoreTold}
@@ -16,15 +16,17 @@ use Rattle.conn_machine.specs.declared.event.Entry.{Entry}
 use Rattle.conn_state.specs.Answered.{SeenEnded}
 use Rattle.conn_state.specs.Known.{KnownOutside}
 use Rattle.board.specs.Editions.{GenerationsKeepTheirEditions, KeepsEditions}
-use Rattle.listener.specs.Commands.{DoesLines}
-use Rattle.listener.specs.Runs.{KeepsLines}
-use Rattle.listener.specs.RunsInside.{HasRunBy}
+use Rattle.listener.specs.Counted.{CountsRun, GivesNoEnding}
+use Rattle.listener.specs.RunsInside.{BacksWaits, HasRunBy}
 use Rattle.listener.specs.FirstNumbers.{numbers_of}
 use Rattle.listener.specs.Generations.{Opening, renewed}
 use Rattle.listener.specs.Listen.{HasClosedAll, IsRunFrom}
 use Rattle.listener.specs.OrdersInside.{known_outside}
-use Rattle.listener.specs.Served.{all_entries}
-use Rattle.listener.specs.StandingInside.{HasStood, standing}
+use Rattle.listener.specs.Served.{all_ended, all_entries}
+use Rattle.listener.specs.Outside.{KeepsFront}
+use Rattle.listener.specs.Times.{IsInTime, waits_of}
+use Rattle.listener.specs.TurnsInside.{HasStood, SeenListener}
+use Rattle.listener.specs.declared.run_numbers.RunNumbers.{RunNumbers}
 use Rattle.listener.specs.Stores.{IsRenewed, KeepsStore, RisesBy}
 use Rattle.listener.proofs.ServedLemmas.{serves-editions}
 
@@ -79,29 +81,48 @@ store-since going history old mid new same faults (inr broken) = inr (broken.0, 
 
 -- ## A run
 
--- what it did with its command lines, where its front tells
-keeps-lines : (told : Option FrontTold) (history : List Entry) (b : SeenBoard) → IfSome told (DoesLines b.book.state.going history)
-    → IfSome told (TakesEach b.book.state.going history) → IfSome told (KeepsLines history b)
-keeps-lines None history b done each = tt
-keeps-lines (Some t) history b done each = record { done = done; each = each }
+-- what a server that ran by these numbers left of its listener
+pub record LeavesRun (o : Opening) (n : RunNumbers) (l : SeenListener) : Type 0 where
+  pub run : IsRunFrom n l.board
+  pub first : SeenListener
+  pub stood : HasStood (Some (known_outside o)) o n first l
+  pub closed : HasClosedAll l.board
+  pub outside : AreOfOutside (Some (known_outside o)) l.board
+  pub front : IfSome l.front.told (KeepsFront n l.board.book.state (all_entries n l.board.book stood.folded) (all_ended n l.board stood.folded))
+  pub time : IsInTime (waits_of l.front.told) l.calls
+  pub stopped : StoppedFor o.front l.front l.board.book.state
+  pub counted : CountsRun l.board.book o.front.counts l.front.counts
+  pub unended : GivesNoEnding l.board.book.state.going (all_entries n l.board.book stood.folded) o.front.counts l.front.counts
+  pub backed : BacksWaits n l.board
 
 -- the laws of editions, and of connections that ended
 module _ (keep : GenerationsKeepTheirEditions) (join : (known : Option KnownOutside) (book : SeenBook) (ended ended' : List SeenEnded) → EndedOfOutside known book ended → EndedOfOutside known book ended' → EndedOfOutside known book (ended ++ ended')) (stay : (known : Option KnownOutside) (old new : SeenBook) (ended : List SeenEnded) → KeepsEditions old new → EndedOfOutside known old ended → EndedOfOutside known new ended) where
-  -- a run that opened so, over the store and the front that it left so
-  pub has-run-by : (o : Opening) (store : StoreSeen) (f : FrontSeen) (b : SeenBoard) → IsRunFrom (numbers_of o.config) b
-      → HasStood (Some (known_outside o)) o (numbers_of o.config) (standing 0 store f b.book) → HasClosedAll b → AreOfOutside (Some (known_outside o)) b
-      → HasRunBy o store f b
-  has-run-by o store f b run stood closed outside =
-      let n = numbers_of o.config in
-      record {
+  -- a run that opened so, over the store, the front and the clock that it left so
+  pub has-run-by : (o : Opening) (n : RunNumbers) (l : SeenListener) (b : SeenBoard) → n ≡ numbers_of o.config → b ≡ l.board → LeavesRun o n l
+      → HasRunBy o l.store l.front l.calls b
+  has-run-by o n l b numbers same leaves =
+      let left : LeavesRun o (numbers_of o.config) l = subst (λ (m : RunNumbers). LeavesRun o m l) numbers leaves in
+      let stood = left.stood in
+      let m = numbers_of o.config in
+      subst (HasRunBy o l.store l.front l.calls) (sym same)
+      (record {
         has_run = record {
-          run = run;
+          run = left.run;
           folded = stood.folded;
-          closed = closed;
+          closed = left.closed;
           ordered = stood.ordered;
-          served = serves-editions keep join stay o n b stood.folded stood.outside outside.ended;
+          served = serves-editions keep join stay o m l.board stood.folded stood.outside left.outside.ended;
+          backed = left.backed stood.folded;
         };
-        done = keeps-lines f.told (all_entries n b.book stood.folded) b stood.lines stood.each;
+        outside = record {
+          front = left.front;
+          time = left.time;
+          pace = stood.pace;
+          patient = stood.keeps.patient;
+          stopped = left.stopped;
+        };
+        counted = left.counted;
+        unended = left.unended;
         given = stood.given;
         store_is = stood.store;
-      }
+      })

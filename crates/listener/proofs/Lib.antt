@@ -1,6 +1,10 @@
 pub mod BrokenLemmas
+pub mod BroughtLemmas
 pub mod CommandLemmas
 pub mod CommandlessLemmas
+pub mod CountedEndLemmas
+pub mod CountedLemmas
+pub mod DownPaceLemmas
 pub mod EditionLemmas
 pub mod EventLemmas
 pub mod FoldLemmas
@@ -8,8 +12,9 @@ pub mod FoldedRunLemmas
 pub mod FoldedTurnLemmas
 pub mod FrontCallLemmas
 pub mod FrontLemmas
+pub mod HandedLemmas
 pub mod HeedLemmas
-pub mod InformLemmas
+pub mod IntakeLemmas
 pub mod LeftLemmas
 pub mod LineLemmas
 pub mod LinkLemmas
@@ -23,15 +28,16 @@ pub mod PatientLemmas
 pub mod PlanLemmas
 pub mod RestartLemmas
 pub mod RoundLemmas
+pub mod RoundShareLemmas
 pub mod RunLemmas
 pub mod ServedLemmas
+pub mod ShareLemmas
+pub mod SharedLemmas
 pub mod StandingFoldLemmas
 pub mod StandingLemmas
 pub mod StandingPartLemmas
 pub mod StandingTurnLemmas
-pub mod StartedFirstLemmas
 pub mod StartedLemmas
-pub mod StartlessLemmas
 pub mod StoodLemmas
 pub mod StopLemmas
 pub mod TakenLemmas
@@ -41,3 +47,5 @@ pub mod TurnLemmas
 pub mod UnsignalledLemmas
 pub mod WaitLemmas
 pub mod WatchLemmas
+pub mod WholeLemmas
+pub mod WholeTurnLemmas

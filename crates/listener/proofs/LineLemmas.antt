@@ -1,183 +1,205 @@
--- What a command line that is read asks for, behind those that were read before it.
-use Rattle.std.proofs.Common.{◌≡◌, ◌≢◌, ◌<◌, ◌+◌, ℕ, Bool, true, false, not, ◌&&◌, ◌||◌, cond, List, [], ◌∷◌, ◌++◌, Option, None, Some, option_map, IfSome, refl, sym, ap, subst, ◌∙◌, append-nil, append_assoc, arith}
+-- What the command lines that were read ask for, and one more behind them.
+use Rattle.std.proofs.Common.{◌≡◌, ◌≢◌, ◌<◌, ◌≤◌, ◌+◌, ◌-◌, ℕ, zero, suc, Bool, true, false, not, ◌&&◌, ◌||◌, cond, List, [], ◌∷◌, ◌++◌, drop, slice_get, take, Option, None, Some, option_map, IfSome, refl, sym, ap, subst, ◌∙◌, append-nil, append_assoc, arith}
 use Rattle.std.proofs.lemmas.Bool.{false_from_ne_true}
 use Rattle.std.proofs.lemmas.List.Folds.{list_any-append}
 use Rattle.std.proofs.lemmas.Slice.Eq.{bytes_eq-Decides}
 use Rattle.std.specs.List.{list_any}
 use Rattle.std.specs.Str.{bytes_eq}
 use Rattle.mpm_base.specs.CommandWord.{command_word}
-use Rattle.mpm_base.specs.Count.{Rises, greatest_count}
-use Rattle.mpm_base.specs.Front.{Commands, FrontSeen, FrontTold, GivesLine, after_command}
+use Rattle.mpm_base.specs.Count.{greatest_count, next_count}
+use Rattle.mpm_base.specs.Front.{FrontTold, GivesLine, TellsOn, after_command, hushed_front}
 use Rattle.mpm_base.specs.declared.script_line.CommandWord.{CommandWord}
 use Rattle.mpm_base.specs.declared.script_line.CommandWord.TheVariants as word
-use Rattle.conn_machine.specs.declared.event.Commanded.{Commanded}
-use Rattle.conn_machine.specs.declared.event.Commanded.TheVariants as commanded
-use Rattle.conn_machine.specs.declared.event.Entry.{Entry}
-use Rattle.conn_machine.specs.declared.event.Event.{Event}
-use Rattle.conn_machine.specs.declared.event.Event.TheVariants as event
-use Rattle.listener.specs.Commands.{LacksLast, asked_by, asked_in, done_by, done_in, ending_with, is_graceful_stop, lines_read}
-use Rattle.listener.specs.StandingInside.{DoesAllBut, LeavesLast}
-use Rattle.listener.proofs.CommandLemmas.{line-read}
-
--- ## Words
-
-is_ending : CommandWord → Bool
-is_ending word.Graceful = false
-is_ending word.GracefulStop = true
-is_ending word.Stop = false
-
--- a graceful stop was begun in the history
-abbrev pub has_ended : List Entry → Bool
-has_ended history = list_any (λ (e : Entry). is_graceful_stop e.event) history
-
-ends-command : (c : Commanded) → list_any is_ending (done_in (event.Command c)) ≡ is_graceful_stop (event.Command c)
-unfolding is_ending
-ends-command (commanded.Graceful shape) = refl
-ends-command (commanded.Refused reason) = refl
-ends-command (commanded.GracefulStop until) = refl
-ends-command (commanded.Stop why) = refl
-
-ends-event : (e : Event) → list_any is_ending (done_in e) ≡ is_graceful_stop e
-ends-event (event.Accept slot) = refl
-ends-event (event.Park name kind) = refl
-ends-event (event.Hold name) = refl
-ends-event (event.Queue name) = refl
-ends-event (event.Start name) = refl
-ends-event (event.Answer name ask) = refl
-ends-event (event.Linger name cause) = refl
-ends-event (event.Close name cause tail) = refl
-ends-event (event.Ready slot) = refl
-ends-event (event.Tick m) = refl
-ends-event (event.StartChild k) = refl
-ends-event (event.Command c) = ends-command c
-ends-event (event.Retire k) = refl
-
--- a history ends exactly where the words that it does have an end among them
-ends-done : (history : List Entry) → list_any is_ending (done_by history) ≡ has_ended history
-ends-done [] = refl
-ends-done (e ∷ history) =
-    list_any-append is_ending (done_in e.event) (done_by history)
-    ∙ ap (λ (b : Bool). b || list_any is_ending (done_by history)) (ends-event e.event)
-    ∙ ap (λ (b : Bool). is_graceful_stop e.event || b) (ends-done history)
+use Rattle.listener.specs.Commands.{asked_by, asked_in, asks_to_end}
+use Rattle.listener.specs.Pace.{lines_between}
+use Rattle.listener.specs.ShareInside.{HushesFor, ReadsFor}
+use Rattle.listener.proofs.CommandLemmas.{take-next}
+use Rattle.listener.proofs.ShareLemmas.{between-none}
 
 -- ## Lines
 
--- a graceful stop was asked for behind the lines
-abbrev pub ending_behind : Bool → List (List ℕ) → Bool
-ending_behind ending [] = ending
-ending_behind ending (line ∷ lines) = ending_behind (ending_with line ending) lines
+or-swap : (f e r : Bool) → (r || (f || e)) ≡ ((f || r) || e)
+or-swap true e true = refl
+or-swap true e false = refl
+or-swap false e true = refl
+or-swap false e false = refl
 
+-- one line more asks for what it asks for behind the others
 asked-both : (ending : Bool) (lines : List (List ℕ)) (line : List ℕ)
-    → asked_by ending (lines ++ line ∷ []) ≡ asked_by ending lines ++ asked_in (ending_behind ending lines) line
+    → asked_by ending (lines ++ line ∷ []) ≡ asked_by ending lines ++ asked_in (list_any asks_to_end lines || ending) line
 asked-both ending [] line = append-nil (asked_in ending line)
 asked-both ending (first ∷ lines) line =
-    ap (λ (xs : List CommandWord). asked_in ending first ++ xs) (asked-both (ending_with first ending) lines line)
-    ∙ sym (append_assoc (asked_in ending first) (asked_by (ending_with first ending) lines) (asked_in (ending_behind ending (first ∷ lines)) line))
+    let further = asks_to_end first || ending in
+    ap (λ (xs : List CommandWord). asked_in ending first ++ xs) (asked-both further lines line)
+    ∙ sym (append_assoc (asked_in ending first) (asked_by further lines) (asked_in (list_any asks_to_end lines || further) line))
+    ∙ ap (λ (b : Bool). asked_by ending (first ∷ lines) ++ asked_in b line) (or-swap (asks_to_end first) ending (list_any asks_to_end lines))
 
--- no line is both words
-one-word : (line : List ℕ) → bytes_eq line (command_word word.Graceful) ≡ true → bytes_eq line (command_word word.GracefulStop) ≡ true → ⊥
-one-word line first second =
-    let a : line ≡ command_word word.Graceful = (bytes_eq-Decides line (command_word word.Graceful)).0 first in
-    let b : line ≡ command_word word.GracefulStop = (bytes_eq-Decides line (command_word word.GracefulStop)).0 second in
-    let same : bytes_eq (command_word word.Graceful) (command_word word.GracefulStop) ≡ true = subst (λ (l : List ℕ). bytes_eq l (command_word word.GracefulStop) ≡ true) a second in
-    absurd (cc)
+-- the lines up to one more
+between-more : (lines : List (List ℕ)) (from to : ℕ) (line : List ℕ) → from ≤ to → slice_get lines to ≡ Some line
+    → lines_between lines from (to + 1) ≡ lines_between lines from to ++ line ∷ []
+between-more lines zero to line order at =
+    let none : to - 0 ≡ to = omega arith in
+    let one : to + 1 - 0 ≡ suc to = omega arith in
+    ap (λ (n : ℕ). take n lines) one ∙ take-next lines to line at ∙ ap (λ (n : ℕ). take n lines ++ line ∷ []) (sym none)
+between-more [] (suc from) to line order at = absurd (cc at)
+between-more (x ∷ lines) (suc from) zero line order at = absurd (omega (arith, order))
+between-more (x ∷ lines) (suc from) (suc to) line order at =
+    let one : suc to + 1 - suc from ≡ to + 1 - from = omega arith in
+    let same : suc to - suc from ≡ to - from = omega arith in
+    ap (λ (n : ℕ). take n (drop from lines)) one ∙ between-more lines from to line (omega (arith, order)) at
+    ∙ ap (λ (n : ℕ). take n (drop from lines) ++ line ∷ []) (sym same)
 
-ends-one : (graceful stops ending : Bool) → (graceful ≡ true → stops ≡ true → ⊥)
-    → (ending || list_any is_ending (cond graceful (word.Graceful ∷ []) (cond (stops && not ending) (word.GracefulStop ∷ []) []))) ≡ (stops || ending)
-unfolding is_ending
-ends-one true true ending never = absurd (never refl refl)
-ends-one true false true never = refl
-ends-one true false false never = refl
-ends-one false true true never = refl
-ends-one false true false never = refl
-ends-one false false true never = refl
-ends-one false false false never = refl
+-- ## A front of which lines are read
 
-ends-in : (ending : Bool) (line : List ℕ) → (ending || list_any is_ending (asked_in ending line)) ≡ ending_with line ending
-ends-in ending line = ends-one (bytes_eq line (command_word word.Graceful)) (bytes_eq line (command_word word.GracefulStop)) ending (one-word line)
+-- lines were read, which ask for this, and listening was stopped where one asks for that
+pub record HasReadSo (words : List CommandWord) (t t' : FrontTold) : Type 0 where
+  pub reads : ReadsFor words t t'
+  pub hushes : HushesFor t t'
+  pub read : t'.read < greatest_count → t.read ≤ t'.read
+  pub lines : t'.lines ≡ t.lines
 
-or-assoc : (a b c : Bool) → (a || (b || c)) ≡ ((a || b) || c)
-or-assoc true b c = refl
-or-assoc false b c = refl
+pub read-none : (t : FrontTold) → HasReadSo [] t t
+read-none t = record {
+  reads = record { reads = λ few. omega arith; asks = λ few. sym (ap (asked_by t.hushed) (between-none t.lines t.read)) };
+  hushes = λ few. sym (ap (λ (lines : List (List ℕ)). list_any asks_to_end lines || t.hushed) (between-none t.lines t.read));
+  read = λ few. omega arith;
+  lines = refl;
+}
 
-ends-asked : (ending : Bool) (lines : List (List ℕ)) → ending_behind ending lines ≡ (ending || list_any is_ending (asked_by ending lines))
-ends-asked true [] = refl
-ends-asked false [] = refl
-ends-asked ending (line ∷ lines) =
-    let rest = asked_by (ending_with line ending) lines in
-    ends-asked (ending_with line ending) lines
-    ∙ ap (λ (b : Bool). b || list_any is_ending rest) (sym (ends-in ending line))
-    ∙ sym (or-assoc ending (list_any is_ending (asked_in ending line)) (list_any is_ending rest))
-    ∙ ap (λ (b : Bool). ending || b) (sym (list_any-append is_ending (asked_in ending line) rest))
+-- the same of a front that may tell
+abbrev pub HasRead : List CommandWord → Option FrontTold → Option FrontTold → Type 0
+HasRead words told told' = TellsOn (HasReadSo words) told told'
 
--- lines that were done end exactly where the history does
-ends-as : (lines : List (List ℕ)) (history : List Entry) → asked_by false lines ≡ done_by history ++ [] → ending_behind false lines ≡ has_ended history
-ends-as lines history does =
-    ends-asked false lines
-    ∙ ap (λ (xs : List CommandWord). list_any is_ending xs) (does ∙ append-nil (done_by history))
-    ∙ ends-done history
+pub reads-none : (told : Option FrontTold) → HasRead [] told told
+reads-none None = refl
+reads-none (Some t) = (t, refl, read-none t)
 
--- ## A line that is read
+-- one line more was read, and then listening was stopped where it asks for that
+record IsReadOn (line : List ℕ) (t t' : FrontTold) : Type 0 where
+  pub gives : slice_get t.lines t.read ≡ Some line
+  pub read : t'.read ≡ next_count t.read
+  pub lines : t'.lines ≡ t.lines
+  pub hushed : t'.hushed ≡ (asks_to_end line || t.hushed)
 
--- one more line was read, which asks for these words behind the history
-pub record HasReadLine (history : List Entry) (words : List CommandWord) (f f' : FrontSeen) : Type 0 where
-  pub lines : IfSome f'.told (DoesAllBut words history)
-  pub commands : Rises f.counts.commands f'.counts.commands
+or-last : (f e r : Bool) → (f || (r || e)) ≡ ((r || (f || false)) || e)
+or-last true e true = refl
+or-last true e false = refl
+or-last false e true = refl
+or-last false e false = refl
 
-leaves-last : (words : List CommandWord) (history : List Entry) (t : FrontTold) → LacksLast history t → LeavesLast words history t
-leaves-last [] history t lacks = tt
-leaves-last (word ∷ words) history t lacks = lacks
+between-read : (line : List ℕ) (t t' t'' : FrontTold) → t.read ≤ t'.read → IsReadOn line t' t'' → t''.read < greatest_count
+    → lines_between t''.lines t.read t''.read ≡ lines_between t'.lines t.read t'.read ++ line ∷ []
+between-read line t t' t'' order on few =
+    let one : t''.read ≡ t'.read + 1 = omega (arith, few, on.read) in
+    ap (λ (lines : List (List ℕ)). lines_between lines t.read t''.read) on.lines
+    ∙ ap (λ (n : ℕ). lines_between t'.lines t.read n) one
+    ∙ between-more t'.lines t.read t'.read line order on.gives
 
-read-line : (history : List Entry) (line : List ℕ) (t : FrontTold) → GivesLine (Some line) t → DoesAllBut [] history t
-    → DoesAllBut (asked_in (has_ended history) line) history (after_command true t)
-read-line history line t gives does few =
-    let fewer : t.read < greatest_count = by few in
-    let before : asked_by false (lines_read t) ≡ done_by history ++ [] = (does fewer).does in
-    record {
-      does =
-          ap (asked_by false) (line-read t line gives fewer)
-          ∙ asked-both false (lines_read t) line
-          ∙ ap (λ (b : Bool). asked_by false (lines_read t) ++ asked_in b line) (ends-as (lines_read t) history before)
-          ∙ ap (λ (xs : List CommandWord). xs ++ asked_in (has_ended history) line) (before ∙ append-nil (done_by history));
-      last =
-          leaves-last (asked_in (has_ended history) line) history (after_command true t)
-          (record { before = lines_read t; line = line; lines_are = line-read t line gives fewer; done = before ∙ append-nil (done_by history) });
-    } where
-      by : (after_command true t).read < greatest_count → t.read < greatest_count
-      by less = omega (arith, less)
+read-more : (words : List CommandWord) (line : List ℕ) (t t' t'' : FrontTold) → HasReadSo words t t' → IsReadOn line t' t''
+    → HasReadSo (words ++ asked_in t'.hushed line) t t''
+read-more words line t t' t'' so on = record {
+  reads =
+      record {
+        reads = λ few. omega (arith, few, so.read (omega (arith, few, on.read)), on.read);
+        asks =
+            λ few.
+            let fewer : t'.read < greatest_count = omega (arith, few, on.read) in
+            ap (λ (xs : List CommandWord). xs ++ asked_in t'.hushed line) (so.reads.asks fewer)
+            ∙ ap (λ (b : Bool). asked_by t.hushed (lines_between t'.lines t.read t'.read) ++ asked_in b line) (so.hushes fewer)
+            ∙ sym (asked-both t.hushed (lines_between t'.lines t.read t'.read) line)
+            ∙ ap (asked_by t.hushed) (sym (between-read line t t' t'' (so.read fewer) on few));
+      };
+  hushes =
+      λ few.
+      let fewer : t'.read < greatest_count = omega (arith, few, on.read) in
+      on.hushed ∙ ap (λ (b : Bool). asks_to_end line || b) (so.hushes fewer)
+      ∙ or-last (asks_to_end line) t.hushed (list_any asks_to_end (lines_between t'.lines t.read t'.read))
+      ∙ ap (λ (b : Bool). b || t.hushed) (sym (list_any-append asks_to_end (lines_between t'.lines t.read t'.read) (line ∷ [])))
+      ∙ ap (λ (lines : List (List ℕ)). list_any asks_to_end lines || t.hushed) (sym (between-read line t t' t'' (so.read fewer) on few));
+  read = λ few. omega (arith, few, so.read (omega (arith, few, on.read)), on.read);
+  lines = on.lines ∙ so.lines;
+}
 
-read-told : (history : List Entry) (line : List ℕ) (told told' : Option FrontTold) → told' ≡ option_map (after_command true) told
-    → IfSome told (GivesLine (Some line)) → IfSome told (DoesAllBut [] history)
-    → IfSome told' (DoesAllBut (asked_in (has_ended history) line) history)
-read-told history line None told' is gives does =
-    subst (λ (x : Option FrontTold). IfSome x (DoesAllBut (asked_in (has_ended history) line) history)) (sym is) tt
-read-told history line (Some t) told' is gives does =
-    subst (λ (x : Option FrontTold). IfSome x (DoesAllBut (asked_in (has_ended history) line) history)) (sym is) (read-line history line t gives does)
+-- whether a front that tells listens no more
+abbrev pub is_off : Option FrontTold → Bool
+is_off None = false
+is_off (Some t) = t.hushed
 
-pub reads-line : (history : List Entry) (line : List ℕ) (f f' : FrontSeen) → Commands f f' (Some line) → IfSome f.told (DoesAllBut [] history)
-    → HasReadLine history (asked_in (has_ended history) line) f f'
-reads-line history line f f' gave does =
-    record { lines = read-told history line f.told f'.told gave.told_is gave.gives does; commands = gave.commands }
+-- one line more, behind which listening wasn't stopped
+pub reads-line : (words : List CommandWord) (line : List ℕ) (told mid new : Option FrontTold) → HasRead words told mid
+    → new ≡ option_map (after_command true) mid → IfSome mid (GivesLine (Some line)) → asks_to_end line ≡ false
+    → HasRead (words ++ asked_in (is_off mid) line) told new
+reads-line words line None mid new so is gives ends = is ∙ ap (option_map (after_command true)) so
+reads-line words line (Some t) mid new so is gives ends =
+    let here : mid ≡ Some so.0 = so.1 in
+    let last = after_command true so.0 in
+    let there : new ≡ Some last = is ∙ ap (option_map (after_command true)) here in
+    let given : GivesLine (Some line) so.0 = subst (λ (o : Option FrontTold). IfSome o (GivesLine (Some line))) here gives in (
+      last,
+      there,
+      subst (λ (b : Bool). HasReadSo (words ++ asked_in b line) t last) (sym (ap is_off here))
+          (read-more words line t so.0 last so.2
+          (record { gives = given; read = refl; lines = refl; hushed = ap (λ (b : Bool). b || so.0.hushed) (sym ends) })),
+    )
 
--- ## What lines ask for
+-- one that asks for a graceful stop, behind which listening was stopped
+pub reads-ending : (words : List CommandWord) (line : List ℕ) (told mid next new : Option FrontTold) → HasRead words told mid
+    → next ≡ option_map (after_command true) mid → IfSome mid (GivesLine (Some line)) → asks_to_end line ≡ true
+    → new ≡ option_map hushed_front next → HasRead (words ++ asked_in (is_off mid) line) told new
+reads-ending words line None mid next new so is gives ends hush =
+    hush ∙ ap (option_map hushed_front) (is ∙ ap (option_map (after_command true)) so)
+reads-ending words line (Some t) mid next new so is gives ends hush =
+    let here : mid ≡ Some so.0 = so.1 in
+    let last = hushed_front (after_command true so.0) in
+    let there : new ≡ Some last = hush ∙ ap (option_map hushed_front) (is ∙ ap (option_map (after_command true)) here) in
+    let given : GivesLine (Some line) so.0 = subst (λ (o : Option FrontTold). IfSome o (GivesLine (Some line))) here gives in (
+      last,
+      there,
+      subst (λ (b : Bool). HasReadSo (words ++ asked_in b line) t last) (sym (ap is_off here))
+          (read-more words line t so.0 last so.2
+          (record { gives = given; read = refl; lines = refl; hushed = ap (λ (b : Bool). b || so.0.hushed) (sym ends) })),
+    )
 
-pub asks-ending : (ending : Bool) → ending ≡ false → asked_in ending (command_word word.GracefulStop) ≡ word.GracefulStop ∷ []
-asks-ending true is = absurd (cc is)
-asks-ending false is = refl
+-- one that asks for it again, as listening was stopped already
+pub reads-ended : (words : List CommandWord) (line : List ℕ) (told mid new : Option FrontTold) → HasRead words told mid
+    → new ≡ option_map (after_command true) mid → IfSome mid (GivesLine (Some line)) → asks_to_end line ≡ true → IfSome mid (λ t. t.hushed ≡ true)
+    → HasRead (words ++ asked_in (is_off mid) line) told new
+reads-ended words line None mid new so is gives ends off = is ∙ ap (option_map (after_command true)) so
+reads-ended words line (Some t) mid new so is gives ends off =
+    let here : mid ≡ Some so.0 = so.1 in
+    let last = after_command true so.0 in
+    let there : new ≡ Some last = is ∙ ap (option_map (after_command true)) here in
+    let given : GivesLine (Some line) so.0 = subst (λ (o : Option FrontTold). IfSome o (GivesLine (Some line))) here gives in
+    let stopped : so.0.hushed ≡ true = subst (λ (o : Option FrontTold). IfSome o (λ x. x.hushed ≡ true)) here off in (
+      last,
+      there,
+      subst (λ (b : Bool). HasReadSo (words ++ asked_in b line) t last) (sym (ap is_off here))
+          (read-more words line t so.0 last so.2
+          (record { gives = given; read = refl; lines = refl; hushed = stopped ∙ ap (λ (b : Bool). b || so.0.hushed) (sym ends) })),
+    )
 
-pub asks-ended : (ending : Bool) → ending ≡ true → asked_in ending (command_word word.GracefulStop) ≡ []
-asks-ended true is = refl
-asks-ended false is = absurd (cc is)
+-- ## What a line asks for
 
-pub asks-stop : (ending : Bool) → asked_in ending (command_word word.Stop) ≡ []
+pub asks-graceful : (ending : Bool) → asked_in ending (command_word word.Graceful) ≡ word.Graceful ∷ []
+asks-graceful ending = refl
+
+pub asks-stop : (ending : Bool) → asked_in ending (command_word word.Stop) ≡ word.Stop ∷ []
 asks-stop ending = refl
 
-other-word : (line other : List ℕ) → line ≢ other → bytes_eq line other ≡ false
+pub asks-ending : (ending : Bool) → asked_in ending (command_word word.GracefulStop) ≡ cond ending [] (word.GracefulStop ∷ [])
+asks-ending true = refl
+asks-ending false = refl
+
+pub other-word : (line other : List ℕ) → line ≢ other → bytes_eq line other ≡ false
 other-word line other differs = false_from_ne_true (bytes_eq line other) (λ same. differs ((bytes_eq-Decides line other).0 same))
 
+-- a line that is no word asks for nothing
 pub asks-nothing : (ending : Bool) (line : List ℕ) → ((w : CommandWord) → line ≢ command_word w) → asked_in ending line ≡ []
 asks-nothing ending line unknown =
     let graceful = other-word line (command_word word.Graceful) (unknown word.Graceful) in
-    let stops = other-word line (command_word word.GracefulStop) (unknown word.GracefulStop) in
-    ap (λ (b : Bool). cond b (word.Graceful ∷ []) (cond (bytes_eq line (command_word word.GracefulStop) && not ending) (word.GracefulStop ∷ []) [])) graceful
-    ∙ ap (λ (b : Bool). cond (b && not ending) (word.GracefulStop ∷ []) []) stops
+    let stop = other-word line (command_word word.Stop) (unknown word.Stop) in
+    let ends = other-word line (command_word word.GracefulStop) (unknown word.GracefulStop) in
+    rw (graceful, stop, ends) refl
+
+pub ends-not : (line : List ℕ) → ((w : CommandWord) → line ≢ command_word w) → asks_to_end line ≡ false
+ends-not line unknown = other-word line (command_word word.GracefulStop) (unknown word.GracefulStop)

@@ -3,10 +3,8 @@ use Rattle.std.proofs.Common.{◌≡◌, ◌||◌, ℕ, ◌+◌, Bool, true, Lis
 use Rattle.std.specs.List.{list_any}
 use Rattle.http_read.specs.declared.request.Limits.{Limits}
 use Rattle.file_table.specs.Site.{SeenSite}
-use Rattle.conn_machine.specs.declared.event.Entry.{Entry}
-use Rattle.conn_machine.specs.declared.folded.Folded.{Folded}
 use Rattle.conn_machine.specs.declared.state.State.{State}
-use Rattle.conn_machine.specs.Folds.{GoesOnFrom, fold_of, is_child_of, is_in_use, may_fold}
+use Rattle.conn_machine.specs.Folds.{GoesOnFrom, fold_of, is_child_of, is_in_use}
 use Rattle.conn_machine.specs.Runs.{after}
 use Rattle.conn_machine.specs.Sizes.{HasSizesOf}
 use Rattle.conn_state.specs.Known.{KnownOutside}
@@ -15,7 +13,7 @@ use Rattle.board.specs.Book.{SeenBook, folded_book}
 use Rattle.board.specs.Editions.{GenerationsKeepTheirEditions, HasItsEdition, IsOfGeneration}
 use Rattle.board.specs.ReportLine.{line_of}
 use Rattle.listener.specs.FoldsInside.{FoldsJoin, ListensOn, ShowsForFolds}
-use Rattle.listener.proofs.FoldLemmas.{informed-folded, none-folded, watching-folded}
+use Rattle.listener.proofs.FoldLemmas.{none-folded}
 use Rattle.listener.proofs.StandingFoldLemmas.{stands-folded}
 
 -- ## Generations
@@ -41,30 +39,23 @@ edition-folded law (Some k) b lines state limits site is = its-folded law k b li
 
 -- ## A listener goes on
 
--- a history that may be folded has entries
-some-folded : (f : Folded) (history : List Entry) → may_fold f history ≡ true → f.entries + length history ≡ 0 → ⊥
-some-folded f [] due none = absurd (cc due)
-some-folded f (e ∷ history) due none = absurd (omega (arith, none))
-
 -- on a board that was folded
 pub listens-folded : GenerationsKeepTheirEditions → FoldsJoin → (known : Option KnownOutside) (b : SeenBoard) → ShowsForFolds known b
-    → may_fold b.book.folded b.book.history ≡ true → HasSizesOf b.book.base (after b.book.base b.book.history)
+    → HasSizesOf b.book.base (after b.book.base b.book.history)
     → ((p : ℕ) → GoesOnFrom p b.book.folded b.book.history (fold_of b.book.base b.book.history (map line_of b.ended) b.book.folded))
     → ListensOn known b (folded_board b)
-listens-folded law joins known b shows due sized goes =
+listens-folded law joins known b shows sized goes =
     let lines = map line_of b.ended in
     record {
       passes = refl;
       state = refl;
+      rows = sized.rows;
       free = none-folded lines b.book goes;
-      asked = λ before. tt;
-      informed = informed-folded lines b.book shows.made sized;
-      watched = watching-folded lines b.book shows.made shows.within.accepted shows.countable;
+      timely = λ before. tt;
       patient = λ told calls before steady. tt;
       folded = stands-folded joins law joins.outside_stays known b shows;
       orders = omega arith;
       edition = edition-folded law known b.book lines shows.state;
-      unfolded = λ none. absurd (some-folded b.book.folded b.book.history due none);
     }
 
 -- on one that stays
@@ -74,15 +65,13 @@ listens-same known old new same =
     (record {
       passes = refl;
       state = refl;
+      rows = refl;
       free = λ before. before;
-      asked = λ before. before;
-      informed = λ waits calls before. before;
-      watched = λ told before. before;
+      timely = λ before. before;
       patient = λ told calls before. before;
-      folded = λ c stop_ms store front o n opened asked before. before;
+      folded = λ c stop_ms store front o n past opened timely before. record { later = past; stands = before; same = refl };
       orders = refl;
       edition = λ limits site is. is;
-      unfolded = λ none. refl;
     })
 
 -- so on one that was to be folded, where memory lacked or didn't

@@ -1,21 +1,21 @@
 -- How a run stands as it opens, what the type knows of its editions then, and by which of them it serves.
-use Rattle.std.proofs.Common.{◌≡◌, inl, ℕ, suc, ◌+◌, false, List, [], ◌∷◌, take, Option, None, Some, option_map, IfSome, refl, sym, ap, subst, arith}
-use Rattle.mpm_base.specs.Front.{FrontSeen, FrontTold}
+use Rattle.std.proofs.Common.{◌≡◌, inl, ℕ, suc, ◌+◌, true, List, [], Option, None, Some, option_map, IfSome, refl, sym, ap, subst, arith}
+use Rattle.mpm_base.specs.Front.{Binds, FrontSeen}
 use Rattle.mpm_base.specs.Store.{StoreSeen, StoreTold}
 use Rattle.conn_state.specs.Known.{KnownOutside}
 use Rattle.board.specs.Book.{SeenBook}
 use Rattle.board.specs.Editions.{orders_in}
-use Rattle.listener.specs.Commands.{asked_by}
-use Rattle.listener.specs.FirstNumbersInside.{opened_book}
+use Rattle.listener.specs.FirstNumbersInside.{AreNumbers, opened_book}
 use Rattle.listener.specs.FoldsInside.{FoldsJoin}
 use Rattle.listener.specs.Generations.{Opening, known_edition, made_edition, renewed, head_limits_of}
 use Rattle.listener.specs.ListenInside.{IsKnownOfFront, clients_known}
 use Rattle.listener.specs.OrdersInside.{KnowsComing, ServesNewest, known_outside, opening_by}
-use Rattle.listener.specs.StandingInside.{DoesAllBut, HasStood, StandsSo, later_edition, standing}
+use Rattle.listener.specs.StandingInside.{StandsSo, later_edition, standing}
+use Rattle.listener.specs.TurnsInside.{IsBegun, SeenListener}
 use Rattle.listener.specs.declared.edition.LoadedEdition.{LoadedEdition}
 use Rattle.listener.specs.declared.edition.NamedConfig.{NamedConfig}
 use Rattle.listener.specs.declared.run_numbers.RunNumbers.{RunNumbers}
-use Rattle.listener.proofs.StartedLemmas.{IsIdle}
+use Rattle.listener.proofs.StartedLemmas.{IsIdle, nothing-bound, opens, starts-opened, unused-opened}
 
 -- ## What the type knows
 
@@ -51,29 +51,18 @@ serves-first known c e store front n b is opened limits =
 
 -- ## How a run stands
 
--- of no lines none asks for anything
-none-asked : (lines : List (List ℕ)) → asked_by false (take 0 lines) ≡ []
-none-asked [] = refl
-none-asked (line ∷ lines) = refl
-
--- no command line was read, and none was done
-lines-opened : (told : Option FrontTold) (calls : Option (List (ℕ × ℕ))) → IsIdle told calls → IfSome told (DoesAllBut [] [])
-lines-opened None calls idle = tt
-lines-opened (Some t) calls idle =
-    λ few. record { does = subst (λ (n : ℕ). asked_by false (take n t.lines) ≡ []) (sym idle.front.read) (none-asked t.lines); last = tt }
-
 -- a store that wasn't renewed tells the same
 unrenewed : (told : Option StoreTold) → told ≡ option_map (renewed 0) told
 unrenewed None = refl
 unrenewed (Some t) = refl
 
 -- so it stands where nothing was done yet
-pub stands-opened : FoldsJoin → (known : Option KnownOutside) (c : NamedConfig) (e : LoadedEdition) (store : StoreSeen) (old front : FrontSeen)
-    (calls : Option (List (ℕ × ℕ))) (n : RunNumbers) (b : SeenBook) → b ≡ opened_book n → e.stop_ms ≡ c.config.now.current.stop_ms
-    → front.counts.commands ≡ old.counts.commands → IsIdle front.told calls
-    → StandsSo known (opening_by c e store old) n [] 0 (standing e.stop_ms store front b)
-stands-opened joins known c e store old front calls n b opened timeout same idle =
-    subst (λ (x : SeenBook). StandsSo known (opening_by c e store old) n [] 0 (standing e.stop_ms store front x)) (sym opened)
+stands-opened : FoldsJoin → (known : Option KnownOutside) (c : NamedConfig) (e : LoadedEdition) (store : StoreSeen) (old front : FrontSeen)
+    (n : RunNumbers) (b : SeenBook) → b ≡ opened_book n → e.stop_ms ≡ c.config.now.current.stop_ms → front.counts.commands ≡ old.counts.commands
+    → StandsSo known (opening_by c e store old) n (record { entries = []; ended = [] }) 0 0 (standing e.stop_ms store front b)
+stands-opened joins known c e store old front n b opened timeout same =
+    subst (λ (x : SeenBook). StandsSo known (opening_by c e store old) n (record { entries = []; ended = [] }) 0 0 (standing e.stop_ms store front x))
+    (sym opened)
     (record {
       passes = refl;
       folded = record {
@@ -81,16 +70,16 @@ stands-opened joins known c e store old front calls n b opened timeout same idle
         ended = [];
         made = tt;
         few = λ p past. refl;
-        asked = tt;
+        timely = tt;
         base_is = refl;
         record_is = sym (joins.nothing n.slots n.children n.passes n.shape);
         closed = refl;
         answered = tt;
       };
+      past_is = refl;
       outside = tt;
       ordered = tt;
       timeout = ap (λ (ms : ℕ). Some ms) (sym timeout);
-      lines = lines-opened front.told calls idle;
       given = inl (omega (arith, same));
       ending = refl;
       renewals = 0;
@@ -99,19 +88,23 @@ stands-opened joins known c e store old front calls n b opened timeout same idle
       store = record { told = unrenewed store.told; failed = inl (omega (arith)) };
     })
 
--- in the end it has stood so by the numbers of the configuration, over the board that is left
-pub stood-behind : (known : Option KnownOutside) (o : Opening) (n n' : RunNumbers) (ms : ℕ) (store : StoreSeen) (front : FrontSeen) (b b' : SeenBook)
-    → n ≡ n' → b' ≡ b → HasStood known o n (standing ms store front b) → HasStood known o n' (standing 0 store front b')
-stood-behind known o n n' ms store front b b' numbers_are same stood =
-    subst (λ (m : RunNumbers). HasStood known o m (standing 0 store front b')) numbers_are
-    (subst (λ (x : SeenBook). HasStood known o n (standing 0 store front x)) (sym same)
-    (record {
-      passes = stood.passes;
-      folded = stood.folded;
-      outside = stood.outside;
-      ordered = stood.ordered;
-      lines = stood.lines;
-      each = stood.each;
-      given = stood.given;
-      store = stood.store;
-    }))
+-- a run begins over a front that was bound, and of which nothing else was asked
+pub begun-opened : FoldsJoin → (known : Option KnownOutside) (store : StoreSeen) (old : FrontSeen) (n : RunNumbers) (l : SeenListener)
+    → AreNumbers n → l.board.book ≡ opened_book n → l.store ≡ store → l.edition.stop_ms ≡ l.config.config.now.current.stop_ms
+    → Binds old l.front n.listen n.control true → IsIdle l.front.told l.calls → IsBegun known (opening_by l.config l.edition store old) n l
+begun-opened joins known store old n l numbers opened same timeout binds idle = record {
+  book = opened;
+  opening =
+      record {
+        opened = opens n l.board.book numbers opened;
+        none = ap (λ (b : SeenBook). b.history) opened;
+      };
+  stands =
+      subst (λ (s : StoreSeen). StandsSo known (opening_by l.config l.edition store old) n (record { entries = []; ended = [] }) 0 0
+      (standing l.edition.stop_ms s l.front l.board.book)) (sym same)
+      (stands-opened joins known l.config l.edition store old l.front n l.board.book opened timeout binds.commands);
+  unused = unused-opened l.front.told l.calls idle;
+  unasked = idle.calls_are;
+  first =
+      λ none. starts-opened n l.front.told l.calls l.board.book opened idle (nothing-bound n old l.front binds none);
+}

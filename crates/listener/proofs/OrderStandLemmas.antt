@@ -3,11 +3,10 @@ use Rattle.std.proofs.Common.{◌≡◌, inl, inr, ◌≤◌, ◌<◌, ◌+◌, 
 use Rattle.std.proofs.lemmas.Bool.{cases_order}
 use Rattle.std.proofs.lemmas.List.Folds.{list_any-append}
 use Rattle.std.proofs.lemmas.List.Sums.{sum_by-cons}
+use Rattle.std.specs.List.{list_any}
 use Rattle.mpm_base.specs.Count.{Rises, greatest_count}
-use Rattle.mpm_base.specs.Front.{FrontSeen, FrontTold}
+use Rattle.mpm_base.specs.Front.{FrontSeen}
 use Rattle.mpm_base.specs.Store.{StoreSeen, StoreTold, after_renew}
-use Rattle.mpm_base.specs.declared.script_line.CommandWord.{CommandWord}
-use Rattle.mpm_base.specs.declared.script_line.CommandWord.TheVariants as word
 use Rattle.conn_machine.specs.declared.event.Commanded.{Commanded}
 use Rattle.conn_machine.specs.declared.event.Entry.{Entry}
 use Rattle.conn_machine.specs.declared.event.Event.{Event}
@@ -19,19 +18,22 @@ use Rattle.conn_machine.specs.States.{is_serving}
 use Rattle.conn_state.specs.Known.{KnownOutside}
 use Rattle.board.specs.Book.{SeenBook}
 use Rattle.worker_group.specs.Acts.{Acts}
-use Rattle.listener.specs.Commands.{done_by, done_in, is_by_line, is_graceful_stop}
+use Rattle.listener.specs.Commands.{is_by_line, is_graceful_stop}
 use Rattle.listener.specs.FirstNumbers.{opened_by}
 use Rattle.listener.specs.Generations.{Opening, renewed}
 use Rattle.listener.specs.Orders.{AreOrdered, IsDoneBy, IsOrdered, edition_with}
 use Rattle.listener.specs.Served.{all_entries}
-use Rattle.listener.specs.StandingInside.{DoesAllBut, HasTimeout, StandsSo, standing, newest_edition}
+use Rattle.listener.specs.StandingInside.{HasTimeout, Past, StandsSo, standing, newest_edition}
 use Rattle.listener.specs.Stores.{IsRenewed, RisesBy, is_store_refusal}
 use Rattle.listener.specs.declared.run_numbers.RunNumbers.{RunNumbers}
 use Rattle.rounds.proofs.AddedLemmas.{added-events, events_in}
-use Rattle.listener.proofs.LineLemmas.{HasReadLine, has_ended}
-use Rattle.listener.proofs.StandingLemmas.{SameLines, counted-both, done-both, entries-acts, folded-acts, lines-kept, newest-both, ordered-both, orders-counted, orders_behind, renewed-kept, rises-more}
+use Rattle.listener.proofs.StandingLemmas.{SameLines, counted-both, entries-acts, folded-acts, newest-both, ordered-both, orders-counted, orders_behind, renewed-kept, rises-more}
 
 -- ## Counts
+
+-- a graceful stop was begun in the history
+abbrev pub has_ended : List Entry → Bool
+has_ended history = list_any (λ (e : Entry). is_graceful_stop e.event) history
 
 pub rises-one : (old new : ℕ) → Rises old new → RisesBy 1 old new
 rises-one old new rises = elim (cases_order old greatest_count) [
@@ -80,7 +82,6 @@ one-entry e (entry ∷ other ∷ entries) is = absurd (cc is)
 record GoesOnBy (o : Opening) (s : State) (e : Event) (old new : List Entry) : Type 0 where
   ordered : AreOrdered o 0 0 s old → IsOrdered o (count_events is_order old) (newest_edition 0 0 old) (after s old) e → AreOrdered o 0 0 s new
   newest : newest_edition 0 0 new ≡ edition_with e (count_events is_order old) (newest_edition 0 0 old)
-  done : done_by new ≡ done_by old ++ done_in e
   counted : (test : Event → Bool) → count_events test new ≡ count_events test old + cond (test e) 1 0
   ending : has_ended new ≡ (has_ended old || is_graceful_stop e)
 
@@ -98,7 +99,6 @@ goes-on o s history entry =
       newest =
           newest-both 0 0 history (entry ∷ [])
           ∙ ap (λ (n : ℕ). edition_with entry.event n (newest_edition 0 0 history)) many;
-      done = done-both history (entry ∷ []) ∙ ap (λ (xs : List CommandWord). done_by history ++ xs) (append-nil (done_in entry.event));
       counted =
           λ test. let one = sum_by-cons (λ (x : Entry). cond (test x.event) 1 0) entry [] in
           omega (arith, counted-both test history (entry ∷ []), one);
@@ -131,14 +131,7 @@ state-behind s base state first last joins is now = joins ∙ ap (λ (x : State)
 pub record IsOrder (c : Commanded) : Type 0 where
   pub order : is_order (event.Command c) ≡ true
   pub line : is_by_line (event.Command c) ≡ true
-  pub done : done_in (event.Command c) ≡ word.Graceful ∷ []
   pub ending : is_graceful_stop (event.Command c) ≡ false
-
-does-done : (words done : List CommandWord) (old new : List Entry) (told : Option FrontTold) → done_by new ≡ done_by old ++ done → words ≡ done
-    → IfSome told (DoesAllBut words old) → IfSome told (DoesAllBut [] new)
-does-done words done old new None is same does = tt
-does-done words done old new (Some t) is same does =
-    λ few. record { does = (does few).does ∙ ap (λ (xs : List CommandWord). done_by old ++ xs) same ∙ sym is ∙ sym (append-nil (done_by new)); last = tt }
 
 counts-one : (test : Bool) (many old : ℕ) → test ≡ true → many ≡ old + cond test 1 0 → many ≡ old + 1
 counts-one test many old is same = same ∙ ap (λ (b : Bool). old + cond b 1 0) is
@@ -147,15 +140,14 @@ counts-none : (test : Bool) (many old : ℕ) → test ≡ false → many ≡ old
 counts-none test many old is same = same ∙ ap (λ (b : Bool). old + cond b 1 0) is ∙ omega arith
 
 -- an order was recorded for a line, and the store renewed
-pub stands-order : (known : Option KnownOutside) (o : Opening) (n : RunNumbers) (c : Commanded) (ms ms' : ℕ) (s s' : StoreSeen) (f f' : FrontSeen) (a b : SeenBook)
+pub stands-order : (known : Option KnownOutside) (o : Opening) (n : RunNumbers) (past : Past) (c : Commanded) (ms ms' : ℕ) (s s' : StoreSeen) (f f' : FrontSeen) (a b : SeenBook)
     → IsOrder c → (acts : Acts 0 (event.Command c ∷ []) None a b) → is_serving b.state.going ≡ is_serving a.state.going
-    → (stood : StandsSo known o n [] 0 (standing ms s f a))
-    → HasReadLine (all_entries n a stood.folded) (word.Graceful ∷ []) f f'
+    → (stood : StandsSo known o n past 0 0 (standing ms s f a)) → Rises f.counts.commands f'.counts.commands
     → IsDoneBy o (count_events is_order (all_entries n a stood.folded)) (newest_edition 0 0 (all_entries n a stood.folded)) (after (opened_by n) (all_entries n a stood.folded)) c
     → HasTimeout o (edition_with (event.Command c) (count_events is_order (all_entries n a stood.folded)) (newest_edition 0 0 (all_entries n a stood.folded))) ms'
     → IsRenewedOnce (cond (is_store_refusal (event.Command c)) 1 0) s s'
-    → StandsSo known o n [] 0 (standing ms' s' f' b)
-stands-order known o n c ms ms' s s' f f' a b is acts serving stood read done timeout once =
+    → StandsSo known o n past 0 0 (standing ms' s' f' b)
+stands-order known o n past c ms ms' s s' f f' a b is acts serving stood read done timeout once =
     let folded = folded-acts 0 (event.Command c ∷ []) None n a b acts stood.folded in
     let old = all_entries n a stood.folded in
     let new = all_entries n b folded in
@@ -165,13 +157,13 @@ stands-order known o n c ms ms' s s' f f' a b is acts serving stood read done ti
     record {
       passes = acts.passes ∙ stood.passes;
       folded = folded;
+      past_is = stood.past_is;
       outside = stood.outside;
       ordered = goes.ordered stood.ordered done;
       timeout = subst (λ (edition : ℕ). HasTimeout o edition ms') (sym goes.newest) timeout;
-      lines = does-done (word.Graceful ∷ []) (done_in (event.Command c)) old new f'.told goes.done (sym is.done) read.lines;
       given =
           rises-more _ _ o.front.counts.commands f'.counts.commands f'.counts.commands (omega (arith, lines)) (omega arith)
-          (rises-both _ 1 o.front.counts.commands f.counts.commands f'.counts.commands stood.given (rises-one f.counts.commands f'.counts.commands read.commands));
+          (rises-both _ 1 o.front.counts.commands f.counts.commands f'.counts.commands stood.given (rises-one f.counts.commands f'.counts.commands read));
       ending =
           serving ∙ stood.ending
           ∙ ap not (sym (goes.ending ∙ ap (λ (b : Bool). has_ended old || b) is.ending ∙ or-false (has_ended old)));
@@ -182,20 +174,20 @@ stands-order known o n c ms ms' s s' f f' a b is acts serving stood read done ti
     }
 
 -- the order could not be recorded, though the store was renewed
-pub stands-unordered : (known : Option KnownOutside) (o : Opening) (n : RunNumbers) (ms : ℕ) (s s' : StoreSeen) (f f' : FrontSeen) (a : SeenBook)
-    → (stood : StandsSo known o n [] 0 (standing ms s f a)) → HasReadLine (all_entries n a stood.folded) (word.Graceful ∷ []) f f'
-    → IsRenewedOnce 0 s s' → StandsSo known o n (word.Graceful ∷ []) 0 (standing ms s' f' a)
-stands-unordered known o n ms s s' f f' a stood read once =
+pub stands-unordered : (known : Option KnownOutside) (o : Opening) (n : RunNumbers) (past : Past) (ms : ℕ) (s s' : StoreSeen) (f f' : FrontSeen) (a : SeenBook)
+    → StandsSo known o n past 0 0 (standing ms s f a) → Rises f.counts.commands f'.counts.commands → IsRenewedOnce 0 s s'
+    → StandsSo known o n past 1 0 (standing ms s' f' a)
+stands-unordered known o n past ms s s' f f' a stood read once =
     let history = all_entries n a stood.folded in
     record {
       passes = stood.passes;
       folded = stood.folded;
+      past_is = stood.past_is;
       outside = stood.outside;
       ordered = stood.ordered;
       timeout = stood.timeout;
-      lines = read.lines;
       given =
-          rises-more _ _ o.front.counts.commands f.counts.commands f'.counts.commands refl read.commands.0 stood.given;
+          rises-more _ _ o.front.counts.commands f.counts.commands f'.counts.commands refl read.0 stood.given;
       ending = stood.ending;
       renewals = suc stood.renewals;
       each = omega (arith, stood.each);
@@ -205,21 +197,21 @@ stands-unordered known o n ms s s' f f' a stood read once =
 
 -- ## A line for which the store isn't renewed
 
--- one was read that asks for these words, which are left, and one line was given besides, or none
-pub stands-line : (known : Option KnownOutside) (o : Opening) (n : RunNumbers) (words : List CommandWord) (owed ms : ℕ) (s : StoreSeen) (f f' : FrontSeen)
-    (a : SeenBook) → owed ≤ 1 → (stood : StandsSo known o n [] 0 (standing ms s f a)) → HasReadLine (all_entries n a stood.folded) words f f'
-    → StandsSo known o n words owed (standing ms s f' a)
-stands-line known o n words owed ms s f f' a few stood read =
+-- one was read, and one line was given besides, or none
+pub stands-line : (known : Option KnownOutside) (o : Opening) (n : RunNumbers) (past : Past) (spare owed ms : ℕ) (s : StoreSeen) (f f' : FrontSeen)
+    (a : SeenBook) → owed ≤ 1 → StandsSo known o n past 0 0 (standing ms s f a) → Rises f.counts.commands f'.counts.commands
+    → StandsSo known o n past spare owed (standing ms s f' a)
+stands-line known o n past spare owed ms s f f' a few stood read =
     let history = all_entries n a stood.folded in
     let given : RisesBy (count_events is_by_line history + 0 + 1) o.front.counts.commands f'.counts.commands =
-    rises-both _ 1 o.front.counts.commands f.counts.commands f'.counts.commands stood.given (rises-one f.counts.commands f'.counts.commands read.commands) in
+    rises-both _ 1 o.front.counts.commands f.counts.commands f'.counts.commands stood.given (rises-one f.counts.commands f'.counts.commands read) in
     record {
       passes = stood.passes;
       folded = stood.folded;
+      past_is = stood.past_is;
       outside = stood.outside;
       ordered = stood.ordered;
       timeout = stood.timeout;
-      lines = read.lines;
       given = rises-fewer _ _ o.front.counts.commands f'.counts.commands (omega (arith, few)) given;
       ending = stood.ending;
       renewals = stood.renewals;
@@ -234,16 +226,15 @@ stands-line known o n words owed ms s f f' a few stood read =
 -- ## A graceful stop
 
 -- it was recorded for a line
-pub stands-ending : (known : Option KnownOutside) (o : Opening) (n : RunNumbers) (c : Commanded) (ms : ℕ) (s : StoreSeen) (f f' : FrontSeen) (a b : SeenBook)
+pub stands-ending : (known : Option KnownOutside) (o : Opening) (n : RunNumbers) (past : Past) (c : Commanded) (ms : ℕ) (s : StoreSeen) (f f' : FrontSeen) (a b : SeenBook)
     → is_order (event.Command c) ≡ false → is_by_line (event.Command c) ≡ true → is_store_refusal (event.Command c) ≡ false
-    → is_graceful_stop (event.Command c) ≡ true → done_in (event.Command c) ≡ word.GracefulStop ∷ []
+    → is_graceful_stop (event.Command c) ≡ true
     → (acts : Acts 0 (event.Command c ∷ []) None a b) → is_serving b.state.going ≡ false
-    → (stood : StandsSo known o n [] 0 (standing ms s f a))
-    → HasReadLine (all_entries n a stood.folded) (word.GracefulStop ∷ []) f f'
+    → (stood : StandsSo known o n past 0 0 (standing ms s f a)) → Rises f.counts.commands f'.counts.commands
     → IsDoneBy o (count_events is_order (all_entries n a stood.folded)) (newest_edition 0 0 (all_entries n a stood.folded)) (after (opened_by n) (all_entries n a stood.folded)) c
     → edition_with (event.Command c) (count_events is_order (all_entries n a stood.folded)) (newest_edition 0 0 (all_entries n a stood.folded)) ≡ newest_edition 0 0 (all_entries n a stood.folded)
-    → StandsSo known o n [] 0 (standing ms s f' b)
-stands-ending known o n c ms s f f' a b unordered line unrefused ends does acts serving stood read done same =
+    → StandsSo known o n past 0 0 (standing ms s f' b)
+stands-ending known o n past c ms s f f' a b unordered line unrefused ends acts serving stood read done same =
     let folded = folded-acts 0 (event.Command c ∷ []) None n a b acts stood.folded in
     let old = all_entries n a stood.folded in
     let new = all_entries n b folded in
@@ -254,13 +245,13 @@ stands-ending known o n c ms s f f' a b unordered line unrefused ends does acts 
     record {
       passes = acts.passes ∙ stood.passes;
       folded = folded;
+      past_is = stood.past_is;
       outside = stood.outside;
       ordered = goes.ordered stood.ordered done;
       timeout = subst (λ (edition : ℕ). HasTimeout o edition ms) (sym (goes.newest ∙ same)) stood.timeout;
-      lines = does-done (word.GracefulStop ∷ []) (done_in (event.Command c)) old new f'.told goes.done (sym does) read.lines;
       given =
           rises-more _ _ o.front.counts.commands f'.counts.commands f'.counts.commands (omega (arith, lines)) (omega arith)
-          (rises-both _ 1 o.front.counts.commands f.counts.commands f'.counts.commands stood.given (rises-one f.counts.commands f'.counts.commands read.commands));
+          (rises-both _ 1 o.front.counts.commands f.counts.commands f'.counts.commands stood.given (rises-one f.counts.commands f'.counts.commands read));
       ending = serving ∙ sym (ap not (goes.ending ∙ ap (λ (b : Bool). has_ended old || b) ends ∙ or-true (has_ended old)));
       renewals = stood.renewals;
       each = omega (arith, orders, stood.each);
@@ -273,22 +264,20 @@ stands-ending known o n c ms s f f' a b unordered line unrefused ends does acts 
 
 -- ## Another front
 
--- it stands so over a front that read no line
-pub stands-front : (known : Option KnownOutside) (o : Opening) (n : RunNumbers) (left : List CommandWord) (owed ms : ℕ) (s : StoreSeen) (f f' : FrontSeen)
-    (a : SeenBook) → SameLines f f' → (stood : StandsSo known o n left owed (standing ms s f a)) → StandsSo known o n left owed (standing ms s f' a)
-stands-front known o n left owed ms s f f' a same stood =
-    let history = all_entries n a stood.folded in
-    record {
-      passes = stood.passes;
-      folded = stood.folded;
-      outside = stood.outside;
-      ordered = stood.ordered;
-      timeout = stood.timeout;
-      lines = lines-kept left history history f.told f'.told refl same.told stood.lines;
-      given = rises-more _ _ o.front.counts.commands f.counts.commands f'.counts.commands refl same.commands stood.given;
-      ending = stood.ending;
-      renewals = stood.renewals;
-      each = stood.each;
-      no_more = stood.no_more;
-      store = stood.store;
-    }
+-- it stands so over a front that counts no fewer lines
+pub stands-front : (known : Option KnownOutside) (o : Opening) (n : RunNumbers) (past : Past) (spare owed ms : ℕ) (s : StoreSeen) (f f' : FrontSeen)
+    (a : SeenBook) → SameLines f f' → StandsSo known o n past spare owed (standing ms s f a) → StandsSo known o n past spare owed (standing ms s f' a)
+stands-front known o n past spare owed ms s f f' a same stood = record {
+  passes = stood.passes;
+  folded = stood.folded;
+  past_is = stood.past_is;
+  outside = stood.outside;
+  ordered = stood.ordered;
+  timeout = stood.timeout;
+  given = rises-more _ _ o.front.counts.commands f.counts.commands f'.counts.commands refl same stood.given;
+  ending = stood.ending;
+  renewals = stood.renewals;
+  each = stood.each;
+  no_more = stood.no_more;
+  store = stood.store;
+}

@@ -1,12 +1,13 @@
--- That the listener keeps pace with a patient front, and lets time pass only where nothing is left to be done.
+-- That the listener is abreast of a patient front, and lets time pass only where nothing is left to be done.
 use Rattle.std.proofs.Common.{◌≡◌, ◌≢◌, ◌⊎◌, ◌<◌, ◌≤◌, ◌-◌, inl, inr, ℕ, Bool, true, false, not, ◌&&◌, cond, if◌then◌else◌, List, [], ◌∷◌, ◌++◌, find, length, max, min, nat_le, nat_lt, Option, None, Some, is_some, option_map, IfSome, Contains, Result, refl, sym, ap, subst, ◌∙◌, append-nil, arith}
 use Rattle.std.proofs.lemmas.Bool.Decides.{nat_tests}
 use Rattle.std.proofs.lemmas.List.Elements.{Contains-append_left, Contains-append_right}
 use Rattle.std.specs.List.{flat_map, list_any}
-use Rattle.mpm_base.specs.Front.{FrontSeen, FrontTold, GoesForward, HasNoneToTake, IsAnswerOf, IsPatient, LetsTimePass, TellsOn, WaitTold, Backlog, after_hush, earlier, hushed_front, next_coming}
+use Rattle.mpm_base.specs.Front.{FrontSeen, FrontTold, GoesForward, HasNoneToTake, IsAnswerOf, IsPatient, LetsTimePass, TellsOn, WaitTold, Backlog, after_hush, earlier, hushed_front, next_coming, progress_of}
 use Rattle.mpm_base.specs.declared.front.Woke.{Woke}
 use Rattle.mpm_base.specs.declared.front.Woke.TheVariants as woke
 use Rattle.mpm_base.specs.declared.conn.ConnName.{ConnName}
+use Rattle.conn_machine.specs.declared.event.Entry.{Entry}
 use Rattle.conn_machine.specs.declared.event.Event.{Event}
 use Rattle.conn_machine.specs.declared.row.Row.{Row}
 use Rattle.conn_machine.specs.declared.state.State.{State}
@@ -30,11 +31,10 @@ use Rattle.rounds.specs.AtRest.{IsAtRest}
 use Rattle.rounds.specs.PartsInside.{AreServed, GoesDown, PassesTime, StartsSome}
 use Rattle.listener.specs.RoundInside.{BreaksOff, GoesRound, Round, round_events}
 use Rattle.rounds.specs.Moments.{moment_for, ticks_to}
-use Rattle.listener.specs.Times.{ticks_in}
-use Rattle.listener.specs.TurnsInside.{HasPatience, SeenListener}
+use Rattle.listener.specs.TurnsInside.{SeenListener}
 use Rattle.listener.proofs.BrokenLemmas.{ends-silently}
 use Rattle.rounds.proofs.ClosingLemmas.{GoesOnFrom, acts-state}
-use Rattle.listener.proofs.EventLemmas.{silent-gone, silent-halts, silent-retires, silent-starts, ticks-round}
+use Rattle.listener.proofs.EventLemmas.{silent-gone, silent-halts, silent-retires, silent-starts, ticks_in, ticks-round}
 use Rattle.rounds.proofs.PassLemmas.{serves-acts}
 use Rattle.listener.proofs.TimedRoundLemmas.{timed-acts, timed_round}
 use Rattle.listener.proofs.TurnLemmas.{HasServedRows}
@@ -43,6 +43,13 @@ use Rattle.listener.proofs.PatientLemmas.{MomentOf, echoed-before, none-late-the
 use Rattle.listener.proofs.WaitLemmas.{HasWaited}
 
 -- ## What the listener keeps
+
+-- over such a front and clock time passes patiently in the history that is kept
+abbrev pub IsPatientOf : Option FrontTold → Option (List (ℕ × ℕ)) → SeenBook → Type 0
+IsPatientOf told calls b = IsPatientRun told calls b.base b.history
+
+abbrev pub HasPatience : SeenListener → Type 0
+HasPatience l = IsPatientOf l.front.told l.calls l.board.book
 
 -- the table stands at the moment of the front
 abbrev pub Abreast : SeenListener → Type 0
@@ -56,7 +63,7 @@ pub record Rests (rest : Rest) (l : SeenListener) : Type 0 where
   pub read : HasReadAll l.front.told
 
 -- between two turns
-pub record KeepsPace (rest : Rest) (l : SeenListener) : Type 0 where
+pub record GoesAbreast (rest : Rest) (l : SeenListener) : Type 0 where
   pub abreast : Abreast l
   pub patient : HasPatience l
   pub rested : rest.quiet ≡ true → Rests rest l
@@ -162,14 +169,15 @@ pace rest pause a w b steady abreast u =
 -- the waits of the front have one more
 waits-of : (rest : Rest) (pause : Pause) (a w b : SeenListener) (steady : IsSteady b.front.told b.calls) (u : Unwound rest pause a w b steady)
     → steady.front.waits
-    ≡ u.before.front.waits ++ record { until = rest.until; quiet = rest.quiet; slots = w.ready; answer = pause.woke; passed = u.forward.passed } ∷ []
+    ≡ u.before.front.waits ++ record { began = progress_of u.before.front; until = rest.until; quiet = rest.quiet; slots = w.ready; answer = pause.woke; passed = u.forward.passed } ∷ []
 waits-of rest pause a w b steady u = ap (λ (t : FrontTold). t.waits) u.only.rest ∙ u.forward.waits
 
--- what was patient before is so still
-pub patience-before : (rest : Rest) (pause : Pause) (a w b : SeenListener) (steady : IsSteady b.front.told b.calls) → HasPatience a
-    → (u : Unwound rest pause a w b steady) → ArePatient steady.comings steady.front.waits a.board.book.base a.board.book.history
-patience-before rest pause a w b steady patient u =
-    patient-weaker u.before.comings steady.comings u.before.front.waits steady.front.waits a.board.book.base a.board.book.history (sym u.comings)
+-- what was patient before is so still, wherever
+pub patience-past : (rest : Rest) (pause : Pause) (a w b : SeenListener) → HasWaited rest pause a w → TellsOn OnlyReadsAndTakes w.front.told b.front.told
+    → b.calls ≡ w.calls → (s : State) (history : List Entry) → IsPatientRun a.front.told a.calls s history → IsPatientRun b.front.told b.calls s history
+patience-past rest pause a w b waited takes calls s history patient steady =
+    let u = unwound rest pause a w b waited takes calls steady in
+    patient-weaker u.before.comings steady.comings u.before.front.waits steady.front.waits s history (sym u.comings)
     (λ x contains. subst (λ (ws : List WaitTold). Contains ws x) (sym (waits-of rest pause a w b steady u))
     (Contains-append_left u.before.front.waits _ x contains)) (patient u.before)
 
@@ -215,12 +223,12 @@ passed-in comings rest answer None t t' patient later = absurd (omega (arith, pa
 passed-in comings rest answer (Some waited) t t' patient later = record { waited = waited; is = refl; lets = patient }
 
 -- the wait let it, where nothing was left to be done
-passes-at : (rest : Rest) (pause : Pause) (a w b : SeenListener) (steady : IsSteady b.front.told b.calls) → KeepsPace rest a
+passes-at : (rest : Rest) (pause : Pause) (a w b : SeenListener) (steady : IsSteady b.front.told b.calls) → GoesAbreast rest a
     → IsSound a.board.book.state → IsInStep a.front.told a.board.book.state → (u : Unwound rest pause a w b steady) (p : PassedIn u.before.comings rest pause.woke u.forward.passed u.before.front u.waited)
     → PassesPatiently steady.comings steady.front.waits a.board.book.state (moment_for pause.moment)
 passes-at rest pause a w b steady paced sound step u p =
     let rests = paced.rested p.lets.may in
-    let wait : WaitTold = record { until = rest.until; quiet = rest.quiet; slots = w.ready; answer = pause.woke; passed = u.forward.passed } in
+    let wait : WaitTold = record { began = progress_of u.before.front; until = rest.until; quiet = rest.quiet; slots = w.ready; answer = pause.woke; passed = u.forward.passed } in
     record {
       to = u.waited.moment;
       moment = pace rest pause a w b steady paced.abreast u;
@@ -251,13 +259,13 @@ passes-at rest pause a w b steady paced sound step u p =
     }
 
 -- a round, or one that was broken off, does so patiently
-pub patience : (rest : Rest) (pause : Pause) (a w b : SeenListener) (r : Round) → KeepsPace rest a → HasWaited rest pause a w
+pub patience : (rest : Rest) (pause : Pause) (a w b : SeenListener) (r : Round) → GoesAbreast rest a → HasWaited rest pause a w
     → IsInStep a.front.told a.board.book.state → (acts : Acts 0 (round_events r) None a.board.book b.board.book)
     → IsFrontOf (ticks_to a.board.book.state.moment (moment_for pause.moment)) r.ticks
     → (r.ticks ≡ []) ⊎ (NoneOverdue a.board.book.state → r.early ≡ []) → TellsOn OnlyReadsAndTakes w.front.told b.front.told → b.calls ≡ w.calls → HasPatience b
 patience rest pause a w b r paced waited step acts front soon takes calls steady =
     let u = unwound rest pause a w b waited takes calls steady in
-    let before = patience-before rest pause a w b steady paced.patient u in
+    let before = patience-past rest pause a w b waited takes calls a.board.book.base a.board.book.history paced.patient steady in
     let here = paced.abreast u.before in
     let there = pace rest pause a w b steady paced.abreast u in
     let quiet : r.ticks ≡ [] → ArePatient steady.comings steady.front.waits b.board.book.base b.board.book.history =
@@ -286,7 +294,7 @@ here-front : (r : Round) (to : ℕ) (a : SeenBook) → r.ticks ≡ ticks_to a.st
 here-front r to a is = sym is ∙ sym (append-nil r.ticks)
 
 -- it came to its end
-pub pace-round : (rest : Rest) (pause : Pause) (a w b : SeenListener) → KeepsPace rest a → HasWaited rest pause a w → IsInStep a.front.told a.board.book.state
+pub pace-round : (rest : Rest) (pause : Pause) (a w b : SeenListener) → GoesAbreast rest a → HasWaited rest pause a w → IsInStep a.front.told a.board.book.state
     → GoesRound (moment_for pause.moment) w.ready w.board.book b.board.book → TellsOn OnlyReadsAndTakes w.front.told b.front.told → b.calls ≡ w.calls → HasPatience b
 pace-round rest pause a w b paced waited step round takes calls =
     let here : GoesRound (moment_for pause.moment) w.ready a.board.book b.board.book =
@@ -294,7 +302,7 @@ pace-round rest pause a w b paced waited step round takes calls =
     patience rest pause a w b here.round paced waited step here.acts ([], here-front here.round (moment_for pause.moment) a.board.book here.ticks) (inr here.soon) takes calls
 
 -- or nothing was done but that time passed
-pub pace-timed : (rest : Rest) (pause : Pause) (a w b : SeenListener) → KeepsPace rest a → HasWaited rest pause a w → IsInStep a.front.told a.board.book.state
+pub pace-timed : (rest : Rest) (pause : Pause) (a w b : SeenListener) → GoesAbreast rest a → HasWaited rest pause a w → IsInStep a.front.told a.board.book.state
     → PassesTime (moment_for pause.moment) w.board.book b.board.book → TellsOn OnlyReadsAndTakes w.front.told b.front.told → b.calls ≡ w.calls → HasPatience b
 pace-timed rest pause a w b paced waited step passes takes calls =
     let to = moment_for pause.moment in
@@ -318,21 +326,20 @@ abreast-round rest pause a w b abreast waited later takes calls steady =
 -- nothing was done behind a wait
 pub patience-waited : (rest : Rest) (pause : Pause) (a w : SeenListener) → HasPatience a → HasWaited rest pause a w
     → TellsOn OnlyReadsAndTakes w.front.told w.front.told → HasPatience w
-patience-waited rest pause a w patient waited same steady =
-    let u = unwound rest pause a w w waited same refl steady in
-    subst (λ (b : SeenBoard). ArePatient steady.comings steady.front.waits b.book.base b.book.history) (sym waited.board)
-    (patience-before rest pause a w w steady patient u)
+patience-waited rest pause a w patient waited same =
+    subst (λ (b : SeenBoard). IsPatientRun w.front.told w.calls b.book.base b.book.history) (sym waited.board)
+    (patience-past rest pause a w w waited same refl a.board.book.base a.board.book.history patient)
 
 -- ## Other steps
 
 -- events in which no time passes, over the same front and clock
 pub patience-silent : (who : ℕ) (es : List Event) (has : _) (told : Option FrontTold) (calls : Option (List (ℕ × ℕ))) (a b : SeenBook) → Acts who es has a b
-    → flat_map ticks_in es ≡ [] → IsPatientRun told calls a → IsPatientRun told calls b
+    → flat_map ticks_in es ≡ [] → IsPatientOf told calls a → IsPatientOf told calls b
 patience-silent who es has told calls a b acts none patient steady =
     patient-silent steady.comings steady.front.waits who es has a b acts none (patient steady)
 
 -- a round was broken off
-pub pace-broken : ActsInSteps → (fault : BoardFault) (rest : Rest) (pause : Pause) (a w b : SeenListener) → KeepsPace rest a → HasWaited rest pause a w
+pub pace-broken : ActsInSteps → (fault : BoardFault) (rest : Rest) (pause : Pause) (a w b : SeenListener) → GoesAbreast rest a → HasWaited rest pause a w
     → IsInStep a.front.told a.board.book.state → BreaksOff fault (moment_for pause.moment) w.ready w.board.book b.board.book
     → TellsOn OnlyReadsAndTakes w.front.told b.front.told → b.calls ≡ w.calls → HasPatience b
 pace-broken steps fault rest pause a w b paced waited step broken takes calls =
@@ -345,12 +352,12 @@ pace-broken steps fault rest pause a w b paced waited step broken takes calls =
 
 -- what another pass than the listener did
 pub patience-served : (who : ℕ) (es : List Event) (has : _) (told : Option FrontTold) (calls : Option (List (ℕ × ℕ))) (a b : SeenBook) → who ≢ 0
-    → Acts who es has a b → IsPatientRun told calls a → IsPatientRun told calls b
+    → Acts who es has a b → IsPatientOf told calls a → IsPatientOf told calls b
 patience-served who es has told calls a b other acts patient steady =
     patient-served steady.comings steady.front.waits who es has a b other acts (patient steady)
 
 -- at the start
-pub patience-start : (told : Option FrontTold) (calls : Option (List (ℕ × ℕ))) (b : SeenBook) → IsAtStart told b → IsPatientRun told calls b
+pub patience-start : (told : Option FrontTold) (calls : Option (List (ℕ × ℕ))) (b : SeenBook) → IsAtStart told b → IsPatientOf told calls b
 patience-start told calls b start steady =
     subst (ArePatient steady.comings steady.front.waits b.base) (sym start.history) tt
 
@@ -363,9 +370,9 @@ none-to-take (Some t) none = inl none
 
 pub pace-started : (rest : Rest) (l m : SeenListener) → IsAtStart l.front.told l.board.book → m ≡ record l { board = m.board } → StartsSome l.board.book m.board.book
     → m.board.book.state.moment ≡ l.board.book.state.moment → rest.until ≡ next_deadline_of m.board.book.state → IsRestful rest.quiet m.board.book.state
-    → KeepsPace rest m
+    → GoesAbreast rest m
 pace-started rest l m start is starts moment until restful =
-    subst (KeepsPace rest) (sym is)
+    subst (GoesAbreast rest) (sym is)
     (record {
       abreast =
           λ steady.
@@ -407,10 +414,10 @@ abbrev pub IsAfter : SeenListener → Type 0
 IsAfter l = after l.board.book.base l.board.book.history ≡ l.board.book.state
 
 pub pace-served : ActsInSteps → GoesOnFrom → (rest : Rest) (a b : SeenListener) → IsAfter a → IsAfter b → Abreast a → HasPatience a → TookAll a.front.told a.board.book.state
-    → HasReadAll a.front.told → HasServedRows a b → rest.until ≡ next_deadline_of a.board.book.state → IsRestful rest.quiet a.board.book.state → KeepsPace rest b
+    → HasReadAll a.front.told → HasServedRows a b → rest.until ≡ next_deadline_of a.board.book.state → IsRestful rest.quiet a.board.book.state → GoesAbreast rest b
 pace-served steps law rest a b here there abreast patient took read served until restful =
     let serves = serves-acts steps a.board b.board served.serves in
-    subst (KeepsPace rest) (sym served.others)
+    subst (GoesAbreast rest) (sym served.others)
     (record {
       abreast = λ steady. served.rest.moment ∙ abreast steady;
       patient = patience-served 1 serves.events None a.front.told a.calls a.board.book b.board.book (λ (same : 1 ≡ 0). cc) serves.acts patient;
@@ -424,10 +431,10 @@ pace-served steps law rest a b here there abreast patient took read served until
 
 -- ## The end
 
-unhushed : (told told' : Option FrontTold) (calls : Option (List (ℕ × ℕ))) (b : SeenBook) → told' ≡ option_map hushed_front told → IsPatientRun told calls b
-    → IsPatientRun told' calls b
-unhushed None told' calls b is patient steady = let tells = steady.tells in absurd (cc (is, tells))
-unhushed (Some t) told' calls b is patient steady =
+pub unhushed : (told told' : Option FrontTold) (calls : Option (List (ℕ × ℕ))) (s : State) (history : List Entry) → told' ≡ option_map hushed_front told
+    → IsPatientRun told calls s history → IsPatientRun told' calls s history
+unhushed None told' calls s history is patient steady = let tells = steady.tells in absurd (cc (is, tells))
+unhushed (Some t) told' calls s history is patient steady =
     let tells = steady.tells in
     let front : hushed_front t ≡ steady.front = cc (is, tells) in
     let before : IsSteady (Some t) calls =
@@ -440,13 +447,13 @@ unhushed (Some t) told' calls b is patient steady =
       clock = steady.clock;
       echoes = steady.echoes;
     } in
-    subst (λ (ws : List WaitTold). ArePatient steady.comings ws b.base b.history) (ap (λ (x : FrontTold). x.waits) front) (patient before)
+    subst (λ (ws : List WaitTold). ArePatient steady.comings ws s history) (ap (λ (x : FrontTold). x.waits) front) (patient before)
 
 -- the server was stopped, each connection that waited closed, and each child let go of
 pub patience-down : (turns : Result End BoardFault) (old new : FrontSeen) (calls : Option (List (ℕ × ℕ))) (a d : SeenBook)
-    → GoesDown turns a d → new ≡ after_hush old → IsPatientRun old.told calls a → IsPatientRun new.told calls d
+    → GoesDown turns a d → new ≡ after_hush old → IsPatientOf old.told calls a → IsPatientOf new.told calls d
 patience-down turns old new calls a d down is patient =
-    unhushed old.told new.told calls d (ap (λ (f : FrontSeen). f.told) is)
+    unhushed old.told new.told calls d.base d.history (ap (λ (f : FrontSeen). f.told) is)
     (patience-silent 0 _ None old.told calls down.closed d down.retires.acts (silent-retires down.retires.children).ticks
     (patience-silent 0 _ None old.told calls down.halted down.closed down.closes.acts (silent-gone down.closes.gone).ticks
     (patience-silent 0 _ None old.told calls a down.halted down.halts (silent-halts turns).ticks patient)))

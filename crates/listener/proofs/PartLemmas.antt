@@ -1,36 +1,36 @@
 -- What the parts of a round do in which nothing is ordered: how many orders there were, the newest generation's edition, and what is known
 -- of the editions to come stay as they were.
-use Rattle.std.proofs.Common.{◌≡◌, inl, inr, ℕ, List, [], ◌∷◌, ◌++◌, length, Option, None, Some, refl, sym, subst}
+use Rattle.std.proofs.Common.{◌≡◌, inl, inr, ℕ, List, [], ◌∷◌, ◌++◌, length, Option, None, Some, IfErr, OnOk, Result, Ok, Err, refl, sym, subst, ◌∙◌}
 use Rattle.mpm_base.specs.Store.{StoreTold}
+use Rattle.mpm_base.specs.declared.conn.ConnName.{ConnName}
 use Rattle.conn_machine.specs.declared.event.Event.{Event}
 use Rattle.conn_machine.specs.declared.event.Event.TheVariants as event
 use Rattle.conn_state.specs.Known.{KnownOutside}
 use Rattle.board.specs.declared.faults.BoardFault.{BoardFault}
 use Rattle.board.specs.Book.{SeenBook, row_in}
-use Rattle.board.specs.Editions.{GenerationsKeepTheirEditions}
+use Rattle.board.specs.Editions.{GenerationsKeepTheirEditions, orders_in}
 use Rattle.worker_group.specs.Acts.{Acts, ActsInSteps}
-use Rattle.worker_group.specs.Service.{give_up_events}
+use Rattle.worker_group.specs.Service.{give_up_events, left_events}
+use Rattle.worker_group.specs.declared.service.Exit.{Exit}
 use Rattle.rounds.specs.ClosingInside.{GivesUpDrained, LetsGo, lingering_give_up_events}
 use Rattle.listener.specs.OrdersInside.{KnowsComing, ServesNewest}
 use Rattle.listener.specs.RoundInside.{FailsTaking, TakesSome, TakesUntil}
-use Rattle.rounds.specs.PartsInside.{LetsGoOfConns, LetsGoUntil, PassesTime, RetiresSome, SignalsFirst, StartsAsAsked, StartsSome, signal_events}
+use Rattle.rounds.specs.PartsInside.{GivesUp, LetsGoOfConns, LetsGoUntil, PassesTime, RetiresSome, SignalsFirst, StartsSome, signal_events}
 use Rattle.rounds.specs.Moments.{known_slots, ticks_to}
 use Rattle.listener.specs.declared.edition.LoadedEdition.{LoadedEdition}
 use Rattle.listener.specs.declared.edition.NamedConfig.{NamedConfig}
-use Rattle.listener.proofs.StartlessLemmas.{asked-silent, startless-departures, startless-gone, startless-held, startless-readies, startless-retires, startless-takes, startless-time}
-use Rattle.listener.proofs.CommandlessLemmas.{AreCommandless, commandless-both, commandless-departures, commandless-gone, commandless-readies, commandless-retires, commandless-starts, commandless-takes, commandless-time}
+use Rattle.listener.proofs.CommandlessLemmas.{AreCommandless, commandless-both, commandless-departures, commandless-gone, commandless-left, commandless-readies, commandless-retires, commandless-starts, commandless-takes, commandless-time, orders-kept}
 use Rattle.listener.proofs.EditionLemmas.{coming-acts, newest-acts}
 
--- the listener did this, none of which is a command, and each child that it started was asked for; it has no connection then
+-- the listener did this, none of which is a command; it has no connection then
 pub record ActsOrderless (a b : SeenBook) : Type 0 where
   pub events : List Event
   pub acts : Acts 0 events None a b
   pub none : AreCommandless events
-  pub asked : StartsAsAsked a b
 
 -- it did nothing
 pub orderless-none : ActsInSteps → (b : SeenBook) → row_in 0 b ≡ None → ActsOrderless b b
-orderless-none steps b row = record { events = []; acts = steps.none 0 None b row; none = refl; asked = λ before. before }
+orderless-none steps b row = record { events = []; acts = steps.none 0 None b row; none = refl }
 
 -- one thing behind the other
 pub orderless-more : ActsInSteps → (a b c : SeenBook) → ActsOrderless a b → ActsOrderless b c → ActsOrderless a c
@@ -38,7 +38,6 @@ orderless-more steps a b c first second = record {
   events = first.events ++ second.events;
   acts = steps.more 0 first.events second.events None None a b c first.acts second.acts;
   none = commandless-both first.events second.events first.none second.none;
-  asked = λ before. second.asked (first.asked before);
 }
 
 -- ## The parts before the orders
@@ -48,7 +47,6 @@ orderless-gone a b lets = record {
   events = _;
   acts = lets.acts;
   none = commandless-gone lets.gone;
-  asked = asked-silent 0 _ None a b lets.acts (startless-gone lets.gone);
 }
 
 pub orderless-time : (to : ℕ) (a b : SeenBook) → PassesTime to a b → ActsOrderless a b
@@ -56,7 +54,6 @@ orderless-time to a b time = record {
   events = _;
   acts = time.acts;
   none = commandless-time time.early (ticks_to a.state.moment to) time.late;
-  asked = asked-silent 0 _ None a b time.acts (startless-time time.early (ticks_to a.state.moment to) time.late);
 }
 
 pub orderless-first : (slots : List ℕ) (a b : SeenBook) → SignalsFirst slots a b → ActsOrderless a b
@@ -64,7 +61,6 @@ orderless-first slots a b first = record {
   events = _;
   acts = first.acts;
   none = commandless-readies first.first;
-  asked = asked-silent 0 _ None a b first.acts (startless-readies first.first);
 }
 
 pub orderless-signals : (slots : List ℕ) (a b : SeenBook) → Acts 0 (signal_events a slots) None a b → ActsOrderless a b
@@ -72,7 +68,6 @@ orderless-signals slots a b signals = record {
   events = _;
   acts = signals;
   none = commandless-readies (known_slots (length a.base.rows) slots);
-  asked = asked-silent 0 _ None a b signals (startless-readies (known_slots (length a.base.rows) slots));
 }
 
 pub orderless-lets : (a b : SeenBook) → LetsGoOfConns a b → ActsOrderless a b
@@ -80,14 +75,13 @@ orderless-lets a b lets = record {
   events = _;
   acts = lets.acts;
   none = commandless-departures lets.departures;
-  asked = asked-silent 0 _ None a b lets.acts (startless-departures lets.departures);
 }
 
 orderless-drained : ActsInSteps → (fault : BoardFault) (a b : SeenBook) → GivesUpDrained fault a b → ActsOrderless a b
 orderless-drained steps fault a b given =
     let acts =
     steps.more 0 (event.Hold given.name ∷ []) (lingering_give_up_events fault given.ending given.name) (Some given.name) None a given.book b given.held given.acts in
-    record { events = _; acts = acts; none = refl; asked = asked-silent 0 _ None a b acts (startless-held fault given.ending given.name) }
+    record { events = _; acts = acts; none = refl }
 
 pub orderless-until : ActsInSteps → (fault : BoardFault) (a b : SeenBook) → LetsGoUntil fault a b → ActsOrderless a b
 orderless-until steps fault a b until =
@@ -106,19 +100,17 @@ orderless-retires a b retires = record {
   events = _;
   acts = retires.acts;
   none = commandless-retires retires.children;
-  asked = asked-silent 0 _ None a b retires.acts (startless-retires retires.children);
 }
 
 pub orderless-starts : (a b : SeenBook) → StartsSome a b → ActsOrderless a b
 orderless-starts a b starts =
-    record { events = _; acts = starts.acts; none = commandless-starts starts.children; asked = starts.asked }
+    record { events = _; acts = starts.acts; none = commandless-starts starts.children }
 
 pub orderless-takes : (a b : SeenBook) → TakesSome a b → ActsOrderless a b
 orderless-takes a b takes = record {
   events = _;
   acts = takes.acts;
   none = commandless-takes takes.takes;
-  asked = asked-silent 0 _ None a b takes.acts (startless-takes takes.takes);
 }
 
 orderless-failed : ActsInSteps → (fault : BoardFault) (a b : SeenBook) → row_in 0 a ≡ None → FailsTaking fault a b → ActsOrderless a b
@@ -126,7 +118,7 @@ orderless-failed steps fault a b row (inl same) = subst (ActsOrderless a) (sym s
 orderless-failed steps fault a b row (inr given) =
     let acts =
     steps.more 0 (event.Accept given.name.slot ∷ []) (give_up_events fault given.name) (Some given.name) None a given.book b given.took given.acts in
-    record { events = _; acts = acts; none = refl; asked = asked-silent 0 _ None a b acts refl }
+    record { events = _; acts = acts; none = refl }
 
 pub orderless-takes_until : ActsInSteps → (fault : BoardFault) (a b : SeenBook) → TakesUntil fault a b → ActsOrderless a b
 orderless-takes_until steps fault a b until =
@@ -148,3 +140,14 @@ newest-orderless law known a b e orderless newest serves = newest-acts law known
 pub coming-orderless : (known : Option KnownOutside) (a b : SeenBook) (c : NamedConfig) (told : Option StoreTold) → ActsOrderless a b
     → KnowsComing known a c told → KnowsComing known b c told
 coming-orderless known a b c told orderless knows = coming-acts known 0 orderless.events None a b c told orderless.acts orderless.none knows
+
+-- ## A connection that was taken
+
+-- there were as many orders before it
+pub orders-taken : {T : Type 0} (r : Result T BoardFault) (name name' : ConnName) (way : Exit) (a b c : SeenBook)
+    → Acts 0 (event.Accept name.slot ∷ []) (Some name) a b → OnOk r (Acts 0 (left_events way name') None b c)
+    → IfErr r (λ f. GivesUp f name' b c) → orders_in c ≡ orders_in a
+orders-taken (Ok x) name name' way a b c took left given =
+    orders-kept 0 (left_events way name') None b c left (commandless-left way name') ∙ orders-kept 0 (event.Accept name.slot ∷ []) (Some name) a b took refl
+orders-taken (Err fault) name name' way a b c took left given =
+    orders-kept 0 (give_up_events fault name') None b c given refl ∙ orders-kept 0 (event.Accept name.slot ∷ []) (Some name) a b took refl

@@ -21,14 +21,13 @@ use Rattle.board.specs.Finds.{ending_moments, next_deadline_of}
 use Rattle.worker_group.specs.Acts.{Acts}
 use Rattle.listener.specs.ListenInside.{AsksFor}
 use Rattle.rounds.specs.TableInside.{NoneOverdue}
-use Rattle.rounds.specs.Started.{AllAt}
+use Rattle.rounds.specs.Timely.{AllAt}
 use Rattle.listener.specs.Patient.{ArePatient, IsPatientEvent, PassesPatiently}
 use Rattle.listener.specs.RoundInside.{Round, round_events, intake_events}
 use Rattle.rounds.specs.PartsInside.{gone_events, departures_events}
-use Rattle.listener.specs.Times.{ticks_in}
 use Rattle.rounds.proofs.AddedLemmas.{added-events, events_in}
-use Rattle.listener.proofs.EventLemmas.{ticks-round}
-use Rattle.rounds.proofs.AskedLemmas.{all-both}
+use Rattle.listener.proofs.EventLemmas.{ticks_in, ticks-round}
+use Rattle.rounds.proofs.TimelyLemmas.{all-both}
 
 -- ## Histories that go on
 

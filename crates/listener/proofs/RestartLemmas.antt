@@ -1,12 +1,12 @@
 -- What a restart and a graceful stop do: what was recorded, and how the run stands then.
-use Rattle.std.proofs.Common.{◌≡◌, inl, inr, ◌≤◌, ◌+◌, ℕ, suc, Bool, true, false, not, ◌&&◌, cond, nat_lt, List, [], ◌∷◌, ◌++◌, Option, None, Some, option_map, IfSome, Result, Ok, Err, OnErr, OnOk, refl, sym, ap, subst, ◌∙◌, arith}
+use Rattle.std.proofs.Common.{◌≡◌, inl, inr, ◌≤◌, ◌+◌, ℕ, zero, suc, Bool, true, false, not, ◌&&◌, cond, nat_le, nat_lt, List, [], ◌∷◌, ◌++◌, Option, None, Some, option_map, IfSome, Result, Ok, Err, OnErr, OnOk, refl, sym, ap, subst, ◌∙◌, arith}
 use Rattle.std.proofs.lemmas.Bool.Decides.{nat_tests}
 use Rattle.std.proofs.lemmas.List.Sums.{sum_by-cons}
 use Rattle.mpm_base.specs.CommandWord.{command_word}
 use Rattle.mpm_base.specs.Count.{NeverFalls}
 use Rattle.mpm_base.specs.Front.{Commands, FrontSeen}
 use Rattle.mpm_base.specs.Store.{Renews, StoreCounts, StoreSeen, StoreTold, after_renew}
-use Rattle.mpm_base.specs.declared.script_line.CommandWord.{CommandWord}
+use Rattle.mpm_base.specs.Moment.{greatest_moment}
 use Rattle.mpm_base.specs.declared.script_line.CommandWord.TheVariants as word
 use Rattle.mpm_base.specs.declared.shape.Shape.{Shape}
 use Rattle.mpm_config.specs.Config.{Configuration}
@@ -21,8 +21,14 @@ use Rattle.conn_machine.specs.declared.state.State.{State}
 use Rattle.conn_machine.specs.Events.{count_events, is_order}
 use Rattle.conn_machine.specs.Folds.{HaveBegun}
 use Rattle.conn_machine.specs.Runs.{after}
-use Rattle.conn_machine.specs.States.{is_serving}
-use Rattle.conn_machine.specs.Table.{greatest_generation}
+use Rattle.conn_machine.specs.States.{is_over, is_serving, later}
+use Rattle.conn_machine.specs.declared.state.Going.TheVariants.{Ending}
+use Rattle.conn_machine.specs.Table.{greatest_generation, next}
+use Rattle.rounds.specs.PartsInside.{StaysTimely}
+use Rattle.rounds.specs.TableInside.{StandsInTime}
+use Rattle.rounds.specs.Timely.{is_staffed}
+use Rattle.rounds.proofs.TimelyLemmas.{not-at_end, staffed-command, still-in_time, timely-command}
+use Rattle.listener.proofs.BroughtLemmas.{brought-as}
 use Rattle.conn_state.specs.Known.{KnownOutside}
 use Rattle.board.specs.Book.{AddsOnly, SeenBook, book_with_entry, row_in}
 use Rattle.board.specs.Editions.{GenerationsKeepTheirEditions, IsOfGeneration, edition_of, orders_in}
@@ -35,17 +41,16 @@ use Rattle.board.specs.declared.faults.BoardFault.{BoardFault}
 use Rattle.listener.specs.FirstNumbers.{opened_by}
 use Rattle.listener.specs.Generations.{Opening, config_at, renewed, head_limits_of}
 use Rattle.listener.specs.Orders.{EndsUntil, HasShape, HasSite, IsRefusedAs, ending_by, ending_moment, may_begin, shape_by}
-use Rattle.listener.specs.OrdersInside.{Begins, Carries, KnowsComing, Refuses, ServesNewest, StandsBehind, BreaksBehind, reason_for}
+use Rattle.listener.specs.OrdersInside.{Begins, BreaksBehind, Carries, KnowsComing, MakesOrders, Refuses, ServesNewest, StandsBehind, reason_for}
 use Rattle.listener.specs.RoundInside.{DoesOrders}
 use Rattle.listener.specs.Served.{all_entries}
-use Rattle.listener.specs.StandingInside.{HasTimeout, Standing, StandsBroken, StandsOn, StandsSo, standing, newest_edition}
+use Rattle.listener.specs.StandingInside.{HasTimeout, Past, Standing, StandsBroken, StandsOn, StandsSo, standing, newest_edition}
 use Rattle.listener.specs.Stores.{RisesBy, is_store_refusal}
 use Rattle.listener.specs.declared.edition.LoadedEdition.{LoadedEdition}
 use Rattle.listener.specs.declared.edition.NamedConfig.{NamedConfig}
 use Rattle.listener.specs.declared.run_numbers.RunNumbers.{RunNumbers}
 use Rattle.rounds.proofs.AddedLemmas.{added-events}
 use Rattle.listener.proofs.EditionLemmas.{newest-acts}
-use Rattle.listener.proofs.LineLemmas.{HasReadLine, asks-ended, asks-ending, has_ended, reads-line}
 use Rattle.listener.proofs.OrderStandLemmas.{IsRenewedOnce, once-more, one-entry, rises-one, stands-ending, stands-front, stands-line, stands-order, stands-unordered, state-behind}
 use Rattle.listener.proofs.StandingLemmas.{SameLines, counted-both}
 use Rattle.listener.proofs.PlanLemmas.{cause-of_order, config-of_order, knows-renewed, serves-plan, shape-of_order, site-of_order, timeout-of_order}
@@ -99,14 +104,6 @@ pub does-carried : (plan : Plan) (a b : SeenBook) (e e' : LoadedEdition) → Car
 does-carried plan a b e e' (inl begins) = does-begun plan a b e' begins
 does-carried plan a b e e' (inr lacks) = does-refused refusal.NoMemory a b lacks.refuses
 
--- ## The line
-
--- the line `graceful` was read, behind what a run did
-graceful-read : (known : Option KnownOutside) (o : Opening) (n : RunNumbers) (ms : ℕ) (s : StoreSeen) (f f' : FrontSeen) (a : SeenBook)
-    → Commands f f' (Some (command_word word.Graceful)) → (stood : StandsSo known o n [] 0 (standing ms s f a))
-    → HasReadLine (all_entries n a stood.folded) (word.Graceful ∷ []) f f'
-graceful-read known o n ms s f f' a gave stood = reads-line (all_entries n a stood.folded) (command_word word.Graceful) f f' gave stood.lines
-
 -- ## The store
 
 -- a renewal that failed no call, as far as it is told
@@ -123,35 +120,35 @@ failed-count fault.StoreFault told name first counts counts' stays cause = rises
 failed-count fault.NoMemory told name first counts counts' stays cause = inl (omega (arith, stays))
 
 -- where a run stands so, its store was renewed at each order
-orders-renewed : (known : Option KnownOutside) (o : Opening) (n : RunNumbers) (s : Standing) (stood : StandsSo known o n [] 0 s)
+orders-renewed : (known : Option KnownOutside) (o : Opening) (n : RunNumbers) (past : Past) (s : Standing) (stood : StandsSo known o n past 0 0 s)
     → stood.renewals ≡ count_events is_order (all_entries n s.book stood.folded)
-orders-renewed known o n s stood = omega (arith, stood.each, stood.no_more)
+orders-renewed known o n past s stood = omega (arith, stood.each, stood.no_more)
 
 -- so behind one more renewal it is that of the next order
-store-of_order : (known : Option KnownOutside) (o : Opening) (n : RunNumbers) (ms : ℕ) (s s' : StoreSeen) (f : FrontSeen) (a : SeenBook)
-    → (stood : StandsSo known o n [] 0 (standing ms s f a)) → s'.told ≡ option_map after_renew s.told
+store-of_order : (known : Option KnownOutside) (o : Opening) (n : RunNumbers) (past : Past) (ms : ℕ) (s s' : StoreSeen) (f : FrontSeen) (a : SeenBook)
+    → (stood : StandsSo known o n past 0 0 (standing ms s f a)) → s'.told ≡ option_map after_renew s.told
     → s'.told ≡ option_map (renewed (suc (count_events is_order (all_entries n a stood.folded)))) o.store.told
-store-of_order known o n ms s s' f a stood is =
+store-of_order known o n past ms s s' f a stood is =
     once-more (count_events is_order (all_entries n a stood.folded)) o.store.told s.told s'.told
-    (subst (λ (r : ℕ). s.told ≡ option_map (renewed r) o.store.told) (orders-renewed known o n (standing ms s f a) stood) stood.store.told) is
+    (subst (λ (r : ℕ). s.told ≡ option_map (renewed r) o.store.told) (orders-renewed known o n past (standing ms s f a) stood) stood.store.told) is
 
 next-number : (many : ℕ) → suc many ≡ many + 1
 next-number many = omega arith
 
 -- ## A restart that is refused
 
-refused-stands : HistoriesJoin → (known : Option KnownOutside) (o : Opening) (n : RunNumbers) (reason : Refusal) (ms : ℕ) (s s' : StoreSeen) (f f' : FrontSeen)
+refused-stands : HistoriesJoin → (known : Option KnownOutside) (o : Opening) (n : RunNumbers) (past : Past) (reason : Refusal) (ms : ℕ) (s s' : StoreSeen) (f f' : FrontSeen)
     (a b : SeenBook) → Refuses reason a b → Commands f f' (Some (command_word word.Graceful)) → after a.base a.history ≡ a.state
-    → (stood : StandsSo known o n [] 0 (standing ms s f a))
+    → (stood : StandsSo known o n past 0 0 (standing ms s f a))
     → IsRefusedAs o (count_events is_order (all_entries n a stood.folded) + 1) a.state reason
     → IsRenewedOnce (cond (is_store_refusal (event.Command (commanded.Refused reason))) 1 0) s s'
-    → StandsSo known o n [] 0 (standing ms s' f' b)
-refused-stands joins known o n reason ms s s' f f' a b refuses gave now stood why once =
+    → StandsSo known o n past 0 0 (standing ms s' f' b)
+refused-stands joins known o n past reason ms s s' f f' a b refuses gave now stood why once =
     let history = all_entries n a stood.folded in
     let state : after (opened_by n) history ≡ a.state =
     state-behind (opened_by n) a.base a.state stood.folded.entries a.history (joins (opened_by n) stood.folded.entries a.history) stood.folded.base_is now in
-    stands-order known o n (commanded.Refused reason) ms ms s s' f f' a b (record { order = refl; line = refl; done = refl; ending = refl }) refuses.acts
-    (ap (λ (x : State). is_serving x.going) refuses.state) stood (graceful-read known o n ms s f f' a gave stood)
+    stands-order known o n past (commanded.Refused reason) ms ms s s' f f' a b (record { order = refl; line = refl; ending = refl }) refuses.acts
+    (ap (λ (x : State). is_serving x.going) refuses.state) stood gave.commands
     (subst (λ (x : State). IsRefusedAs o (count_events is_order history + 1) x reason) (sym state) why) stood.timeout once
 
 late-as : (o : Opening) (number : ℕ) (s : State) → s.newest ≤ greatest_generation → may_begin s ≡ false → IsRefusedAs o number s refusal.Late
@@ -167,20 +164,20 @@ late-as o number s within late = by (is_serving s.going) refl late where
 pub late-stands : HistoriesJoin → (known : Option KnownOutside) (c : NamedConfig) (ms : ℕ) (s s' : StoreSeen) (a b : SeenBook) → Refuses refusal.Late a b
     → after a.base a.history ≡ a.state → a.state.newest ≤ greatest_generation → may_begin a.state ≡ false → Renews s s'
     → StandsBehind known c word.Graceful (λ f. standing ms s f a) (λ f. standing ms s' f b)
-late-stands joins known c ms s s' a b refuses now within late renews f f' gave o n opened asked stood =
-    refused-stands joins known o n refusal.Late ms s s' f f' a b refuses gave now stood (late-as o (count_events is_order (all_entries n a stood.folded) + 1) a.state within late) (renewed-once s s' renews)
+late-stands joins known c ms s s' a b refuses now within late renews f f' gave o n past opened before stood =
+    refused-stands joins known o n past refusal.Late ms s s' f f' a b refuses gave now stood (late-as o (count_events is_order (all_entries n a stood.folded) + 1) a.state within late) (renewed-once s s' renews)
 
 -- for a cause
 pub cause-stands : HistoriesJoin → (known : Option KnownOutside) (c : NamedConfig) (ms : ℕ) (s s' : StoreSeen) (a b : SeenBook) (why : ReloadFault)
     → Refuses (reason_for why) a b → may_begin a.state ≡ true → after a.base a.history ≡ a.state → Renews s s'
     → HasCause s'.told c.name.now c.config.now s.counts s'.counts why
     → StandsBehind known c word.Graceful (λ f. standing ms s f a) (λ f. standing ms s' f b)
-cause-stands joins known c ms s s' a b why refuses may now renews cause f f' gave o n opened asked stood =
+cause-stands joins known c ms s s' a b why refuses may now renews cause f f' gave o n past opened before stood =
     let many = count_events is_order (all_entries n a stood.folded) in
     let refused_as : IsRefusedAs o (suc many) a.state (reason_for why) =
     cause-of_order o (suc many) a.state s'.told c.name.now c.config.now s.counts s'.counts why may opened.name opened.config
-    (store-of_order known o n ms s s' f a stood renews.told_is) cause in
-    refused-stands joins known o n (reason_for why) ms s s' f f' a b refuses gave now stood
+    (store-of_order known o n past ms s s' f a stood renews.told_is) cause in
+    refused-stands joins known o n past (reason_for why) ms s s' f f' a b refuses gave now stood
     (subst (λ (x : ℕ). IsRefusedAs o x a.state (reason_for why)) (next-number many) refused_as)
     (record { told = renews.told_is; faults = failed-count why s'.told c.name.now c.config.now s.counts s'.counts renews.faults cause })
 
@@ -189,16 +186,16 @@ cause-stands joins known c ms s s' a b why refuses may now renews cause f f' gav
 begun-stands : HistoriesJoin → (known : Option KnownOutside) (c : NamedConfig) (ms : ℕ) (s s' : StoreSeen) (a b : SeenBook) (plan : Plan) (e : LoadedEdition)
     → Begins plan a b e → after a.base a.history ≡ a.state → Renews s s' → IsPlan s'.told c.name.now c.config.now plan
     → StandsBehind known c word.Graceful (λ f. standing ms s f a) (λ f. standing e.stop_ms s' f b)
-begun-stands joins known c ms s s' a b plan e begins now renews plans f f' gave o n opened asked stood =
+begun-stands joins known c ms s s' a b plan e begins now renews plans f f' gave o n past opened before stood =
     let many = count_events is_order (all_entries n a stood.folded) in
     let config =
     config-of_order o many s'.told c.name.now c.config.now plan.config opened.name opened.config
-    (store-of_order known o n ms s s' f a stood renews.told_is) plans.config in
-    stands-order known o n (commanded.Graceful (shape_by plan.config)) ms e.stop_ms s s' f f' a b (record { order = refl; line = refl; done = refl; ending = refl })
-    begins.acts (ap (λ (x : State). is_serving x.going) begins.state) stood (graceful-read known o n ms s f f' a gave stood)
+    (store-of_order known o n past ms s s' f a stood renews.told_is) plans.config in
+    stands-order known o n past (commanded.Graceful (shape_by plan.config)) ms e.stop_ms s s' f f' a b (record { order = refl; line = refl; ending = refl })
+    begins.acts (ap (λ (x : State). is_serving x.going) begins.state) stood gave.commands
     (subst (λ (number : ℕ). IsDoneAt o number plan) (next-number many) (
       shape-of_order o (suc many) plan.config config,
-      site-of_order o (suc many) s'.told c.name.now c.config.now plan opened.name opened.config (store-of_order known o n ms s s' f a stood renews.told_is) plans,
+      site-of_order o (suc many) s'.told c.name.now c.config.now plan opened.name opened.config (store-of_order known o n past ms s s' f a stood renews.told_is) plans,
     ))
     (subst (λ (number : ℕ). HasTimeout o number e.stop_ms) (next-number many) (timeout-of_order o (suc many) e.stop_ms plan.config begins.stop config))
     (renewed-once s s' renews) where
@@ -212,20 +209,15 @@ pub carried-stands : HistoriesJoin → (known : Option KnownOutside) (c : NamedC
 carried-stands joins known c s s' a b plan e e' (inl begins) now renews plans = begun-stands joins known c e.stop_ms s s' a b plan e' begins now renews plans
 carried-stands joins known c s s' a b plan e e' (inr lacks) now renews plans =
     subst (λ (x : LoadedEdition). StandsBehind known c word.Graceful (λ f. standing e.stop_ms s f a) (λ f. standing x.stop_ms s' f b)) (sym lacks.same)
-    (λ f f' gave o n opened asked stood.
-    refused-stands joins known o n refusal.NoMemory e.stop_ms s s' f f' a b lacks.refuses gave now stood tt (renewed-once s s' renews))
+    (λ f f' gave o n past opened before stood.
+    refused-stands joins known o n past refusal.NoMemory e.stop_ms s s' f f' a b lacks.refuses gave now stood tt (renewed-once s s' renews))
 
 -- ## An order that could not be recorded
 
 pub unordered-breaks : (known : Option KnownOutside) (c : NamedConfig) (ms : ℕ) (s s' : StoreSeen) (a : SeenBook) → Renews s s'
     → BreaksBehind known c word.Graceful (λ f. standing ms s f a) (λ f. standing ms s' f a)
-unordered-breaks known c ms s s' a renews f f' gave = record {
-  left = word.Graceful ∷ [];
-  one = omega arith;
-  stands =
-      λ o n opened asked stood.
-      stands-unordered known o n ms s s' f f' a stood (graceful-read known o n ms s f f' a gave stood) (renewed-once s s' renews);
-}
+unordered-breaks known c ms s s' a renews f f' gave o n past opened before stood =
+    stands-unordered known o n past ms s s' f f' a stood gave.commands (renewed-once s s' renews)
 
 -- ## What is known, and what is served by
 
@@ -239,6 +231,13 @@ orders-acts c a b is acts =
     let counted : count_events is_order (one.0 ∷ []) ≡ 1 + 0 =
     sum_by-cons (λ (x : Entry). cond (is_order x.event) 1 0) one.0 [] ∙ ap (λ (test : Bool). cond test 1 0 + 0) (ap is_order one.2 ∙ is) in
     omega (arith, folded, whole, counted, counted-both is_order a.history (one.0 ∷ []))
+
+pub orders-refused : (reason : Refusal) (a b : SeenBook) → Refuses reason a b → orders_in b ≡ orders_in a + 1
+orders-refused reason a b refuses = orders-acts (commanded.Refused reason) a b refl refuses.acts
+
+pub orders-carried : (plan : Plan) (a b : SeenBook) (e e' : LoadedEdition) → Carries plan a b e e' → orders_in b ≡ orders_in a + 1
+orders-carried plan a b e e' (inl begins) = orders-acts (commanded.Graceful (shape_by plan.config)) a b refl begins.acts
+orders-carried plan a b e e' (inr lacks) = orders-refused refusal.NoMemory a b lacks.refuses
 
 pub knows-refused : (reason : Refusal) (known : Option KnownOutside) (c : NamedConfig) (s s' : StoreSeen) (a b : SeenBook) → Refuses reason a b → Renews s s'
     → KnowsComing known a c s.told → KnowsComing known b c s'.told
@@ -330,50 +329,88 @@ ends-by o edition moment ms s now has = by (config_at o edition) has where
 pub ending-stands : HistoriesJoin → (known : Option KnownOutside) (c : NamedConfig) (ms : ℕ) (s : StoreSeen) (f f' f'' : FrontSeen) (a b : SeenBook)
     → Acts 0 (event.Command (commanded.GracefulStop (ending_moment a.state.moment ms)) ∷ []) None a b → is_serving a.state.going ≡ true
     → is_serving b.state.going ≡ false → after a.base a.history ≡ a.state → Commands f f' (Some (command_word word.GracefulStop)) → SameLines f' f''
-    → StandsOn known c [] 0 (standing ms s f a) (standing ms s f'' b)
-ending-stands joins known c ms s f f' f'' a b acts serving ends now gave same o n opened asked stood =
+    → StandsOn known c 0 0 (standing ms s f a) (standing ms s f'' b)
+ending-stands joins known c ms s f f' f'' a b acts serving ends now gave same o n past opened before stood =
     let history = all_entries n a stood.folded in
     let until = ending_moment a.state.moment ms in
     let state : after (opened_by n) history ≡ a.state =
     state-behind (opened_by n) a.base a.state stood.folded.entries a.history (joins (opened_by n) stood.folded.entries a.history) stood.folded.base_is now in
-    let begun : has_ended history ≡ false = not-begun (has_ended history) (sym serving ∙ stood.ending) in
-    let read : HasReadLine history (word.GracefulStop ∷ []) f f' =
-    subst (λ (words : List CommandWord). HasReadLine history words f f') (asks-ending (has_ended history) begun)
-    (reads-line history (command_word word.GracefulStop) f f' gave stood.lines) in
     let done : EndsUntil o (newest_edition 0 0 history) (after (opened_by n) history) until =
     ends-by o (newest_edition 0 0 history) a.state.moment ms (after (opened_by n) history) (ap (λ (x : State). x.moment) state) stood.timeout in
-    stands-front known o n [] 0 ms s f' f'' b same
-    (stands-ending known o n (commanded.GracefulStop until) ms s f f' a b refl refl refl refl refl acts ends stood read done refl) where
-      not-begun : (begun : Bool) → true ≡ not begun → begun ≡ false
-      not-begun true is = absurd (cc is)
-      not-begun false is = refl
+    stands-front known o n past 0 0 ms s f' f'' b same
+    (stands-ending known o n past (commanded.GracefulStop until) ms s f f' a b refl refl refl refl acts ends stood gave.commands done refl)
 
 -- the line asks for nothing where the server takes none any more
-pub ended-stands : (known : Option KnownOutside) (c : NamedConfig) (ms : ℕ) (s : StoreSeen) (f f' : FrontSeen) (a : SeenBook) → is_serving a.state.going ≡ false
-    → Commands f f' (Some (command_word word.GracefulStop)) → StandsOn known c [] 0 (standing ms s f a) (standing ms s f' a)
-ended-stands known c ms s f f' a serving gave o n opened asked stood =
-    let history = all_entries n a stood.folded in
-    let begun : has_ended history ≡ true = was-begun (has_ended history) (sym serving ∙ stood.ending) in
-    stands-line known o n [] 0 ms s f f' a (omega arith) stood
-    (subst (λ (words : List CommandWord). HasReadLine history words f f') (asks-ended (has_ended history) begun)
-    (reads-line history (command_word word.GracefulStop) f f' gave stood.lines)) where
-      was-begun : (begun : Bool) → false ≡ not begun → begun ≡ true
-      was-begun true is = refl
-      was-begun false is = absurd (cc is)
+pub ended-stands : (known : Option KnownOutside) (c : NamedConfig) (ms : ℕ) (s : StoreSeen) (f f' : FrontSeen) (a : SeenBook)
+    → Commands f f' (Some (command_word word.GracefulStop)) → StandsOn known c 0 0 (standing ms s f a) (standing ms s f' a)
+ended-stands known c ms s f f' a gave o n past opened before stood =
+    stands-line known o n past 0 0 ms s f f' a (omega arith) stood gave.commands
 
 -- it could not be recorded
-pub unended-breaks : (known : Option KnownOutside) (c : NamedConfig) (ms : ℕ) (s : StoreSeen) (f f' : FrontSeen) (a : SeenBook) → is_serving a.state.going ≡ true
+pub unended-breaks : (known : Option KnownOutside) (c : NamedConfig) (ms : ℕ) (s : StoreSeen) (f f' : FrontSeen) (a : SeenBook)
     → Commands f f' (Some (command_word word.GracefulStop)) → StandsBroken known c (standing ms s f a) (standing ms s f' a)
-unended-breaks known c ms s f f' a serving gave = record {
-  left = word.GracefulStop ∷ [];
-  one = omega arith;
-  stands =
-      λ o n opened asked stood.
-      let history = all_entries n a stood.folded in
-      stands-line known o n (word.GracefulStop ∷ []) 0 ms s f f' a (omega arith) stood
-      (subst (λ (words : List CommandWord). HasReadLine history words f f') (asks-ending (has_ended history) (not-begun (has_ended history) (sym serving ∙ stood.ending)))
-      (reads-line history (command_word word.GracefulStop) f f' gave stood.lines));
-} where
-  not-begun : (begun : Bool) → true ≡ not begun → begun ≡ false
-  not-begun true is = absurd (cc is)
-  not-begun false is = refl
+unended-breaks known c ms s f f' a gave o n past opened before stood =
+    stands-line known o n past 1 0 ms s f f' a (omega arith) stood gave.commands
+
+-- ## What they bring, and when
+
+-- a restart that was refused
+pub makes-refused : (reason : Refusal) (a b : SeenBook) → Refuses reason a b → MakesOrders (word.Graceful ∷ []) a b
+makes-refused reason a b refuses = brought-as _ None a b _ refuses.acts refl
+
+-- a plan was carried out, or memory lacked
+pub makes-carried : (plan : Plan) (a b : SeenBook) (e e' : LoadedEdition) → Carries plan a b e e' → MakesOrders (word.Graceful ∷ []) a b
+makes-carried plan a b e e' (inl begins) = brought-as _ None a b _ begins.acts refl
+makes-carried plan a b e e' (inr lacks) = makes-refused refusal.NoMemory a b lacks.refuses
+
+-- the listener did so in its time, and stands in it then
+pub record OrdersInTime (a b : SeenBook) : Type 0 where
+  pub timely : StaysTimely a b
+  pub in_time : StandsInTime b.state
+
+-- a command that leaves how the server goes on
+in_time-command : (c : Commanded) (a b : SeenBook) → Acts 0 (event.Command c ∷ []) None a b → b.state ≡ next a.state (event.Command c)
+    → after a.base a.history ≡ a.state → (next a.state (event.Command c)).moment ≡ a.state.moment → (next a.state (event.Command c)).going ≡ a.state.going
+    → StandsInTime a.state → OrdersInTime a b
+in_time-command c a b acts is here moment going in_time = record {
+  timely = timely-command c a b acts here (not-at_end a.state in_time.staffed);
+  in_time =
+      still-in_time a.state b.state (ap (λ (s : State). s.moment) is ∙ moment) (ap (λ (s : State). s.going) is ∙ going)
+      (ap is_staffed is ∙ staffed-command a.state c in_time.staffed) in_time;
+}
+
+pub in_time-same : (a b : SeenBook) → b ≡ a → StandsInTime a.state → OrdersInTime a b
+in_time-same a b same in_time = subst (OrdersInTime a) (sym same) (record { timely = λ before. before; in_time = in_time })
+
+pub in_time-refused : (reason : Refusal) (a b : SeenBook) → Refuses reason a b → after a.base a.history ≡ a.state → StandsInTime a.state → OrdersInTime a b
+in_time-refused reason a b refuses here in_time =
+    in_time-command (commanded.Refused reason) a b refuses.acts refuses.state here refl refl in_time
+
+pub in_time-carried : (plan : Plan) (a b : SeenBook) (e e' : LoadedEdition) → Carries plan a b e e' → after a.base a.history ≡ a.state
+    → StandsInTime a.state → OrdersInTime a b
+in_time-carried plan a b e e' (inl begins) here in_time =
+    in_time-command (commanded.Graceful (shape_by plan.config)) a b begins.acts begins.state here refl refl in_time
+in_time-carried plan a b e e' (inr lacks) here in_time = in_time-refused refusal.NoMemory a b lacks.refuses here in_time
+
+-- a graceful stop that has just begun is out of time only where moments end
+just-begun : (moment ms : ℕ) → moment ≤ greatest_moment → is_over moment (Ending (ending_moment moment ms)) ≡ true → moment ≡ greatest_moment
+just-begun moment zero within over = absurd (cc over)
+just-begun moment (suc ms) within over =
+    let until : later moment (suc ms) ≤ moment = reached (later moment (suc ms)) moment over in
+    omega (arith, until, within)
+  where
+    reached : (until moment : ℕ) → nat_le until moment ≡ true → until ≤ moment
+    reached until moment is = grind (arith, nat_tests)
+
+pub in_time-ending : (ms : ℕ) (s : State) → s.moment ≤ greatest_moment → is_staffed s ≡ true
+    → StandsInTime (next s (event.Command (commanded.GracefulStop (ending_moment s.moment ms))))
+in_time-ending ms s within staffed = record {
+  within = λ over. just-begun s.moment ms within over;
+  staffed = staffed-command s (commanded.GracefulStop (ending_moment s.moment ms)) staffed;
+}
+
+-- the same of a call that answered so, or left all as it was
+pub in_time-either : {T : Type 0} {P : Type 0} (result : Result T BoardFault) (a b : SeenBook) → OnOk result P → (P → OrdersInTime a b) → OnErr result (b ≡ a)
+    → StandsInTime a.state → OrdersInTime a b
+in_time-either (Ok done) a b did then same in_time = then did
+in_time-either (Err fault) a b did then same in_time = in_time-same a b same in_time

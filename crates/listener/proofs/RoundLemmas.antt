@@ -11,12 +11,11 @@ use Rattle.board.specs.Faults.{IsRefusedFor}
 use Rattle.worker_group.specs.Acts.{Acts, ActsInSteps}
 use Rattle.worker_group.specs.Service.{left_events}
 use Rattle.rounds.specs.ClosingInside.{IsLateWay, LetsGo}
-use Rattle.listener.specs.RoundInside.{AllLeft, BreaksOff, DoesOrders, EndsRound, GoesRound, IsLeftAsWatched, Round, Intake, TakesSome, round_events, intake_events}
-use Rattle.rounds.specs.PartsInside.{LetsGoOfConns, PassesTime, RetiresSome, SignalsFirst, StartsAsAsked, StartsSome, gone_events, signal_events}
+use Rattle.listener.specs.RoundInside.{AllLeft, BreaksOff, DoesOrders, EndsRound, GoesRound, IsLeftAsWatched, Round, RoundEnds, Intake, TakesSome, round_events, intake_events}
+use Rattle.rounds.specs.PartsInside.{LetsGoOfConns, PassesTime, RetiresSome, SignalsFirst, StartsSome, gone_events, signal_events}
 use Rattle.rounds.specs.Moments.{known_slots, ticks_to}
-use Rattle.rounds.proofs.AskedLemmas.{AreStartless}
-use Rattle.listener.proofs.StartlessLemmas.{asked-silent, startless-departures, startless-gone, startless-orders, startless-readies, startless-retires, startless-takes, startless-time}
-use Rattle.rounds.proofs.ActLemmas.{acts-spelled}
+use Rattle.rounds.specs.declared.ends.End.TheVariants as end
+use Rattle.rounds.proofs.ActLemmas.{acts-spelled, retires-none, starts-none}
 
 -- ## Connections that are taken
 
@@ -65,17 +64,6 @@ lets-go-none steps b row = record {
   acts = steps.none 0 None b row;
 }
 
--- where each child was asked for that a part of them started
-asked-along : {es fs gs os hs ks : List Event} (a b c d e f h i : SeenBook) → Acts 0 es None a b → Acts 0 fs None b c → Acts 0 gs None c d → Acts 0 os None d e
-    → Acts 0 hs None e f → Acts 0 ks None h i → AreStartless es → AreStartless fs → AreStartless gs → AreStartless os → AreStartless hs → StartsAsAsked f h
-    → AreStartless ks → StartsAsAsked a i
-asked-along {es} {fs} {gs} {os} {hs} {ks} a b c d e f h i time signals lets does retires takes no_time no_signals no_lets no_orders no_retires started no_takes before =
-    asked-silent 0 ks None h i takes no_takes
-    (started
-    (asked-silent 0 hs None e f retires no_retires
-    (asked-silent 0 os None d e does no_orders
-    (asked-silent 0 gs None c d lets no_lets (asked-silent 0 fs None b c signals no_signals (asked-silent 0 es None a b time no_time before))))))
-
 -- the parts of a round
 pub goes-round : ActsInSteps → (to : ℕ) (slots : List ℕ) (a b c d e f h i : SeenBook) → PassesTime to a b → Acts 0 (signal_events b slots) None b c
     → LetsGoOfConns c d → DoesOrders d e → RetiresSome e f → StartsSome f h → TakesSome h i → GoesRound to slots a i
@@ -103,11 +91,6 @@ goes-round steps to slots a b c d e f h i time signals lets does retires starts 
       (steps.more 0 _ _ None None a e f
       (steps.more 0 _ _ None None a d e
       (steps.more 0 _ _ None None a c d (steps.more 0 _ _ None None a b c time.acts signals) lets.acts) does.acts) retires.acts) starts.acts) takes.acts;
-  asked =
-      asked-along a b c d e f h i time.acts signals lets.acts does.acts retires.acts takes.acts
-      (startless-time time.early (ticks_to a.state.moment to) time.late) (startless-readies (known_slots (length b.base.rows) slots))
-      (startless-departures lets.departures) (startless-orders does.orders) (startless-retires retires.children) starts.asked
-      (startless-takes takes.takes);
 }
 
 -- and of one that was broken off behind the time
@@ -138,12 +121,26 @@ breaks-behind steps fault to slots a b c d e f h i x time signals lets does reti
       (steps.more 0 _ _ None None a e f
       (steps.more 0 _ _ None None a d e
       (steps.more 0 _ _ None None a c d (steps.more 0 _ _ None None a b c time.acts signals.acts) lets.acts) does.acts) retires.acts) starts.acts) takes.acts;
-  asked =
-      asked-along a b c d e f h i time.acts signals.acts lets.acts does.acts retires.acts takes.acts
-      (startless-time time.early (ticks_to a.state.moment to) time.late) (startless-readies signals.first) (startless-departures lets.departures)
-      (startless-orders does.orders) (startless-retires retires.children) starts.asked (startless-takes takes.takes);
   last = last;
 }
+
+-- a round that ends behind a command line
+pub ends-asked : ActsInSteps → (to : ℕ) (slots : List ℕ) (a b c d e : SeenBook) → PassesTime to a b → Acts 0 (signal_events b slots) None b c
+    → LetsGoOfConns c d → DoesOrders d e → RoundEnds (Some end.Asked) to slots a e
+ends-asked steps to slots a b c d e time signals lets does =
+    let row = does.acts.row in (
+      goes-round steps to slots a b c d e e e e time signals lets does (retires-none steps e row) (starts-none steps e row) (takes-none steps e row),
+      record { retired = refl; starts = refl; takes = refl },
+    )
+
+-- and one that ends once children were let go of
+pub ends-gone : ActsInSteps → (to : ℕ) (slots : List ℕ) (a b c d e f : SeenBook) → PassesTime to a b → Acts 0 (signal_events b slots) None b c
+    → LetsGoOfConns c d → DoesOrders d e → RetiresSome e f → RoundEnds (Some end.Gone) to slots a f
+ends-gone steps to slots a b c d e f time signals lets does retires =
+    let row = retires.acts.row in (
+      goes-round steps to slots a b c d e f f f time signals lets does retires (starts-none steps f row) (takes-none steps f row),
+      record { starts = refl; takes = refl },
+    )
 
 -- where a call was refused, and nothing was done then
 pub ends-idle : (fault : BoardFault) (b : SeenBook) → IsRefusedFor fault b → EndsRound fault b b
@@ -172,7 +169,6 @@ breaks-early fault to slots a b early why =
       left = tt;
       book = b;
       acts = acts-spelled _ (round_events only) a b early.acts (simp append-nil);
-      asked = asked-silent 0 (gone_events early.gone) None a b early.acts (startless-gone early.gone);
       last = ends-idle fault b why;
     }
 

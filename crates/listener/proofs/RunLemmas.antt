@@ -2,7 +2,7 @@
 use Rattle.std.proofs.Common.{◌≡◌, ℕ, ◌≤◌, ◌+◌, ◌<◌, min, Bool, true, false, ◌||◌, cond, List, [], ◌∷◌, ◌++◌, length, map, count_by, Option, None, Some, IfSome, refl, sym, ap, subst, ◌∙◌, arith, ◌⊎◌, inl, inr}
 use Rattle.std.proofs.lemmas.Bool.{cases_order}
 use Rattle.std.proofs.lemmas.List.{append-nil}
-use Rattle.std.proofs.lemmas.List.Sums.{sum_by-append, sum_by-cons}
+use Rattle.std.proofs.lemmas.List.Sums.{sum_by-cons}
 use Rattle.std.specs.List.{list_any}
 use Rattle.mpm_base.specs.Count.{greatest_count}
 use Rattle.mpm_base.specs.Front.{client_at}
@@ -24,7 +24,7 @@ use Rattle.board.specs.Book.{SeenBook, folded_book}
 use Rattle.board.specs.Board.{SeenBoard, Agrees, AreEnded, EndedOfOutside}
 use Rattle.board.specs.Ranks.{AllTell, has_rank}
 use Rattle.board.specs.ReportLine.{line_of}
-use Rattle.listener.specs.Links.{EndsLinks}
+use Rattle.listener.specs.Links.{EndsEachOnce, EndsLinks}
 use Rattle.listener.specs.Tells.{Receives, AllReceive}
 use Rattle.listener.specs.Commands.{TellsStop}
 use Rattle.listener.specs.FirstNumbers.{opened_by}
@@ -32,24 +32,24 @@ use Rattle.listener.specs.declared.run_numbers.RunNumbers.{RunNumbers}
 use Rattle.listener.specs.Listen.{HasClosedAll, HasFolded, IsRunFrom}
 use Rattle.rounds.specs.ClosedDown.{HasNoLive, IsClosedDown}
 use Rattle.listener.specs.ListenInside.{clients_known}
-use Rattle.rounds.specs.Started.{AreAskedFor}
-use Rattle.listener.proofs.FoldedRunLemmas.{WholeRun}
+use Rattle.rounds.specs.Timely.{AreTimely}
+use Rattle.listener.specs.Served.{all_ended, whole_book}
 
 -- ## The history
 
 -- the history of a board is a run from the state before it, each state of which is sound
-pub run-from : (n : RunNumbers) (b : SeenBoard) → AreOfPasses n.passes b.book.history → AreAskedFor b.book.base b.book.history
+pub run-from : (n : RunNumbers) (b : SeenBoard) → AreOfPasses n.passes b.book.history → AreTimely b.book.base b.book.history
     → ((s : State) (history : List Entry) → IsSound s → Run s history → StaysSound s history)
     → Run b.book.base b.book.history → IsInPassOrderFrom b.book.folded b.book.history → AreMade b.book.base b.book.folded b.book.history
     → EachHasItsOwn b.book.base (first_row b.book.folded) → after b.book.base b.book.history ≡ b.book.state → IsSound b.book.base
     → TellsStop b.book → Agrees b → IsRunFrom n b
-run-from n b few asked law run order made own state sound stop agrees = record {
+run-from n b few timely law run order made own state sound stop agrees = record {
   run = run;
   order = order;
   made = made;
   own = own;
   few = few;
-  asked = asked;
+  timely = timely;
   state = state;
   stays_sound = law b.book.base b.book.history sound run;
   stop = stop;
@@ -145,44 +145,53 @@ at-most-one number bound count below above = by (cases_order number bound) where
   by (inr (inl lower)) = omega (arith, below lower)
   by (inr (inr higher)) = omega (arith, above (omega (arith, higher)))
 
--- no more of the last ones pass a test than of all
-fewer-last : (test : SeenEnded → Bool) (all before ended : List SeenEnded) → all ≡ before ++ ended → count_by test ended ≤ count_by test all
-fewer-last test all before ended is =
-    let both = sum_by-append (λ (e : SeenEnded). cond (test e) 1 0) before ended in
-    omega (arith, ap (count_by test) is, both)
-
--- where no connection is live their links are, each once, links that the table took, and with those that were folded as many
-pub ends-links : (known : Option KnownOutside) (clients : List (List ℕ)) (n : RunNumbers) (b : SeenBoard) → clients_known known ≡ Some clients
-    → (run : WholeRun known n b)
-    → ((number : ℕ) → AllTell run.whole.ended → list_any is_live (after (opened_by n) run.whole.entries).rows ≡ false
-    → (after (opened_by n) run.whole.entries).accepted < greatest_count → number < (after (opened_by n) run.whole.entries).accepted
-    → count_by (has_rank number) run.whole.ended ≡ 1)
-    → ((number : ℕ) → AllTell run.whole.ended → (after (opened_by n) run.whole.entries).accepted < greatest_count
-    → (after (opened_by n) run.whole.entries).accepted ≤ number → count_by (has_rank number) run.whole.ended ≡ 0)
-    → (after (opened_by n) run.whole.entries).accepted ≡ min (count_events is_accept run.whole.entries) greatest_count
-    → after b.book.base b.book.history ≡ b.book.state → EndedOfOutside known b.book b.ended → HasClosedAll b → EndsLinks b
-ends-links known clients n b knows run once no_other counted state outside closed few =
-    let whole = run.whole in
-    let all_tell : AllTell whole.ended =
-    subst AllTell (sym run.ended_is)
-    (tell-both run.before b.ended (known-tell known clients run.book run.before knows run.outside) (known-tell known clients b.book b.ended knows outside)) in
+-- where no connection is live their links are, each once, links that the table took, and as many
+pub ends-links : (known : Option KnownOutside) (clients : List (List ℕ)) (n : RunNumbers) (b : SeenBoard) (before : HasFolded n b.book)
+    → EndedOfOutside known (whole_book n before.entries) before.ended → clients_known known ≡ Some clients
+    → (whole : HasFolded n (folded_book (map line_of b.ended) b.book)) → whole.ended ≡ all_ended n b before
+    → ((number : ℕ) → AllTell whole.ended → list_any is_live (after (opened_by n) whole.entries).rows ≡ false
+    → (after (opened_by n) whole.entries).accepted < greatest_count → number < (after (opened_by n) whole.entries).accepted
+    → count_by (has_rank number) whole.ended ≡ 1)
+    → ((number : ℕ) → AllTell whole.ended → (after (opened_by n) whole.entries).accepted < greatest_count
+    → (after (opened_by n) whole.entries).accepted ≤ number → count_by (has_rank number) whole.ended ≡ 0)
+    → (after (opened_by n) whole.entries).accepted ≡ min (count_events is_accept whole.entries) greatest_count
+    → length whole.ended ≡ count_events is_close whole.entries
+    → count_events is_accept whole.entries ≡ count_events is_close whole.entries + count_by is_live (after (opened_by n) whole.entries).rows
+    → after b.book.base b.book.history ≡ b.book.state → EndedOfOutside known b.book b.ended → IsClosedDown b.book.state
+    → EndsLinks b.book.state (all_ended n b before)
+ends-links known clients n b before folded knows whole ended_is once no_other counted many closed_or_live state outside down few =
+    let tell : AllTell whole.ended =
+    subst AllTell (sym ended_is)
+    (tell-both before.ended b.ended (known-tell known clients (whole_book n before.entries) before.ended knows folded)
+    (known-tell known clients b.book b.ended knows outside)) in
     let same : b.book.state ≡ after (opened_by n) whole.entries = sym state ∙ whole.base_is in
     let accepted : b.book.state.accepted ≡ (after (opened_by n) whole.entries).accepted = ap (λ (s : State). s.accepted) same in
     let few' : (after (opened_by n) whole.entries).accepted < greatest_count = omega (arith, few, accepted) in
-    let live = subst HasNoLive same closed.down.live in
-    let fewer : (number : ℕ) → count_by (has_rank number) b.ended ≤ count_by (has_rank number) whole.ended =
-    λ number. fewer-last (has_rank number) whole.ended run.before b.ended run.ended_is in
-    let none : (number : ℕ) → b.book.state.accepted ≤ number → count_by (has_rank number) whole.ended ≡ 0 =
-    λ number above. no_other number all_tell few' (omega (arith, above, accepted)) in
+    let live : list_any is_live (after (opened_by n) whole.entries).rows ≡ false = subst HasNoLive same down.live in
+    let none = none-counted (after (opened_by n) whole.entries).rows live in
+    let above : (number : ℕ) → b.book.state.accepted ≤ number → count_by (has_rank number) whole.ended ≡ 0 =
+    λ number beyond. no_other number tell few' (omega (arith, beyond, accepted)) in
     let one : (number : ℕ) → number < b.book.state.accepted → count_by (has_rank number) whole.ended ≡ 1 =
-    λ number below. once number all_tell live few' (omega (arith, below, accepted)) in
-    let taken : b.book.folded.accepted + count_events is_accept b.book.history ≡ 0 + count_events is_accept whole.entries =
-    ap (λ (f : Folded). f.accepted) whole.record_is in
+    λ number below. once number tell live few' (omega (arith, below, accepted)) in
+    let all : EndsEachOnce b.book.state whole.ended =
     record {
-      tell = known-tell known clients b.book b.ended knows outside;
-      once =
-          λ number. let at_most = at-most-one number b.book.state.accepted (count_by (has_rank number) whole.ended) (one number) (none number) in
-          omega (arith, at_most, fewer number);
-      taken = λ number above. omega (arith, none number above, fewer number);
-      as_many = omega (arith, closed.ended, taken, counted, few', accepted);
-    }
+      tell = tell;
+      once = λ number. at-most-one number b.book.state.accepted (count_by (has_rank number) whole.ended) (one number) (above number);
+      taken = above;
+      as_many = omega (arith, many, closed_or_live, none, counted, few', accepted);
+    } in
+    subst (EndsEachOnce b.book.state) ended_is all
+
+-- what those received that were folded, and those that are kept
+receive-both : (clients : List (List ℕ)) (ended ended' : List SeenEnded) → AllReceive clients ended → AllReceive clients ended'
+    → AllReceive clients (ended ++ ended')
+receive-both clients [] ended' first second = second
+receive-both clients (e ∷ ended) ended' first second = (first.0, receive-both clients ended ended' first.1 second)
+
+pub all-received : (known : Option KnownOutside) (clients : List (List ℕ)) (n : RunNumbers) (b : SeenBoard) (before : HasFolded n b.book)
+    → EndedOfOutside known (whole_book n before.entries) before.ended → clients_known known ≡ Some clients → AreEnded b.ended
+    → EndedOfOutside known b.book b.ended → AllReceive clients (all_ended n b before)
+all-received known clients n b before folded knows are outside =
+    receive-both clients before.ended b.ended
+    (known-receive known clients (whole_book n before.entries) before.ended knows before.answered folded)
+    (known-receive known clients b.book b.ended knows are outside)

@@ -1,16 +1,14 @@
 -- How a run stands where its history goes on by entries none of which is a command, and its front reads no line.
 use Rattle.std.proofs.Common.{◌≡◌, inl, inr, ◌≤◌, ◌+◌, ℕ, Bool, true, false, not, ◌||◌, cond, List, [], ◌∷◌, ◌++◌, length, take, Option, None, Some, IfSome, option_map, refl, sym, ap, subst, ◌∙◌, append-nil, append_assoc, arith}
 use Rattle.std.proofs.lemmas.Grind.{flat_map-append}
-use Rattle.std.proofs.lemmas.List.{take-append-le}
 use Rattle.std.proofs.lemmas.List.Folds.{list_any-append}
 use Rattle.std.proofs.lemmas.List.Sums.{sum_by-append, sum_by-cons}
 use Rattle.std.specs.List.{flat_map, list_any}
 use Rattle.mpm_base.specs.Count.{NeverFalls}
-use Rattle.mpm_base.specs.Front.{FrontSeen, FrontTold, GoesForward, TellsOn, Waits, after_hush, hushed_front}
+use Rattle.mpm_base.specs.Front.{FrontSeen, Waits, after_hush}
 use Rattle.mpm_base.specs.declared.front.Woke.{Woke}
 use Rattle.mpm_base.specs.Store.{StoreSeen}
 use Rattle.mpm_base.specs.declared.conn.ConnName.{ConnName}
-use Rattle.mpm_base.specs.declared.script_line.CommandWord.{CommandWord}
 use Rattle.conn_machine.specs.declared.event.Commanded.{Commanded}
 use Rattle.conn_machine.specs.declared.event.Entry.{Entry}
 use Rattle.conn_machine.specs.declared.event.Event.{Event}
@@ -24,15 +22,15 @@ use Rattle.conn_state.specs.Known.{KnownOutside}
 use Rattle.board.specs.Board.{EndedOfOutside}
 use Rattle.board.specs.Book.{SeenBook}
 use Rattle.worker_group.specs.Acts.{Acts}
-use Rattle.listener.specs.Commands.{asked_by, done_by, done_in, is_by_line, is_graceful_stop, lines_read}
+use Rattle.listener.specs.Commands.{is_by_line, is_graceful_stop}
 use Rattle.listener.specs.FirstNumbers.{opened_by}
 use Rattle.listener.specs.Generations.{Opening}
 use Rattle.listener.specs.Listen.{HasFolded}
-use Rattle.listener.specs.ListenInside.{Follows, HasNoneToHeed, OnlyTakes}
+use Rattle.listener.specs.ListenInside.{Follows}
 use Rattle.listener.specs.Orders.{AreOrdered, IsOrdered, edition_with, orders_with}
-use Rattle.rounds.specs.PartsInside.{StartsAsAsked}
+use Rattle.rounds.specs.PartsInside.{StaysTimely}
 use Rattle.listener.specs.Served.{all_entries, whole_book}
-use Rattle.listener.specs.StandingInside.{DoesAllBut, HasDone, HasTimeout, LeavesLast, Standing, StandsBroken, StandsOn, StandsSo, newest_edition}
+use Rattle.listener.specs.StandingInside.{HasTimeout, Past, Standing, StandsBroken, StandsOn, StandsSo, newest_edition}
 use Rattle.listener.specs.Stores.{IsRenewed, RisesBy, is_store_refusal}
 use Rattle.listener.specs.declared.edition.NamedConfig.{NamedConfig}
 use Rattle.listener.specs.declared.run_numbers.RunNumbers.{RunNumbers}
@@ -70,9 +68,6 @@ ordered-both o orders edition s [] b first second = second
 ordered-both o orders edition s (e ∷ a) b first second =
     (first.0, ordered-both o (orders_with e.event orders) (edition_with e.event orders edition) (next s e.event) a b first.1 second)
 
-pub done-both : (a b : List Entry) → done_by (a ++ b) ≡ done_by a ++ done_by b
-done-both a b = flat_map-append (λ (e : Entry). done_in e.event) a b
-
 pub counted-both : (test : Event → Bool) (a b : List Entry) → count_events test (a ++ b) ≡ count_events test a + count_events test b
 counted-both test a b = sum_by-append (λ (e : Entry). cond (test e.event) 1 0) a b
 
@@ -86,22 +81,21 @@ record IsPlain (e : Event) : Type 0 where
   line : is_by_line e ≡ false
   refusal : is_store_refusal e ≡ false
   ending : is_graceful_stop e ≡ false
-  done : done_in e ≡ []
 
 plain-event : (e : Event) (rest : List Commanded) → commands_in e ++ rest ≡ [] → IsPlain e × (rest ≡ [])
-plain-event (event.Accept slot) rest none = (record { ordered = λ o orders edition s. tt; begins = refl; order = refl; line = refl; refusal = refl; ending = refl; done = refl }, none)
-plain-event (event.Park name kind) rest none = (record { ordered = λ o orders edition s. tt; begins = refl; order = refl; line = refl; refusal = refl; ending = refl; done = refl }, none)
-plain-event (event.Hold name) rest none = (record { ordered = λ o orders edition s. tt; begins = refl; order = refl; line = refl; refusal = refl; ending = refl; done = refl }, none)
-plain-event (event.Queue name) rest none = (record { ordered = λ o orders edition s. tt; begins = refl; order = refl; line = refl; refusal = refl; ending = refl; done = refl }, none)
-plain-event (event.Start name) rest none = (record { ordered = λ o orders edition s. tt; begins = refl; order = refl; line = refl; refusal = refl; ending = refl; done = refl }, none)
-plain-event (event.Answer name ask) rest none = (record { ordered = λ o orders edition s. tt; begins = refl; order = refl; line = refl; refusal = refl; ending = refl; done = refl }, none)
-plain-event (event.Linger name cause) rest none = (record { ordered = λ o orders edition s. tt; begins = refl; order = refl; line = refl; refusal = refl; ending = refl; done = refl }, none)
-plain-event (event.Close name cause tail) rest none = (record { ordered = λ o orders edition s. tt; begins = refl; order = refl; line = refl; refusal = refl; ending = refl; done = refl }, none)
-plain-event (event.Ready slot) rest none = (record { ordered = λ o orders edition s. tt; begins = refl; order = refl; line = refl; refusal = refl; ending = refl; done = refl }, none)
-plain-event (event.Tick m) rest none = (record { ordered = λ o orders edition s. tt; begins = refl; order = refl; line = refl; refusal = refl; ending = refl; done = refl }, none)
-plain-event (event.StartChild k) rest none = (record { ordered = λ o orders edition s. tt; begins = refl; order = refl; line = refl; refusal = refl; ending = refl; done = refl }, none)
+plain-event (event.Accept slot) rest none = (record { ordered = λ o orders edition s. tt; begins = refl; order = refl; line = refl; refusal = refl; ending = refl }, none)
+plain-event (event.Park name kind) rest none = (record { ordered = λ o orders edition s. tt; begins = refl; order = refl; line = refl; refusal = refl; ending = refl }, none)
+plain-event (event.Hold name) rest none = (record { ordered = λ o orders edition s. tt; begins = refl; order = refl; line = refl; refusal = refl; ending = refl }, none)
+plain-event (event.Queue name) rest none = (record { ordered = λ o orders edition s. tt; begins = refl; order = refl; line = refl; refusal = refl; ending = refl }, none)
+plain-event (event.Start name) rest none = (record { ordered = λ o orders edition s. tt; begins = refl; order = refl; line = refl; refusal = refl; ending = refl }, none)
+plain-event (event.Answer name ask) rest none = (record { ordered = λ o orders edition s. tt; begins = refl; order = refl; line = refl; refusal = refl; ending = refl }, none)
+plain-event (event.Linger name cause) rest none = (record { ordered = λ o orders edition s. tt; begins = refl; order = refl; line = refl; refusal = refl; ending = refl }, none)
+plain-event (event.Close name cause tail) rest none = (record { ordered = λ o orders edition s. tt; begins = refl; order = refl; line = refl; refusal = refl; ending = refl }, none)
+plain-event (event.Ready slot) rest none = (record { ordered = λ o orders edition s. tt; begins = refl; order = refl; line = refl; refusal = refl; ending = refl }, none)
+plain-event (event.Tick m) rest none = (record { ordered = λ o orders edition s. tt; begins = refl; order = refl; line = refl; refusal = refl; ending = refl }, none)
+plain-event (event.StartChild k) rest none = (record { ordered = λ o orders edition s. tt; begins = refl; order = refl; line = refl; refusal = refl; ending = refl }, none)
 plain-event (event.Command c) rest none = absurd (cc none)
-plain-event (event.Retire k) rest none = (record { ordered = λ o orders edition s. tt; begins = refl; order = refl; line = refl; refusal = refl; ending = refl; done = refl }, none)
+plain-event (event.Retire k) rest none = (record { ordered = λ o orders edition s. tt; begins = refl; order = refl; line = refl; refusal = refl; ending = refl }, none)
 
 -- each entry has such an event
 abbrev ArePlain : List Entry → Type 0
@@ -125,10 +119,6 @@ plain-newest orders edition (e ∷ entries) plain =
     plain-newest (orders_with e.event orders) (edition_with e.event orders edition) entries plain.1
     ∙ ap (λ (b : Bool). cond b (orders + 1) edition) plain.0.begins
 
-plain-done : (entries : List Entry) → ArePlain entries → done_by entries ≡ []
-plain-done [] plain = refl
-plain-done (e ∷ entries) plain = ap (λ (xs : List CommandWord). xs ++ done_by entries) plain.0.done ∙ plain-done entries plain.1
-
 -- none of them passes a test that none such passes
 plain-counted : (test : Event → Bool) → ((e : Event) → IsPlain e → test e ≡ false) → (entries : List Entry) → ArePlain entries → count_events test entries ≡ 0
 plain-counted test fails [] plain = refl
@@ -148,7 +138,6 @@ plain-any test fails (e ∷ entries) plain = rw (fails e.event plain.0) (plain-a
 pub record KeepsPast (o : Opening) (s : State) (old new : List Entry) : Type 0 where
   pub ordered : AreOrdered o 0 0 s old → AreOrdered o 0 0 s new
   pub newest : newest_edition 0 0 new ≡ newest_edition 0 0 old
-  pub done : done_by new ≡ done_by old
   pub given : count_events is_by_line new ≡ count_events is_by_line old
   pub ending : list_any (λ (e : Entry). is_graceful_stop e.event) new ≡ list_any (λ (e : Entry). is_graceful_stop e.event) old
   pub orders : count_events is_order new ≡ count_events is_order old
@@ -166,7 +155,6 @@ keeps-plain o s history more none =
     record {
       ordered = λ before. ordered-both o 0 0 s history more before (plain-ordered o _ _ (after s history) more plain);
       newest = newest-both 0 0 history more ∙ plain-newest _ _ more plain;
-      done = done-both history more ∙ ap (λ (xs : List CommandWord). done_by history ++ xs) (plain-done more plain) ∙ append-nil (done_by history);
       given = counted is_by_line (λ e p. p.line);
       ending =
           list_any-append (λ (e : Entry). is_graceful_stop e.event) history more
@@ -177,33 +165,9 @@ keeps-plain o s history more none =
 
 -- ## The front
 
--- the same lines were read
-pub record ReadsAlike (t t' : FrontTold) : Type 0 where
-  pub read : t'.read ≡ t.read
-  pub lines : lines_read t' ≡ lines_read t
-
--- the front tells of the same lines, and counts no fewer
-pub record SameLines (old new : FrontSeen) : Type 0 where
-  pub told : TellsOn ReadsAlike old.told new.told
-  pub commands : NeverFalls old.counts.commands new.counts.commands
-
-leaves-kept : (left : List CommandWord) (old new : List Entry) (t t' : FrontTold) → done_by new ≡ done_by old → ReadsAlike t t' → LeavesLast left old t
-    → LeavesLast left new t'
-leaves-kept [] old new t t' done alike last = tt
-leaves-kept (word ∷ left) old new t t' done alike last =
-    record { before = last.before; line = last.line; lines_are = alike.lines ∙ last.lines_are; done = last.done ∙ sym done }
-
-pub lines-kept : (left : List CommandWord) (old new : List Entry) (told told' : Option FrontTold) → done_by new ≡ done_by old → TellsOn ReadsAlike told told'
-    → IfSome told (DoesAllBut left old) → IfSome told' (DoesAllBut left new)
-lines-kept left old new None told' done alike does = subst (λ (x : Option FrontTold). IfSome x (DoesAllBut left new)) (sym alike) tt
-lines-kept left old new (Some t) told' done alike does =
-    subst (λ (x : Option FrontTold). IfSome x (DoesAllBut left new)) (sym alike.1)
-    (λ few.
-    let before : HasDone left old t = does (omega (arith, few, alike.2.read)) in
-    record {
-      does = ap (asked_by false) alike.2.lines ∙ before.does ∙ ap (λ (xs : List CommandWord). xs ++ left) (sym done);
-      last = leaves-kept left old new t alike.0 done alike.2 before.last;
-    })
+-- the front counts no fewer lines
+abbrev pub SameLines : FrontSeen → FrontSeen → Type 0
+SameLines old new = NeverFalls old.counts.commands new.counts.commands
 
 -- ## Counts
 
@@ -231,23 +195,24 @@ renewed-kept renewals old new first last last' refusals same is =
     subst (IsRenewed renewals new first) (sym same)
     (record { told = is.told; failed = subst (λ (n : ℕ). RisesBy n first.counts.faults last.counts.faults) (sym refusals) is.failed })
 
-pub stands-past : (known : Option KnownOutside) (o : Opening) (n : RunNumbers) (left : List CommandWord) (owed : ℕ) (old new : Standing)
-    (stood : StandsSo known o n left owed old) (folded : HasFolded n new.book) → EndedOfOutside known (whole_book n folded.entries) folded.ended
+pub stands-past : (known : Option KnownOutside) (o : Opening) (n : RunNumbers) (past later : Past) (spare owed : ℕ) (old new : Standing)
+    (stood : StandsSo known o n past spare owed old) (folded : HasFolded n new.book) → later ≡ record { entries = folded.entries; ended = folded.ended }
+    → EndedOfOutside known (whole_book n folded.entries) folded.ended
     → KeepsPast o (opened_by n) (all_entries n old.book stood.folded) (all_entries n new.book folded) → SameRest old new
-    → StandsSo known o n left owed new
-stands-past known o n left owed old new stood folded outside keeps same =
+    → StandsSo known o n later spare owed new
+stands-past known o n past later spare owed old new stood folded past_is outside keeps same =
     let entries = all_entries n old.book stood.folded in
     let entries' = all_entries n new.book folded in
     record {
       passes = same.passes ∙ stood.passes;
       folded = folded;
+      past_is = past_is;
       outside = outside;
       ordered = keeps.ordered stood.ordered;
       timeout = stop-kept o _ _ old.stop_ms new.stop_ms keeps.newest same.stop stood.timeout;
-      lines = lines-kept left entries entries' old.front.told new.front.told keeps.done same.front.told stood.lines;
       given =
           rises-more _ _ o.front.counts.commands old.front.counts.commands new.front.counts.commands
-          (ap (λ (n : ℕ). n + owed) keeps.given) same.front.commands stood.given;
+          (ap (λ (n : ℕ). n + owed) keeps.given) same.front stood.given;
       ending = same.serving ∙ stood.ending ∙ ap not (sym keeps.ending);
       renewals = stood.renewals;
       each = omega (arith, keeps.orders, stood.each);
@@ -262,7 +227,7 @@ folded-acts who es has n a b acts f = record {
   ended = f.ended;
   made = f.made;
   few = f.few;
-  asked = f.asked;
+  timely = f.timely;
   base_is = acts.base ∙ f.base_is;
   record_is = acts.folded ∙ f.record_is;
   closed = f.closed;
@@ -276,88 +241,72 @@ entries-acts who es has a b acts before =
     ap (λ (xs : List Entry). before ++ xs) acts.entries.1 ∙ sym (append_assoc before a.history acts.entries.0)
 
 -- behind what a pass did, none of which is a command
-pub stands-acts : (known : Option KnownOutside) (o : Opening) (n : RunNumbers) (left : List CommandWord) (owed : ℕ) (who : ℕ) (es : List Event)
+pub stands-acts : (known : Option KnownOutside) (o : Opening) (n : RunNumbers) (past : Past) (spare owed : ℕ) (who : ℕ) (es : List Event)
     (has : Option ConnName) (old new : Standing) (acts : Acts who es has old.book new.book) → AreCommandless (events_in acts.entries.0)
-    → SameRest old new → StandsSo known o n left owed old → StandsSo known o n left owed new
-stands-acts known o n left owed who es has old new acts none same stood =
+    → SameRest old new → StandsSo known o n past spare owed old → StandsSo known o n past spare owed new
+stands-acts known o n past spare owed who es has old new acts none same stood =
     let folded = folded-acts who es has n old.book new.book acts stood.folded in
     let history = all_entries n old.book stood.folded in
-    stands-past known o n left owed old new stood folded stood.outside
+    stands-past known o n past past spare owed old new stood folded stood.past_is stood.outside
     (subst (KeepsPast o (opened_by n) history) (sym (entries-acts who es has old.book new.book acts stood.folded.entries))
     (keeps-plain o (opened_by n) history acts.entries.0 none)) same
 
 -- ## One thing behind the other
 
 -- what goes on behind what went on goes on
-pub stands-more : (known : Option KnownOutside) (cfg : NamedConfig) (left : List CommandWord) (owed : ℕ) (a b c : Standing) → StandsOn known cfg [] 0 a b
-    → StartsAsAsked a.book b.book → StandsOn known cfg left owed b c → StandsOn known cfg left owed a c
-stands-more known cfg left owed a b c first asks second o n opened asked stood = second o n opened (asks asked) (first o n opened asked stood)
+pub stands-more : (known : Option KnownOutside) (cfg : NamedConfig) (spare owed : ℕ) (a b c : Standing) → StandsOn known cfg 0 0 a b
+    → StaysTimely a.book b.book → StandsOn known cfg spare owed b c → StandsOn known cfg spare owed a c
+stands-more known cfg spare owed a b c first timely second o n past opened before stood =
+    second o n past opened (timely before) (first o n past opened before stood)
 
 -- and stays so behind what changes nothing
-pub stands-before : (known : Option KnownOutside) (cfg : NamedConfig) (left : List CommandWord) (owed : ℕ) (a b c : Standing) → StandsOn known cfg left owed a b
-    → ((o : Opening) (n : RunNumbers) → StandsSo known o n left owed b → StandsSo known o n left owed c) → StandsOn known cfg left owed a c
-stands-before known cfg left owed a b c first second o n opened asked stood = second o n (first o n opened asked stood)
+pub stands-before : (known : Option KnownOutside) (cfg : NamedConfig) (spare owed : ℕ) (a b c : Standing) → StandsOn known cfg spare owed a b
+    → ((o : Opening) (n : RunNumbers) (past : Past) → StandsSo known o n past spare owed b → StandsSo known o n past spare owed c) → StandsOn known cfg spare owed a c
+stands-before known cfg spare owed a b c first second o n past opened before stood = second o n past (first o n past opened before stood)
 
-pub broken-behind : (known : Option KnownOutside) (cfg : NamedConfig) (a b c : Standing) → StandsOn known cfg [] 0 a b → StartsAsAsked a.book b.book
+pub broken-behind : (known : Option KnownOutside) (cfg : NamedConfig) (a b c : Standing) → StandsOn known cfg 0 0 a b → StaysTimely a.book b.book
     → StandsBroken known cfg b c → StandsBroken known cfg a c
-broken-behind known cfg a b c first asks broken =
-    record { left = broken.left; one = broken.one; stands = stands-more known cfg broken.left 0 a b c first asks broken.stands }
+broken-behind known cfg a b c first timely broken = stands-more known cfg 1 0 a b c first timely broken
 
--- where nothing is left either, it is broken off so
-pub broken-none : (known : Option KnownOutside) (cfg : NamedConfig) (a b : Standing) → StandsOn known cfg [] 0 a b → StandsBroken known cfg a b
-broken-none known cfg a b stands = record { left = []; one = omega arith; stands = stands }
+-- where the store was renewed no more than at each order, it was once more at most
+pub so-broken : (known : Option KnownOutside) (o : Opening) (n : RunNumbers) (past : Past) (s : Standing) → StandsSo known o n past 0 0 s → StandsSo known o n past 1 0 s
+so-broken known o n past s stood = record {
+  passes = stood.passes;
+  folded = stood.folded;
+  past_is = stood.past_is;
+  outside = stood.outside;
+  ordered = stood.ordered;
+  timeout = stood.timeout;
+  given = stood.given;
+  ending = stood.ending;
+  renewals = stood.renewals;
+  each = stood.each;
+  no_more = omega (arith, stood.no_more);
+  store = stood.store;
+}
+
+pub broken-none : (known : Option KnownOutside) (cfg : NamedConfig) (a b : Standing) → StandsOn known cfg 0 0 a b → StandsBroken known cfg a b
+broken-none known cfg a b stands o n past opened before stood = so-broken known o n past b (stands o n past opened before stood)
 
 -- what a pass did, none of which is a command
 pub acts-stand : (known : Option KnownOutside) (cfg : NamedConfig) (who : ℕ) (es : List Event) (has : Option ConnName) (old new : Standing)
-    (acts : Acts who es has old.book new.book) → AreCommandless (events_in acts.entries.0) → SameRest old new → StandsOn known cfg [] 0 old new
-acts-stand known cfg who es has old new acts none same o n opened asked stood = stands-acts known o n [] 0 who es has old new acts none same stood
+    (acts : Acts who es has old.book new.book) → AreCommandless (events_in acts.entries.0) → SameRest old new → StandsOn known cfg 0 0 old new
+acts-stand known cfg who es has old new acts none same o n past opened before stood = stands-acts known o n past 0 0 who es has old new acts none same stood
 
--- ## Fronts that read no line
+-- ## Fronts that give no line
 
 pub same-lines : (f : FrontSeen) → SameLines f f
-same-lines f = record { told = alike f.told; commands = omega arith } where
-  alike : (told : Option FrontTold) → TellsOn ReadsAlike told told
-  alike None = refl
-  alike (Some t) = (t, refl, record { read = refl; lines = refl })
-
-alike-by : (Goes : FrontTold → FrontTold → Type 0) → ((t t' : FrontTold) → Goes t t' → ReadsAlike t t') → (told told' : Option FrontTold)
-    → TellsOn Goes told told' → TellsOn ReadsAlike told told'
-alike-by Goes alike None told' goes = goes
-alike-by Goes alike (Some t) told' goes = (goes.0, goes.1, alike t goes.0 goes.2)
-
-taken-alike : (t t' : FrontTold) → OnlyTakes t t' → ReadsAlike t t'
-taken-alike t t' takes = record { read = ap (λ (x : FrontTold). x.read) takes.rest; lines = ap lines_read takes.rest }
+same-lines f = omega arith
 
 -- connections were taken
-pub lines-taken : (old new : FrontSeen) → TellsOn OnlyTakes old.told new.told → Follows old new → SameLines old new
-lines-taken old new takes follows = record { told = alike-by OnlyTakes taken-alike old.told new.told takes; commands = follows.commands }
-
-waited-alike : (until : Option ℕ) (quiet : Bool) (answer : Woke) (ready : List ℕ) (t t' : FrontTold) → GoesForward until quiet answer ready t t'
-    → t.read ≤ length t.lines → ReadsAlike t t'
-waited-alike until quiet answer ready t t' forward came = record {
-  read = forward.read;
-  lines =
-      ap (λ (n : ℕ). take n t'.lines) forward.read ∙ ap (take t.read) forward.lines ∙ take-append-le t.read t.lines forward.come came;
-}
-
-waited-told : (until : Option ℕ) (quiet : Bool) (answer : Woke) (ready : List ℕ) (told told' : Option FrontTold)
-    → TellsOn (GoesForward until quiet answer ready) told told' → IfSome told HasNoneToHeed → TellsOn ReadsAlike told told'
-waited-told until quiet answer ready None told' goes heeded = goes
-waited-told until quiet answer ready (Some t) told' goes heeded =
-    (goes.0, goes.1, waited-alike until quiet answer ready t goes.0 goes.2 heeded.came)
+pub lines-taken : (old new : FrontSeen) → Follows old new → SameLines old new
+lines-taken old new follows = follows.commands
 
 -- a wait may let more lines come
 pub lines-waited : (until : Option ℕ) (quiet : Bool) (answer : Woke) (ready : List ℕ) (old new : FrontSeen) → Waits old new until quiet answer ready
-    → IfSome old.told HasNoneToHeed → SameLines old new
-lines-waited until quiet answer ready old new waits heeded = record {
-  told = waited-told until quiet answer ready old.told new.told waits.tells heeded;
-  commands = omega (arith, waits.commands);
-}
+    → SameLines old new
+lines-waited until quiet answer ready old new waits = omega (arith, waits.commands)
 
 -- listening was stopped
 pub lines-hushed : (old new : FrontSeen) → new ≡ after_hush old → SameLines old new
-lines-hushed old new is =
-    record { told = hushed old.told new.told (ap (λ (f : FrontSeen). f.told) is); commands = omega (arith, ap (λ (f : FrontSeen). f.counts.commands) is) } where
-      hushed : (told told' : Option FrontTold) → told' ≡ option_map hushed_front told → TellsOn ReadsAlike told told'
-      hushed None told' same = same
-      hushed (Some t) told' same = (hushed_front t, same, record { read = refl; lines = refl })
+lines-hushed old new is = omega (arith, ap (λ (f : FrontSeen). f.counts.commands) is)

@@ -1,25 +1,29 @@
 -- A server that has just opened.
-use Rattle.std.proofs.Common.{◌≡◌, inl, inr, ℕ, Bool, true, not, List, [], ◌∷◌, ◌++◌, length, map, take, Option, None, Some, option_map, IfSome, refl, sym, ap, subst, ◌∙◌, arith}
+use Rattle.std.proofs.Common.{◌≡◌, ◌<◌, inl, inr, ℕ, Bool, true, not, List, [], ◌∷◌, ◌++◌, length, map, take, Option, None, Some, option_map, IfSome, refl, sym, ap, subst, ◌∙◌, arith}
+use Rattle.std.proofs.lemmas.List.{length-replicate}
 use Rattle.mpm_base.specs.Clock.{asked_at}
-use Rattle.mpm_base.specs.Front.{Binds, BoundTold, DialTold, FrontSeen, FrontTold, WaitTold, WatchTold, after_bind, moments_of}
+use Rattle.mpm_base.specs.Front.{Binds, BoundTold, DialTold, FrontSeen, FrontTold, WaitTold, after_bind, moments_of}
 use Rattle.listener.specs.Unused.{IsUnused}
 use Rattle.mpm_base.specs.declared.addr.Addr.{Addr}
 use Rattle.conn_machine.specs.Made.{IsOpened}
 use Rattle.conn_machine.specs.States.{is_serving}
 use Rattle.conn_machine.specs.declared.state.State.{State}
-use Rattle.board.specs.Board.{SeenBoard}
+use Rattle.conn_machine.specs.Children.{no_child}
+use Rattle.conn_machine.specs.declared.event.Entry.{Entry}
+use Rattle.conn_state.specs.Answered.{SeenEnded}
 use Rattle.board.specs.Book.{SeenBook}
 use Rattle.listener.specs.Commands.{HeedsLines, NoneStops}
 use Rattle.listener.specs.FirstNumbersInside.{AreNumbers, opened_book}
 use Rattle.listener.specs.Links.{EndsLinks, TakesLinks}
-use Rattle.listener.specs.ListenInside.{Follows, HasNoneToHeed, HasStopped, IsAtStart, IsInStep, WatchesAll, contacts, contacts_of}
+use Rattle.listener.specs.ListenInside.{Follows, HasNoneToHeed, HasNotBegun, HasStopped, IsAtStart, IsInStep, WatchesAll, contacts, contacts_of}
 use Rattle.listener.specs.Outside.{clients_told, KeepsFront}
 use Rattle.listener.specs.Patient.{HasNothingCome}
-use Rattle.rounds.specs.Started.{AreAskedFor}
+use Rattle.rounds.specs.Timely.{AreTimely}
 use Rattle.listener.specs.StartedFirst.{IsStartedFirst}
+use Rattle.listener.specs.Stops.{TakesEach}
 use Rattle.listener.specs.Tells.{AllReceive}
-use Rattle.listener.specs.Times.{AreBehind, IsInTime, IsInformed, SignalsAre, TicksAre, waits_of}
-use Rattle.listener.specs.Watched.{AreClosedAtOnce, AreWatched, IsBoundOnce, IsHushed, IsOpenedAndHushed, link_watched}
+use Rattle.listener.specs.Times.{IsInTime, waits_of}
+use Rattle.listener.specs.Watched.{IsBoundOnce, IsHushed, IsOpenedAndHushed}
 use Rattle.listener.specs.declared.run_numbers.RunNumbers.{RunNumbers}
 use Rattle.run_report.proofs.CountLemmas.{rises-behind}
 
@@ -34,27 +38,16 @@ opens n b numbers opened =
     subst (λ (s : SeenBook). IsOpened s.base) (sym opened)
     (record { slots = n.slots; children = n.children; shape = n.shape; bounds = numbers.in_bounds; state = refl })
 
--- nothing was folded, and there is nothing
-behind-none : AreBehind 0 [] []
-behind-none = record { first = []; many = refl; all_are = refl }
-
--- a clock that wasn't asked, and a history without ticks
-ticks-opened : (n : RunNumbers) (calls : Option (List (ℕ × ℕ))) → IfSome calls (λ calls. calls ≡ []) → IfSome calls (λ calls. TicksAre calls (opened_book n))
-ticks-opened n None none = tt
-ticks-opened n (Some calls) none =
-    subst (λ (calls : List (ℕ × ℕ)). TicksAre calls (opened_book n)) (sym none) (record { ticks = behind-none; moment = refl })
-
--- a front that didn't wait, and a history without signals
-signals-opened : (n : RunNumbers) (told : Option FrontTold) → IfSome told (λ t. IsUnused (record t { bound = [] })) → IfSome (waits_of told) (λ waits. SignalsAre waits (opened_book n))
-signals-opened n None none = tt
-signals-opened n (Some t) none = subst (λ (waits : List WaitTold). SignalsAre waits (opened_book n)) (sym none.waits) behind-none
-
--- so nothing was told and nothing done
-pub informed-opened : (n : RunNumbers) (told : Option FrontTold) (calls : Option (List (ℕ × ℕ))) (b : SeenBook) → b ≡ opened_book n → IsIdle told calls
-    → IsInformed (waits_of told) calls b
-informed-opened n told calls b opened starting =
-    subst (IsInformed (waits_of told) calls) (sym opened)
-    (record { ticks = ticks-opened n calls starting.calls_are; signals = signals-opened n told starting.front })
+-- nothing was asked of it, and nothing came of it
+pub unused-opened : (told : Option FrontTold) (calls : Option (List (ℕ × ℕ))) → IsIdle told calls → IfSome told HasNotBegun
+unused-opened None calls idle = tt
+unused-opened (Some t) calls idle = record {
+  waits = idle.front.waits;
+  watches = idle.front.watches;
+  accepted = idle.front.accepted;
+  read = idle.front.read;
+  hushed = idle.front.hushed;
+}
 
 -- the clock is in time with the front
 pub time-opened : (told : Option FrontTold) (calls : Option (List (ℕ × ℕ))) → IsIdle told calls → IsInTime (waits_of told) calls
@@ -150,7 +143,7 @@ stopped-before old bound new s follows stopped = record {
         })
         | inr (inl asked) ↦ inr (inl (record {
           going = asked.going;
-          gave = rises-behind old.counts.commands bound.counts.commands new.counts.commands follows.commands asked.gave;
+          gave = rises-behind old.counts.words.stop bound.counts.words.stop new.counts.words.stop follows.stops asked.gave;
         }))
         | inr (inr (inl failed)) ↦ inr (inr (inl (record {
           going = failed.going;
@@ -160,28 +153,6 @@ stopped-before old bound new s follows stopped = record {
         | inr (inr (inr rest)) ↦ inr (inr (inr rest))
       ];
 }
-
--- ## The watches of a server that opens
-
--- it watches none
-pub watching-opened : (n : RunNumbers) (told : Option FrontTold) (calls : Option (List (ℕ × ℕ))) (b : SeenBook) → b ≡ opened_book n → IsIdle told calls
-    → IfSome told (WatchesAll b)
-watching-opened n None calls b opened idle = tt
-watching-opened n (Some t) calls b opened idle =
-    subst (λ (x : SeenBook). WatchesAll x t) (sym opened) (record {
-      watches =
-          record {
-            first = ap (λ (ws : List WatchTold). map (λ (w : WatchTold). w.rank) (take 0 ws)) idle.front.watches;
-            watches = ap (map link_watched) idle.front.watches;
-            failed = subst (AreClosedAtOnce []) (sym idle.front.watches) tt;
-          };
-      count = refl;
-    })
-
--- and in the end each link that the table took
-pub are-watched : (told : Option FrontTold) (b : SeenBook) → IfSome told (WatchesAll b) → IfSome told (AreWatched b)
-are-watched None b all = tt
-are-watched (Some t) b all = all.watches
 
 -- ## Patience
 
@@ -229,29 +200,30 @@ heeded-opened (Some t) calls idle =
       came = omega (arith, read);
     }
 
--- no child was started
-pub asked-opened : (n : RunNumbers) (b : SeenBook) → b ≡ opened_book n → AreAskedFor b.base b.history
-asked-opened n b opened = subst (λ (x : SeenBook). AreAskedFor x.base x.history) (sym opened) tt
+-- nothing was made
+pub timely-opened : (n : RunNumbers) (b : SeenBook) → b ≡ opened_book n → AreTimely b.base b.history
+timely-opened n b opened = subst (λ (x : SeenBook). AreTimely x.base x.history) (sym opened) tt
 
--- a front that wasn't asked didn't wait
-pub unwaited : (told : Option FrontTold) (calls : Option (List (ℕ × ℕ))) → IsIdle told calls → IfSome told (λ t. t.waits ≡ [])
-unwaited None calls idle = tt
-unwaited (Some t) calls idle = idle.front.waits
+-- there are children
+pub children-opened : (n : RunNumbers) (b : SeenBook) → AreNumbers n → b ≡ opened_book n → 0 < length b.state.children
+children-opened n b numbers opened =
+    omega (arith, numbers.some_children, ap (λ (x : SeenBook). length x.state.children) opened, length-replicate n.children no_child)
 
 -- ## What a run did with its front
 
 -- all together, where the front tells
-pub keeps-front : (n : RunNumbers) (b : SeenBoard) (known : Option (List (List ℕ))) (told : Option FrontTold) → known ≡ clients_told told
-    → IfSome told (IsOpenedAndHushed n) → IfSome told (IsStartedFirst n b.book) → IfSome told (AreWatched b.book) → IfSome told (TakesLinks b.book.state)
-    → ((clients : List (List ℕ)) → known ≡ Some clients → EndsLinks b)
-    → ((clients : List (List ℕ)) → known ≡ Some clients → AllReceive clients b.ended) → IfSome told (HeedsLines b.book.state.going)
-    → IfSome told (KeepsFront n b)
-keeps-front n b known None named opened started watched taken ends receive heeded = tt
-keeps-front n b known (Some t) named opened started watched taken ends receive heeded = record {
+pub keeps-front : (n : RunNumbers) (s : State) (history : List Entry) (ended : List SeenEnded) (known : Option (List (List ℕ))) (told : Option FrontTold)
+    → known ≡ clients_told told → IfSome told (IsOpenedAndHushed n) → IfSome told (IsStartedFirst n history) → IfSome told (WatchesAll s history)
+    → IfSome told (TakesLinks s) → ((clients : List (List ℕ)) → known ≡ Some clients → EndsLinks s ended)
+    → ((clients : List (List ℕ)) → known ≡ Some clients → AllReceive clients ended) → IfSome told (HeedsLines s.going)
+    → IfSome told (TakesEach s.going history) → IfSome told (KeepsFront n s history ended)
+keeps-front n s history ended known None named opened started watched taken ends receive heeded each = tt
+keeps-front n s history ended known (Some t) named opened started watched taken ends receive heeded each = record {
   opened = opened;
   started = started;
-  watched = watched;
+  watched = watched.watches;
   links = record { taken = taken; ended = ends t.clients named };
   receive = receive t.clients named;
   heeded = heeded;
+  each = each;
 }

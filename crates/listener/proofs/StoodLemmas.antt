@@ -1,13 +1,14 @@
 -- How a run stood in the end, once its server was stopped for what ended the listener's turns.
-use Rattle.std.proofs.Common.{◌≡◌, ◌⊎◌, inl, inr, ◌≤◌, ◌<◌, ◌+◌, ℕ, Bool, true, false, not, ◌||◌, cond, List, [], ◌∷◌, ◌++◌, length, Option, None, Some, IfSome, option_map, Result, Ok, Err, refl, sym, ap, subst, ◌∙◌, append-nil, arith}
+use Rattle.std.proofs.Common.{◌≡◌, ◌⊎◌, inl, inr, ◌≤◌, ◌<◌, ◌+◌, ℕ, Bool, true, false, not, ◌||◌, cond, List, [], ◌∷◌, ◌++◌, length, map, replicate, Option, None, Some, IfSome, option_map, Result, Ok, Err, refl, sym, ap, subst, ◌∙◌, append-nil, append_assoc, arith}
 use Rattle.std.proofs.lemmas.Bool.{cases_order}
 use Rattle.std.proofs.lemmas.List.Folds.{list_any-append}
 use Rattle.std.proofs.lemmas.List.Sums.{sum_by-cons}
-use Rattle.std.specs.List.{list_any}
+use Rattle.std.proofs.lemmas.Grind.{flat_map-append}
+use Rattle.std.proofs.lemmas.List.{map-append}
+use Rattle.std.specs.List.{flat_map, list_any}
 use Rattle.mpm_base.specs.Count.{NeverFalls}
-use Rattle.mpm_base.specs.Front.{FrontSeen, FrontTold, after_hush, hushed_front}
+use Rattle.mpm_base.specs.Front.{FrontCounts, FrontSeen, FrontTold, after_hush, hushed_front}
 use Rattle.mpm_base.specs.Store.{StoreSeen}
-use Rattle.mpm_base.specs.declared.script_line.CommandWord.{CommandWord}
 use Rattle.conn_machine.specs.declared.event.Commanded.TheVariants.{Stop}
 use Rattle.conn_machine.specs.declared.event.Entry.{Entry}
 use Rattle.conn_machine.specs.declared.event.Event.{Event}
@@ -15,7 +16,7 @@ use Rattle.conn_machine.specs.declared.event.Event.TheVariants as event
 use Rattle.conn_machine.specs.declared.event.Why.{Why}
 use Rattle.conn_machine.specs.declared.event.Why.TheVariants as why
 use Rattle.conn_machine.specs.declared.state.Going.{Going}
-use Rattle.conn_machine.specs.declared.state.Going.TheVariants.{Halted}
+use Rattle.conn_machine.specs.declared.state.Going.TheVariants.{Ending, Halted}
 use Rattle.conn_machine.specs.declared.state.State.{State}
 use Rattle.conn_machine.specs.Events.{count_events, is_order}
 use Rattle.conn_machine.specs.Runs.{after}
@@ -25,30 +26,43 @@ use Rattle.board.specs.declared.faults.BoardFault.{BoardFault}
 use Rattle.board.specs.Book.{SeenBook}
 use Rattle.rounds.specs.declared.ends.End.{End}
 use Rattle.rounds.specs.declared.ends.End.TheVariants as end
-use Rattle.listener.specs.Commands.{DoesLines, LacksLast, done_by, done_in, is_by_line, is_graceful_stop}
+use Rattle.listener.specs.Commands.{is_by_line, is_graceful_stop}
+use Rattle.listener.specs.Counted.{CountsBut}
+use Rattle.listener.specs.CountedInside.{TurnsCount}
 use Rattle.listener.specs.FirstNumbers.{opened_by}
 use Rattle.listener.specs.Generations.{Opening}
-use Rattle.listener.specs.ListenInside.{HandsOutEach, TurnsEnd}
-use Rattle.rounds.specs.EndsInside.{why_of}
+use Rattle.listener.specs.ListenInside.{HandsOutEach, TurnsEnd, WatchesAll}
+use Rattle.rounds.specs.EndsInside.{HaltsAs, IsAllGone, why_of}
 use Rattle.listener.specs.Orders.{AreOrdered, IsOrdered}
 use Rattle.rounds.specs.PartsInside.{GoesDown, halt_events, halts_for}
-use Rattle.listener.specs.StandingInside.{DoesAllBut, EndsAsBegun, IsOpenedBy, StandsSo, StandsToEnd, Standing, TurnsStand, standing, newest_edition}
-use Rattle.rounds.specs.Started.{AreAskedFor}
+use Rattle.listener.specs.StandingInside.{EndsAsBegun, Past, entries_behind, newest_edition, owed_behind, spare_behind}
+use Rattle.listener.specs.Pace.{Brought, KeepsPace, brought, moved, ordered}
+use Rattle.listener.specs.Patient.{IsPatientEvent, IsPatientRun}
+use Rattle.listener.specs.StartedFirst.{IsStartedFirst, first_children}
+use Rattle.listener.specs.TurnsInside.{HasStood, HasTurned, KeepsUp, SeenListener}
+use Rattle.worker_group.specs.Acts.{Acts}
 use Rattle.listener.specs.Stops.{TakesEach}
 use Rattle.listener.specs.Stores.{IsRenewed, KeepsStore, RisesBy, is_store_refusal}
 use Rattle.rounds.specs.ClosedDown.{IsBrokenOff}
-use Rattle.listener.specs.declared.edition.NamedConfig.{NamedConfig}
 use Rattle.listener.specs.declared.run_numbers.RunNumbers.{RunNumbers}
 use Rattle.rounds.proofs.AddedLemmas.{added-events, events_in}
 use Rattle.listener.proofs.CommandlessLemmas.{commandless-added, commandless-gone, commandless-retires}
-use Rattle.listener.proofs.StandingLemmas.{KeepsPast, counted-both, done-both, entries-acts, folded-acts, keeps-plain, ordered-both, orders_behind, rises-more}
+use Rattle.listener.proofs.StandingLemmas.{KeepsPast, counted-both, entries-acts, folded-acts, keeps-plain, ordered-both, orders_behind, rises-more}
+use Rattle.rounds.proofs.TimelyLemmas.{all-both}
+use Rattle.listener.proofs.BroughtLemmas.{brought-behind, stopped_by}
+use Rattle.listener.proofs.CountedEndLemmas.{gives-none}
+use Rattle.listener.proofs.DownPaceLemmas.{down-brings, pace-down}
+use Rattle.listener.proofs.EventLemmas.{silent-gone, silent-halts, silent-retires, ticks_in}
+use Rattle.listener.proofs.PaceLemmas.{unhushed}
+use Rattle.listener.proofs.PatientLemmas.{patient-tickless}
+use Rattle.listener.proofs.WatchLemmas.{nobody-down, watched-as, watched-hushed}
+use Rattle.listener.proofs.WholeLemmas.{begins-behind}
 
 -- ## What stopping the server adds
 
 -- all that was ordered and done before is so, and nothing else, but for so many lines that were given
 record StopsPast (o : Opening) (s : State) (given : ℕ) (old new : List Entry) : Type 0 where
   ordered : AreOrdered o 0 0 s old → AreOrdered o 0 0 s new
-  done : done_by new ≡ done_by old
   given_is : count_events is_by_line new ≡ count_events is_by_line old + given
   ending : list_any (λ (e : Entry). is_graceful_stop e.event) new ≡ list_any (λ (e : Entry). is_graceful_stop e.event) old
   orders : count_events is_order new ≡ count_events is_order old
@@ -58,7 +72,6 @@ record StopsPast (o : Opening) (s : State) (given : ℕ) (old new : List Entry) 
 keeps-stopped : (o : Opening) (s : State) (given : ℕ) (a b c : List Entry) → StopsPast o s given a b → KeepsPast o s b c → StopsPast o s given a c
 keeps-stopped o s given a b c stops keeps = record {
   ordered = λ before. keeps.ordered (stops.ordered before);
-  done = keeps.done ∙ stops.done;
   given_is = keeps.given ∙ stops.given_is;
   ending = keeps.ending ∙ stops.ending;
   orders = keeps.orders ∙ stops.orders;
@@ -90,10 +103,6 @@ module _ (o : Opening) (s : State) (history : List Entry) (e : Entry) (reason : 
     ordered =
         λ before. ordered-both o 0 0 s history (e ∷ []) before
         (subst (IsOrdered o (orders_behind 0 history) (newest_edition 0 0 history) (after s history)) (sym is) tt, tt);
-    done =
-        done-both history (e ∷ [])
-        ∙ ap (λ (x : Event). done_by history ++ (done_in x ++ [])) is
-        ∙ append-nil (done_by history);
     given_is = counted-stop is_by_line (is_by_line (event.Command (Stop reason))) refl ∙ ap (λ (n : ℕ). count_events is_by_line history + n) many;
     ending =
         list_any-append (λ (x : Entry). is_graceful_stop x.event) history (e ∷ [])
@@ -117,7 +126,7 @@ stops-one o s history e why.Overdue is = stops-by o s history e why.Overdue is 0
 stops-none : (o : Opening) (s : State) (history : List Entry) → StopsPast o s 0 history (history ++ [])
 stops-none o s history =
     subst (StopsPast o s 0 history) (sym (append-nil history))
-    (record { ordered = λ before. before; done = refl; given_is = omega arith; ending = refl; orders = refl; refusals = refl })
+    (record { ordered = λ before. before; given_is = omega arith; ending = refl; orders = refl; refusals = refl })
 
 -- entries of these events
 stops-for : (o : Opening) (s : State) (history more : List Entry) (for : Option Why) → events_in more ≡ halts_for for
@@ -141,26 +150,9 @@ halts-spelled (Err fault) = refl
 
 -- ## What was left
 
--- nothing is left of what lines asked for, or the server was broken off
-abbrev IsLeft : Going → List CommandWord → Type 0
-IsLeft going left = (left ≡ []) ⊎ (IsBrokenOff going × (length left ≤ 1))
-
-lines-left : (going : Going) (left : List CommandWord) (old new : List Entry) (t : FrontTold) → IsLeft going left → done_by new ≡ done_by old
-    → DoesAllBut left old t → DoesLines going new (hushed_front t)
-lines-left going left old new t (inl none) same does few =
-    inl ((does few).does ∙ ap (λ (xs : List CommandWord). done_by old ++ xs) none ∙ append-nil (done_by old) ∙ sym same)
-lines-left going [] old new t (inr (broken, one)) same does few =
-    inl ((does few).does ∙ append-nil (done_by old) ∙ sym same)
-lines-left going (x ∷ []) old new t (inr (broken, one)) same does few =
-    let lacks : LacksLast old t = (does few).last in
-    inr (broken, record { before = lacks.before; line = lacks.line; lines_are = lacks.lines_are; done = lacks.done ∙ sym same })
-lines-left going (x ∷ y ∷ left) old new t (inr (broken, one)) same does few = absurd (omega (arith, one))
-
-lines-hushed : (going : Going) (left : List CommandWord) (old new : List Entry) (told told' : Option FrontTold) → told' ≡ option_map hushed_front told
-    → IsLeft going left → done_by new ≡ done_by old → IfSome told (DoesAllBut left old) → IfSome told' (DoesLines going new)
-lines-hushed going left old new None told' is left_is same does = subst (λ (x : Option FrontTold). IfSome x (DoesLines going new)) (sym is) tt
-lines-hushed going left old new (Some t) told' is left_is same does =
-    subst (λ (x : Option FrontTold). IfSome x (DoesLines going new)) (sym is) (lines-left going left old new t left_is same does)
+-- the store was renewed at no order besides, or the server was broken off
+abbrev IsLeft : Going → ℕ → Type 0
+IsLeft going spare = (spare ≡ 0) ⊎ (IsBrokenOff going × (spare ≤ 1))
 
 -- a number between another one and the next is one of them
 one-or-next : (a b : ℕ) → a ≤ b → b ≤ a + 1 → (b ≡ a) ⊎ (b ≡ a + 1)
@@ -181,14 +173,13 @@ renewed-as renewals many old new first last same refusals is =
     subst (λ (n : ℕ). IsRenewed n new first last) same
     (record { told = is.told; failed = subst (λ (n : ℕ). RisesBy n first.counts.faults last.counts.faults) (sym refusals) is.failed })
 
-store-left : (going : Going) (left : List CommandWord) (renewals : ℕ) (old new : List Entry) (first last : StoreSeen) → IsLeft going left
+store-left : (going : Going) (spare : ℕ) (renewals : ℕ) (old new : List Entry) (first last : StoreSeen) → IsLeft going spare
     → count_events is_order new ≡ count_events is_order old → count_events is_store_refusal new ≡ count_events is_store_refusal old
-    → count_events is_order old ≤ renewals → renewals ≤ count_events is_order old + length left → IsRenewed renewals old first last
+    → count_events is_order old ≤ renewals → renewals ≤ count_events is_order old + spare → IsRenewed renewals old first last
     → KeepsStore going new first last
-store-left going left renewals old new first last (inl none) orders refusals each no_more is =
-    let size : length left ≡ 0 = ap length none in
-    inl (renewed-as renewals (count_events is_order new) old new first last (omega (arith, orders, each, no_more, size)) refusals is)
-store-left going left renewals old new first last (inr (broken, one)) orders refusals each no_more is =
+store-left going spare renewals old new first last (inl none) orders refusals each no_more is =
+    inl (renewed-as renewals (count_events is_order new) old new first last (omega (arith, orders, each, no_more, none)) refusals is)
+store-left going spare renewals old new first last (inr (broken, one)) orders refusals each no_more is =
     elim (one-or-next (count_events is_order new) renewals (omega (arith, orders, each)) (omega (arith, orders, no_more, one))) [
       | inl same ↦ inl (renewed-as renewals (count_events is_order new) old new first last same refusals is)
       | inr more ↦ inr (broken, renewed-as renewals (count_events is_order new + 1) old new first last more refusals is)
@@ -249,28 +240,22 @@ each-taken (Err fault) first now b d entries new told' ends up down is begun sam
 
 -- ## All together
 
--- how a run stands at the end of the turns
-record EndsSo (known : Option KnownOutside) (o : Opening) (n : RunNumbers) (turns : Result End BoardFault) (going : Going) (s : Standing) : Type 0 where
-  left : List CommandWord
-  owed : ℕ
-  stands : StandsSo known o n left owed s
-  is_left : IsLeft going left
-  lines : lines_for (stopped_for turns) ≡ owed
+-- what is left at the end of turns that ended so
+is-left : (turns : Result End BoardFault) (old going : Going) → HaltsAs turns old going → IsLeft going (spare_behind turns)
+is-left (Ok end.Ended) old going halts = inl refl
+is-left (Ok end.Asked) old going halts = inl refl
+is-left (Ok end.Failed) old going halts = inl refl
+is-left (Ok end.Overdue) old going halts = inl refl
+is-left (Ok end.Gone) old going halts = inl refl
+is-left (Err fault) old going halts = inr (halts, omega arith)
 
-ends-so : (known : Option KnownOutside) (c : NamedConfig) (turns : Result End BoardFault) (first now : Standing) (d : SeenBook) → TurnsStand known c turns first now
-    → GoesDown turns now.book d → (o : Opening) (n : RunNumbers) → IsOpenedBy c o → AreAskedFor first.book.base first.book.history → StandsSo known o n [] 0 first → EndsSo known o n turns d.state.going now
-ends-so known c (Ok end.Ended) first now d stands down o n opened asked stood =
-    record { left = []; owed = 0; stands = stands o n opened asked stood; is_left = inl refl; lines = refl }
-ends-so known c (Ok end.Asked) first now d stands down o n opened asked stood =
-    record { left = []; owed = 1; stands = stands o n opened asked stood; is_left = inl refl; lines = refl }
-ends-so known c (Ok end.Failed) first now d stands down o n opened asked stood =
-    record { left = []; owed = 0; stands = stands o n opened asked stood; is_left = inl refl; lines = refl }
-ends-so known c (Ok end.Overdue) first now d stands down o n opened asked stood =
-    record { left = []; owed = 0; stands = stands o n opened asked stood; is_left = inl refl; lines = refl }
-ends-so known c (Ok end.Gone) first now d stands down o n opened asked stood =
-    record { left = []; owed = 0; stands = stands o n opened asked stood; is_left = inl refl; lines = refl }
-ends-so known c (Err fault) first now d stands down o n opened asked stood =
-    record { left = stands.left; owed = 0; stands = stands.stands o n opened asked stood; is_left = inr (down.going, stands.one); lines = refl }
+lines-owed : (turns : Result End BoardFault) → lines_for (stopped_for turns) ≡ owed_behind turns
+lines-owed (Ok end.Ended) = refl
+lines-owed (Ok end.Asked) = refl
+lines-owed (Ok end.Failed) = refl
+lines-owed (Ok end.Overdue) = refl
+lines-owed (Ok end.Gone) = refl
+lines-owed (Err fault) = refl
 
 -- what the end added to all entries
 down-past : (o : Opening) (s : State) (turns : Result End BoardFault) (b d : SeenBook) → GoesDown turns b d → (before : List Entry)
@@ -291,33 +276,143 @@ down-past o s turns b d down before =
     (keeps-plain o s (before ++ y.history) down.retires.acts.entries.0 (commandless-added 0 _ None y d down.retires.acts retired)) in
     keeps-stopped o s _ _ _ _ (keeps-stopped o s _ _ _ _ first second) third
 
--- a run stood so in the end
-pub stood-down : (known : Option KnownOutside) (c : NamedConfig) (turns : Result End BoardFault) (stop_ms stop_ms' : ℕ) (store store' : StoreSeen)
-    (first now front' : FrontSeen) (a b d : SeenBook) → TurnsStand known c turns (standing stop_ms store first a) (standing stop_ms' store' now b)
-    → TurnsEnd turns first now b → is_halted b.state.going ≡ false → GoesDown turns b d → front' ≡ after_hush now
-    → StandsToEnd known c (standing stop_ms store first a) (standing stop_ms' store' front' d)
-stood-down known c turns stop_ms stop_ms' store store' first now front' a b d stands ends up down hushed o n opened asked stood =
-    let x = down.halted in
-    let y = down.closed in
-    let so = ends-so known c turns (standing stop_ms store first a) (standing stop_ms' store' now b) d stands down o n opened asked stood in
-    let at = so.stands in
-    let folded =
-    folded-acts 0 _ None n y d down.retires.acts (folded-acts 0 _ None n x y down.closes.acts (folded-acts 0 _ None n b x down.halts at.folded)) in
-    let entries = at.folded.entries ++ b.history in
-    let entries' = at.folded.entries ++ d.history in
-    let past = down-past o (opened_by n) turns b d down at.folded.entries in
-    let told : front'.told ≡ option_map hushed_front now.told = ap (λ (f : FrontSeen). f.told) hushed in
-    let counts : NeverFalls now.counts.commands front'.counts.commands = omega (arith, ap (λ (f : FrontSeen). f.counts.commands) hushed) in
-    record {
-      passes = down.retires.acts.passes ∙ down.closes.acts.passes ∙ down.halts.passes ∙ at.passes;
-      folded = folded;
-      outside = at.outside;
-      ordered = past.ordered at.ordered;
-      lines = lines-hushed d.state.going so.left entries entries' now.told front'.told told so.is_left past.done at.lines;
-      each = each-taken turns first now b d entries entries' front'.told ends up down told at.ending past.ending;
-      given =
-          rises-more _ _ o.front.counts.commands now.counts.commands front'.counts.commands
-          (past.given_is ∙ ap (λ (m : ℕ). count_events is_by_line entries + m) so.lines) counts at.given;
-      store =
-          store-left d.state.going so.left at.renewals entries entries' o.store store' so.is_left past.orders past.refusals at.each at.no_more at.store;
-    }
+-- what the end added, in which no time passes
+record AddsDown (b d : SeenBook) : Type 0 where
+  pub more : List Entry
+  pub history : d.history ≡ b.history ++ more
+  pub none : flat_map ticks_in (events_in more) ≡ []
+
+adds-both : (a b c : SeenBook) → AddsDown a b → AddsDown b c → AddsDown a c
+adds-both a b c first second = record {
+  more = first.more ++ second.more;
+  history = second.history ∙ ap (λ (es : List Entry). es ++ second.more) first.history ∙ append_assoc a.history first.more second.more;
+  none =
+      ap (flat_map ticks_in) (map-append (λ (e : Entry). e.event) first.more second.more)
+      ∙ flat_map-append ticks_in (events_in first.more) (events_in second.more)
+      ∙ ap (λ (xs : List ℕ). xs ++ flat_map ticks_in (events_in second.more)) first.none ∙ second.none;
+}
+
+adds-silent : (es : List Event) (a b : SeenBook) → Acts 0 es None a b → flat_map ticks_in es ≡ [] → AddsDown a b
+adds-silent es a b acts none = record {
+  more = acts.entries.0;
+  history = acts.entries.1;
+  none = ap (flat_map ticks_in) (added-events 0 es None a b acts) ∙ none;
+}
+
+adds-down : (turns : Result End BoardFault) (b d : SeenBook) → GoesDown turns b d → AddsDown b d
+adds-down turns b d down =
+    adds-both b down.closed d
+    (adds-both b down.halted down.closed (adds-silent _ b down.halted down.halts (silent-halts turns).ticks)
+    (adds-silent _ down.halted down.closed down.closes.acts (silent-gone down.closes.gone).ticks))
+    (adds-silent _ down.closed d down.retires.acts (silent-retires down.retires.children).ticks)
+
+-- the children that were started at first, of a front that was hushed
+started-down : (n : RunNumbers) (told told' : Option FrontTold) (entries more : List Entry) → told' ≡ option_map hushed_front told
+    → IfSome told (IsStartedFirst n entries) → IfSome told' (IsStartedFirst n (entries ++ more))
+started-down n None told' entries more is started = subst (λ (x : Option FrontTold). IfSome x (IsStartedFirst n (entries ++ more))) (sym is) tt
+started-down n (Some t) told' entries more is started =
+    subst (λ (x : Option FrontTold). IfSome x (IsStartedFirst n (entries ++ more))) (sym is)
+    (λ waited. begins-behind (first_children n) entries more (entries ++ more) refl (started waited))
+
+-- time that passed before
+patient-down : (told told' : Option FrontTold) (calls : Option (List (ℕ × ℕ))) (s : State) (entries more : List Entry) → told' ≡ option_map hushed_front told
+    → flat_map ticks_in (events_in more) ≡ [] → IsPatientRun told calls s entries → IsPatientRun told' calls s (entries ++ more)
+patient-down told told' calls s entries more is none patient =
+    unhushed told told' calls s (entries ++ more) is
+    (λ steady. all-both (IsPatientEvent steady.comings steady.front.waits) s entries more (patient steady)
+    (patient-tickless steady.comings steady.front.waits (after s entries) more none))
+
+-- all entries are of the run until the turns ended, and then of its end
+module _ (known : Option KnownOutside) (o : Opening) (n : RunNumbers) (turns : Result End BoardFault) (first : FrontSeen) (now last : SeenListener) (turned : HasTurned known o n turns now) (ends : TurnsEnd turns first now.front now.board.book) (up : is_halted now.board.book.state.going ≡ false) (down : GoesDown turns now.board.book last.board.book) (hushed : last.front ≡ after_hush now.front) (calls : last.calls ≡ now.calls) (store : last.store ≡ now.store) where
+  told-then : last.front.told ≡ option_map hushed_front now.front.told
+  told-then = ap (λ (f : FrontSeen). f.told) hushed
+
+  -- what was folded is the past
+  past-then : entries_behind turned.past now.board.book ≡ turned.stands.folded.entries ++ now.board.book.history
+  past-then = ap (λ (p : Past). p.entries ++ now.board.book.history) turned.stands.past_is
+
+  added-then : AddsDown now.board.book last.board.book
+  added-then = adds-down turns now.board.book last.board.book down
+
+  all-then : turned.stands.folded.entries ++ last.board.book.history ≡ entries_behind turned.past now.board.book ++ added-then.more
+  all-then =
+      ap (λ (es : List Entry). turned.stands.folded.entries ++ es) added-then.history
+      ∙ sym (append_assoc turned.stands.folded.entries now.board.book.history added-then.more)
+      ∙ ap (λ (es : List Entry). es ++ added-then.more) (sym past-then)
+
+  keeps-down : KeepsUp o n last (turned.stands.folded.entries ++ last.board.book.history)
+  keeps-down =
+      let es = entries_behind turned.past now.board.book in
+      let whole : KeepsUp o n last (es ++ added-then.more) =
+      record {
+        started = started-down n now.front.told last.front.told es added-then.more told-then turned.keeps.started;
+        watched =
+            subst (λ (xs : List Entry). IfSome last.front.told (WatchesAll last.board.book.state xs))
+            (ap (λ (p : Past). p.entries ++ last.board.book.history) turned.stands.past_is ∙ all-then)
+            (watched-hushed now.front.told last.front.told last.board.book told-then turned.past.entries
+            (watched-as now.front.told now.board.book last.board.book
+            (nobody-down turns now.board.book down.halted down.closed last.board.book down.halts down.closes down.retires) down.accepted turned.past.entries
+            turned.keeps.watched));
+        patient =
+            λ none. subst (λ (cs : Option (List (ℕ × ℕ))). IsPatientRun last.front.told cs (opened_by n) (es ++ added-then.more)) (sym calls)
+            (patient-down now.front.told last.front.told now.calls (opened_by n) es added-then.more told-then added-then.none (turned.keeps.patient none));
+      } in
+      subst (KeepsUp o n last) (sym all-then) whole
+
+  -- the pace in the end
+  paced-down : KeepsPace n.slots last.front.told last.calls last.board.book.state.going (turned.stands.folded.entries ++ last.board.book.history)
+  paced-down =
+      let brings : brought (turned.stands.folded.entries ++ last.board.book.history)
+      ≡ replicate turned.first moved ++ (turned.made ++ (map ordered (stopped_by turns) ++ replicate (length down.retires.children) moved)) =
+      brought-behind turned.stands.folded.entries now.board.book.history last.board.book.history _ (down-brings turns now.board.book last.board.book down)
+      ∙ ap (λ (xs : List Brought). xs ++ (map ordered (stopped_by turns) ++ replicate (length down.retires.children) moved))
+      (ap brought (sym past-then) ∙ turned.brought_is)
+      ∙ append_assoc (replicate turned.first moved) turned.made (map ordered (stopped_by turns) ++ replicate (length down.retires.children) moved) in
+      subst (λ (cs : Option (List (ℕ × ℕ))). KeepsPace n.slots last.front.told cs last.board.book.state.going (turned.stands.folded.entries ++ last.board.book.history))
+      (sym calls)
+      (pace-down n.slots turns now.front.told last.front.told now.calls now.board.book.state.going last.board.book.state.going
+      (turned.stands.folded.entries ++ last.board.book.history) turned.first turned.shares turned.made (length down.retires.children) told-then down.going
+      (λ gone. ending-of turns first now.front now.board.book gone ends) turned.are.waits turned.are.answers turned.makes brings)
+    where
+      ending-of : (turns : Result End BoardFault) (first now : FrontSeen) (b : SeenBook) → turns ≡ Ok end.Gone → TurnsEnd turns first now b
+          → (until : Option ℕ) × (b.state.going ≡ Ending until)
+      ending-of turns first now b is ends =
+          let all : IsAllGone b.state = subst (λ (r : Result End BoardFault). TurnsEnd r first now b) is ends in
+          (all.until, all.going)
+
+  -- a run stood so in the end, of which the front counted so since it was the first
+  pub stood-down : (begin : SeenListener) → TurnsCount turns begin.front.counts now.front.counts begin.board.book now.board.book
+      → HasStood known o n begin last
+  stood-down begin counted =
+      let at = turned.stands in
+      let b = now.board.book in
+      let d = last.board.book in
+      let folded =
+      folded-acts 0 _ None n down.closed d down.retires.acts
+      (folded-acts 0 _ None n down.halted down.closed down.closes.acts (folded-acts 0 _ None n b down.halted down.halts at.folded)) in
+      let entries = at.folded.entries ++ b.history in
+      let entries' = at.folded.entries ++ d.history in
+      let past = down-past o (opened_by n) turns b d down at.folded.entries in
+      let counts : NeverFalls now.front.counts.commands last.front.counts.commands = omega (arith, ap (λ (f : FrontSeen). f.counts.commands) hushed) in
+      record {
+        passes = down.retires.acts.passes ∙ down.closes.acts.passes ∙ down.halts.passes ∙ at.passes;
+        folded = folded;
+        outside = at.outside;
+        ordered = past.ordered at.ordered;
+        each = each-taken turns first now.front b d entries entries' last.front.told ends up down told-then at.ending past.ending;
+        given =
+            rises-more _ _ o.front.counts.commands now.front.counts.commands last.front.counts.commands
+            (past.given_is ∙ ap (λ (m : ℕ). count_events is_by_line entries + m) (lines-owed turns)) counts at.given;
+        store =
+            subst (KeepsStore d.state.going entries' o.store) (sym store)
+            (store-left d.state.going (spare_behind turns) at.renewals entries entries' o.store now.store (is-left turns b.state.going d.state.going down.going)
+            past.orders past.refusals at.each at.no_more at.store);
+        keeps = keeps-down;
+        pace = paced-down;
+        unended =
+            λ from so none.
+            subst (λ (x : FrontCounts). CountsBut d.state.going 0 from.words.graceful_stop x.words.graceful_stop)
+            (sym (ap (λ (f : FrontSeen). f.counts) hushed))
+            (gives-none turns from begin.front.counts now.front.counts begin.board.book b d.state.going counted so
+            (at.ending ∙ ap not (sym past.ending ∙ none-counted is_graceful_stop entries' none)) down.going);
+      }

@@ -1,10 +1,9 @@
 -- That each link that the table took is watched under the name of its connection, which is closed where that failed.
-use Rattle.std.proofs.Common.{◌≡◌, ◌≢◌, ◌==◌, ◌≤◌, ℕ, take, drop, Bool, true, false, List, [], ◌∷◌, ◌++◌, length, map, Option, None, Some, option_map, is_none, Result, Ok, Err, IfErr, IfSome, OnOk, refl, sym, ap, subst, ◌∙◌, append-nil, append_assoc, eq-eqb, eqb-true, arith}
+use Rattle.std.proofs.Common.{◌≡◌, ◌≢◌, ◌==◌, ℕ, Bool, true, false, List, [], ◌∷◌, ◌++◌, length, map, Option, None, Some, option_map, is_none, Result, Ok, Err, IfErr, IfSome, OnOk, refl, sym, ap, subst, ◌∙◌, append-nil, append_assoc, eq-eqb, eqb-true}
 use Rattle.std.proofs.lemmas.Bool.{and_parts}
 use Rattle.std.proofs.lemmas.Grind.{flat_map-append}
-use Rattle.std.proofs.lemmas.List.{drop-append-le, length-map, length-take, map-append, take-append-le}
+use Rattle.std.proofs.lemmas.List.{map-append}
 use Rattle.std.proofs.lemmas.List.Elements.{filter-append}
-use Rattle.std.proofs.lemmas.List.FromFn.{length-range_with_len}
 use Rattle.std.specs.List.{flat_map}
 use Rattle.mpm_base.specs.Count.{next_count}
 use Rattle.mpm_base.specs.Front.{FrontTold, GoesForward, TellsOn, WatchTold, after_accept, after_turning_away, after_watch, hushed_front}
@@ -30,7 +29,7 @@ use Rattle.board.specs.Book.{SeenBook}
 use Rattle.worker_group.specs.declared.service.Exit.{Exit}
 use Rattle.worker_group.specs.declared.service.Exit.TheVariants as exit
 use Rattle.worker_group.specs.Acts.{Acts}
-use Rattle.listener.specs.ListenInside.{IsArrival, OnlyReads, TellsAlike, WatchesAll, number_after}
+use Rattle.listener.specs.ListenInside.{IsArrival, OnlyReads, StaysWatching, TellsAlike, WatchesAll, number_after}
 use Rattle.rounds.specs.EndsInside.{why_of}
 use Rattle.rounds.specs.declared.ends.End.{End}
 use Rattle.worker_group.specs.Service.{left_events}
@@ -38,7 +37,7 @@ use Rattle.rounds.specs.ClosingInside.{IsHaltedWay, LetsGo, Departure, departure
 use Rattle.listener.specs.RoundInside.{DoesOrders}
 use Rattle.rounds.specs.PartsInside.{GivesUp, LetsGoOfConns, LetsGoUntil, Departures, PassesTime, RetiresSome, StartsSome, gone_events, halt_events, halts_for, departures_events, signal_events, way_of}
 use Rattle.rounds.specs.Moments.{known_slots, ticks_to}
-use Rattle.listener.specs.Watched.{AreClosedAtOnce, AreOfFirstLinks, IsClosedAtOnce, accepted_names, link_watched, links_from, names_taken, names_given}
+use Rattle.listener.specs.Watched.{AreClosedAtOnce, IsClosedAtOnce, accepted_names, link_watched, links_from, names_taken, names_given}
 use Rattle.rounds.proofs.AddedLemmas.{added-events, added-own, events_in}
 
 -- ## Events that take no connection
@@ -327,6 +326,21 @@ closed-on before more after' name is closed = record {
   closes = closed.closes;
 }
 
+-- and behind further entries
+closed-behind : (past history : List Entry) (name : ConnName) → IsClosedAtOnce history name → IsClosedAtOnce (past ++ history) name
+closed-behind past history name closed = record {
+  before = entries_of 0 past ++ closed.before;
+  took = closed.took;
+  closed = closed.closed;
+  rest = closed.rest;
+  stand =
+      filter-append (is_of_pass 0) past history
+      ∙ ap (λ (es : List Entry). entries_of 0 past ++ es) closed.stand
+      ∙ sym (append_assoc (entries_of 0 past) closed.before (closed.took ∷ closed.closed ∷ closed.rest));
+  takes = closed.takes;
+  closes = closed.closes;
+}
+
 all-closed-on : (before more after' : List Entry) (watches : List WatchTold) → after' ≡ before ++ more → AreClosedAtOnce before watches
     → AreClosedAtOnce after' watches
 all-closed-on before more after' [] is all = tt
@@ -350,70 +364,64 @@ number-more : (number : ℕ) (names : List ConnName) (name : ConnName) → numbe
 number-more number [] name = refl
 number-more number (n ∷ names) name = number-more (next_count number) names name
 
--- there are as many as are the first ones
-pub first-within : (count : ℕ) (watches : List WatchTold) → AreOfFirstLinks count watches → count ≤ length watches
-first-within count watches first =
-    let many : length (take count watches) ≡ count =
-    sym (length-map (take count watches) (λ (w : WatchTold). w.rank)) ∙ ap length first ∙ length-range_with_len 0 count in
-    omega (arith, many, length-take count watches)
+-- the names of entries behind others
+names-behind : (past history history' : List Entry) (more : List ConnName) → accepted_names history' ≡ accepted_names history ++ more
+    → accepted_names (past ++ history') ≡ accepted_names (past ++ history) ++ more
+names-behind past history history' more is =
+    flat_map-append (λ (e : Entry). names_given e.event e.reply) past history'
+    ∙ ap (λ (names : List ConnName). accepted_names past ++ names) is
+    ∙ sym (append_assoc (accepted_names past) (accepted_names history) more)
+    ∙ ap (λ (names : List ConnName). names ++ more) (sym (flat_map-append (λ (e : Entry). names_given e.event e.reply) past history))
 
--- with one watch more the first ones stay
-first-more : (count : ℕ) (watches more : List WatchTold) → AreOfFirstLinks count watches → AreOfFirstLinks count (watches ++ more)
-first-more count watches more first =
-    ap (map (λ (w : WatchTold). w.rank)) (take-append-le count watches more (first-within count watches first)) ∙ first
-
--- the front watches each link that was taken behind the first so many, and these too, and the table counted them
-record WatchesBehind (many : ℕ) (b : SeenBook) (t : FrontTold) : Type 0 where
-  pub first : AreOfFirstLinks many t.watches
-  pub watches : map link_watched (drop many t.watches) ≡ links_from many (accepted_names b.history)
-  pub failed : AreClosedAtOnce b.history (drop many t.watches)
-  pub count : b.state.accepted ≡ number_after many (accepted_names b.history)
-
--- which are those that were folded
-all-behind : (many : ℕ) (b : SeenBook) (t : FrontTold) → many ≡ b.folded.accepted → WatchesBehind many b t → WatchesAll b t
-all-behind many b t is behind =
-    let here : WatchesBehind b.folded.accepted b t = subst (λ (n : ℕ). WatchesBehind n b t) is behind in
-    record {
-      watches = record { first = here.first; watches = here.watches; failed = here.failed };
-      count = here.count;
-    }
+-- and entries that went on behind others
+on-behind : (past history more history' : List Entry) → history' ≡ history ++ more → past ++ history' ≡ (past ++ history) ++ more
+on-behind past history more history' is = ap (λ (es : List Entry). past ++ es) is ∙ sym (append_assoc past history more)
 
 -- a book whose history went on, and took no connection
-watches-as : (a b : SeenBook) (t : FrontTold) → TakesNobody a b → b.state.accepted ≡ a.state.accepted → WatchesAll a t → WatchesAll b t
-watches-as a b t nobody accepted all =
-    let names = nobody-named a b nobody in
-    let many = a.folded.accepted in
-    all-behind many b t (ap (λ (f : Folded). f.accepted) (sym nobody.folded)) (record {
-      first = all.watches.first;
-      watches = all.watches.watches ∙ ap (links_from many) (sym names);
-      failed = all-closed-on a.history nobody.more b.history (drop many t.watches) nobody.history all.watches.failed;
-      count = accepted ∙ all.count ∙ ap (number_after many) (sym names);
-    })
-
-pub watched-as : (told : Option FrontTold) (a b : SeenBook) → TakesNobody a b → b.state.accepted ≡ a.state.accepted → IfSome told (WatchesAll a)
-    → IfSome told (WatchesAll b)
-watched-as None a b nobody accepted all = tt
-watched-as (Some t) a b nobody accepted all = watches-as a b t nobody accepted all
-
--- a change of the front that leaves its watches
-watches-still : (t t' : FrontTold) (b : SeenBook) → t'.watches ≡ t.watches → WatchesAll b t → WatchesAll b t'
-watches-still t t' b same all =
-    let many = b.folded.accepted in
+watches-as : (past : List Entry) (a b : SeenBook) (t : FrontTold) → TakesNobody a b → b.state.accepted ≡ a.state.accepted
+    → WatchesAll a.state (past ++ a.history) t → WatchesAll b.state (past ++ b.history) t
+watches-as past a b t nobody accepted all =
+    let names : accepted_names (past ++ b.history) ≡ accepted_names (past ++ a.history) =
+    names-behind past a.history b.history [] (nobody-named a b nobody ∙ sym (append-nil (accepted_names a.history)))
+    ∙ append-nil (accepted_names (past ++ a.history)) in
     record {
       watches =
           record {
-            first = subst (AreOfFirstLinks many) (sym same) all.watches.first;
-            watches = ap (λ (ws : List WatchTold). map link_watched (drop many ws)) same ∙ all.watches.watches;
-            failed = subst (λ (ws : List WatchTold). AreClosedAtOnce b.history (drop many ws)) (sym same) all.watches.failed;
+            watches = all.watches.watches ∙ ap (links_from 0) (sym names);
+            failed =
+                all-closed-on (past ++ a.history) nobody.more (past ++ b.history) t.watches (on-behind past a.history nobody.more b.history nobody.history)
+                all.watches.failed;
           };
-      count = all.count;
+      count = accepted ∙ all.count ∙ ap (number_after 0) (sym names);
     }
 
+pub watched-as : (told : Option FrontTold) (a b : SeenBook) → TakesNobody a b → b.state.accepted ≡ a.state.accepted → StaysWatching told told a b
+watched-as None a b nobody accepted past all = tt
+watched-as (Some t) a b nobody accepted past all = watches-as past a b t nobody accepted all
+
+-- two steps
+pub watched-both : (told told' told'' : Option FrontTold) (a b c : SeenBook) → StaysWatching told told' a b → StaysWatching told' told'' b c
+    → StaysWatching told told'' a c
+watched-both told told' told'' a b c first second past all = second past (first past all)
+
+-- a change of the front that leaves its watches
+watches-still : (t t' : FrontTold) (s : State) (history : List Entry) → t'.watches ≡ t.watches → WatchesAll s history t → WatchesAll s history t'
+watches-still t t' s history same all = record {
+  watches =
+      record {
+        watches = ap (map link_watched) same ∙ all.watches.watches;
+        failed = subst (AreClosedAtOnce history) (sym same) all.watches.failed;
+      };
+  count = all.count;
+}
+
 watched-mapped : (told told' : Option FrontTold) (change : FrontTold → FrontTold) (b : SeenBook) → ((t : FrontTold) → (change t).watches ≡ t.watches)
-    → told' ≡ option_map change told → IfSome told (WatchesAll b) → IfSome told' (WatchesAll b)
-watched-mapped None told' change b keeps is all = subst (λ (o : Option FrontTold). IfSome o (WatchesAll b)) (sym is) tt
-watched-mapped (Some t) told' change b keeps is all =
-    subst (λ (o : Option FrontTold). IfSome o (WatchesAll b)) (sym is) (watches-still t (change t) b (keeps t) all)
+    → told' ≡ option_map change told → StaysWatching told told' b b
+watched-mapped None told' change b keeps is past all =
+    subst (λ (o : Option FrontTold). IfSome o (WatchesAll b.state (past ++ b.history))) (sym is) tt
+watched-mapped (Some t) told' change b keeps is past all =
+    subst (λ (o : Option FrontTold). IfSome o (WatchesAll b.state (past ++ b.history))) (sym is)
+    (watches-still t (change t) b.state (past ++ b.history) (keeps t) all)
 
 accept-watches : {L : Type 0} (answer : Arrival L) (t : FrontTold) → (after_accept answer t).watches ≡ t.watches
 accept-watches (arrival.Some link) t = refl
@@ -421,78 +429,85 @@ accept-watches arrival.None t = refl
 accept-watches arrival.Failed t = refl
 
 pub watched-accept : {L : Type 0} (answer : Arrival L) (told told' : Option FrontTold) (b : SeenBook) → told' ≡ option_map (after_accept answer) told
-    → IfSome told (WatchesAll b) → IfSome told' (WatchesAll b)
-watched-accept answer told told' b is all = watched-mapped told told' (after_accept answer) b (accept-watches answer) is all
+    → StaysWatching told told' b b
+watched-accept answer told told' b is = watched-mapped told told' (after_accept answer) b (accept-watches answer) is
 
 turned-watches : (link : Option LinkTold) (t : FrontTold) → (after_turning_away link t).watches ≡ t.watches
 turned-watches None t = refl
 turned-watches (Some l) t = refl
 
 pub watched-turned : (link : Option LinkTold) (told told' : Option FrontTold) (b : SeenBook) → told' ≡ option_map (after_turning_away link) told
-    → IfSome told (WatchesAll b) → IfSome told' (WatchesAll b)
-watched-turned link told told' b is all = watched-mapped told told' (after_turning_away link) b (turned-watches link) is all
+    → StaysWatching told told' b b
+watched-turned link told told' b is = watched-mapped told told' (after_turning_away link) b (turned-watches link) is
 
-pub watched-hushed : (told told' : Option FrontTold) (b : SeenBook) → told' ≡ option_map hushed_front told → IfSome told (WatchesAll b)
-    → IfSome told' (WatchesAll b)
-watched-hushed told told' b is all = watched-mapped told told' hushed_front b (λ t. refl) is all
+pub watched-hushed : (told told' : Option FrontTold) (b : SeenBook) → told' ≡ option_map hushed_front told → StaysWatching told told' b b
+watched-hushed told told' b is = watched-mapped told told' hushed_front b (λ t. refl) is
 
 -- a wait
 pub watched-wait : (until : Option ℕ) (quiet : Bool) (answer : Woke) (ready : List ℕ) (told told' : Option FrontTold) (b : SeenBook)
-    → TellsOn (GoesForward until quiet answer ready) told told' → IfSome told (WatchesAll b) → IfSome told' (WatchesAll b)
-watched-wait until quiet answer ready None told' b tells all = subst (λ (o : Option FrontTold). IfSome o (WatchesAll b)) (sym tells) tt
-watched-wait until quiet answer ready (Some t) told' b tells all =
-    subst (λ (o : Option FrontTold). IfSome o (WatchesAll b)) (sym tells.1) (watches-still t tells.0 b tells.2.watches all)
+    → TellsOn (GoesForward until quiet answer ready) told told' → StaysWatching told told' b b
+watched-wait until quiet answer ready None told' b tells past all =
+    subst (λ (o : Option FrontTold). IfSome o (WatchesAll b.state (past ++ b.history))) (sym tells) tt
+watched-wait until quiet answer ready (Some t) told' b tells past all =
+    subst (λ (o : Option FrontTold). IfSome o (WatchesAll b.state (past ++ b.history))) (sym tells.1)
+    (watches-still t tells.0 b.state (past ++ b.history) tells.2.watches all)
 
 -- one watch more
-watches-took : (w : WatchTold) (t : FrontTold) (a b : SeenBook) → w.rank ≡ a.state.accepted → TakesOne w.name w.answer a b
-    → b.state.accepted ≡ next_count a.state.accepted → WatchesAll a t → WatchesAll b (record t { watches = t.watches ++ w ∷ [] })
-watches-took w t a b rank one accepted all =
-    let names = one.names in
-    let many = a.folded.accepted in
-    let behind = drop many t.watches in
-    let more : drop many (t.watches ++ w ∷ []) ≡ behind ++ w ∷ [] = drop-append-le many t.watches (w ∷ []) (first-within many t.watches all.watches.first) in
-    all-behind many b (record t { watches = t.watches ++ w ∷ [] }) (ap (λ (f : Folded). f.accepted) (sym one.folded)) (record {
-      first = first-more many t.watches (w ∷ []) all.watches.first;
+watches-took : (past : List Entry) (w : WatchTold) (t : FrontTold) (a b : SeenBook) → w.rank ≡ a.state.accepted → TakesOne w.name w.answer a b
+    → b.state.accepted ≡ next_count a.state.accepted → WatchesAll a.state (past ++ a.history) t
+    → WatchesAll b.state (past ++ b.history) (record t { watches = t.watches ++ w ∷ [] })
+watches-took past w t a b rank one accepted all =
+    let names = names-behind past a.history b.history (w.name ∷ []) one.names in
+    record {
       watches =
-          ap (map link_watched) more
-          ∙ map-append link_watched behind (w ∷ [])
-          ∙ ap (λ (n : ℕ). map link_watched behind ++ (n, w.name) ∷ []) (rank ∙ all.count)
-          ∙ ap (λ (xs : List (ℕ × ConnName)). xs ++ (number_after many (accepted_names a.history), w.name) ∷ []) all.watches.watches
-          ∙ sym (links-more many (accepted_names a.history) w.name)
-          ∙ ap (links_from many) (sym names);
-      failed =
-          subst (AreClosedAtOnce b.history) (sym more)
-          (all-closed-more b.history behind w (all-closed-on a.history one.more b.history behind one.history all.watches.failed) one.failed);
+          record {
+            watches =
+                map-append link_watched t.watches (w ∷ [])
+                ∙ ap (λ (n : ℕ). map link_watched t.watches ++ (n, w.name) ∷ []) (rank ∙ all.count)
+                ∙ ap (λ (xs : List (ℕ × ConnName)). xs ++ (number_after 0 (accepted_names (past ++ a.history)), w.name) ∷ []) all.watches.watches
+                ∙ sym (links-more 0 (accepted_names (past ++ a.history)) w.name)
+                ∙ ap (links_from 0) (sym names);
+            failed =
+                all-closed-more (past ++ b.history) t.watches w
+                (all-closed-on (past ++ a.history) one.more (past ++ b.history) t.watches (on-behind past a.history one.more b.history one.history)
+                all.watches.failed) (λ failed. closed-behind past b.history w.name (one.failed failed));
+          };
       count =
-          accepted ∙ ap next_count all.count ∙ sym (number-more many (accepted_names a.history) w.name) ∙ ap (number_after many) (sym names);
-    })
+          accepted
+          ∙ ap next_count all.count
+          ∙ sym (number-more 0 (accepted_names (past ++ a.history)) w.name)
+          ∙ ap (number_after 0) (sym names);
+    }
 
 -- a connection was taken, and its link watched under its name
-pub watched-took : (name : ConnName) (answer : Bool) (link : Option LinkTold) (l : LinkTold) (told told' : Option FrontTold) (a b : SeenBook) → link ≡ Some l
+watched-took : (name : ConnName) (answer : Bool) (link : Option LinkTold) (l : LinkTold) (told told' : Option FrontTold) (a b : SeenBook) → link ≡ Some l
     → l.rank ≡ a.state.accepted → told' ≡ option_map (after_watch name answer link) told → TakesOne name answer a b
-    → b.state.accepted ≡ next_count a.state.accepted → IfSome told (WatchesAll a) → IfSome told' (WatchesAll b)
-watched-took name answer link l None told' a b told_is rank is one accepted all = subst (λ (o : Option FrontTold). IfSome o (WatchesAll b)) (sym is) tt
-watched-took name answer link l (Some t) told' a b told_is rank is one accepted all =
+    → b.state.accepted ≡ next_count a.state.accepted → StaysWatching told told' a b
+watched-took name answer link l None told' a b told_is rank is one accepted past all =
+    subst (λ (o : Option FrontTold). IfSome o (WatchesAll b.state (past ++ b.history))) (sym is) tt
+watched-took name answer link l (Some t) told' a b told_is rank is one accepted past all =
     let w : WatchTold = record { rank = l.rank; name = name; answer = answer } in
     let more : told' ≡ Some (record t { watches = t.watches ++ w ∷ [] }) =
     is ∙ ap (λ (o : Option LinkTold). Some (after_watch name answer o t)) told_is in
-    subst (λ (o : Option FrontTold). IfSome o (WatchesAll b)) (sym more) (watches-took w t a b rank one accepted all)
+    subst (λ (o : Option FrontTold). IfSome o (WatchesAll b.state (past ++ b.history))) (sym more) (watches-took past w t a b rank one accepted all)
 
 -- the same of a link that tells where the front does, and is the next arrival
 pub watched-taking : (name : ConnName) (answer : Bool) (link : Option LinkTold) (told told' : Option FrontTold) (a b : SeenBook) → TellsAlike told link
     → IsArrival a.state.accepted link → told' ≡ option_map (after_watch name answer link) told → TakesOne name answer a b
-    → b.state.accepted ≡ next_count a.state.accepted → IfSome told (WatchesAll a) → IfSome told' (WatchesAll b)
-watched-taking name answer link None told' a b alike arrival is one accepted all = subst (λ (o : Option FrontTold). IfSome o (WatchesAll b)) (sym is) tt
-watched-taking name answer link (Some t) told' a b alike arrival is one accepted all =
+    → b.state.accepted ≡ next_count a.state.accepted → StaysWatching told told' a b
+watched-taking name answer link None told' a b alike arrival is one accepted past all =
+    subst (λ (o : Option FrontTold). IfSome o (WatchesAll b.state (past ++ b.history))) (sym is) tt
+watched-taking name answer link (Some t) told' a b alike arrival is one accepted past all =
     let arrives = subst (IsArrival a.state.accepted) alike.1 arrival in
-    watched-took name answer link alike.0 (Some t) told' a b alike.1 arrives.rank is one accepted all
+    watched-took name answer link alike.0 (Some t) told' a b alike.1 arrives.rank is one accepted past all
 
 -- command lines were read
-pub watched-reads : (told told' : Option FrontTold) (b : SeenBook) → TellsOn OnlyReads told told' → IfSome told (WatchesAll b) → IfSome told' (WatchesAll b)
-watched-reads None told' b reads all = subst (λ (o : Option FrontTold). IfSome o (WatchesAll b)) (sym reads) tt
-watched-reads (Some t) told' b reads all =
-    subst (λ (o : Option FrontTold). IfSome o (WatchesAll b)) (sym reads.1)
-    (watches-still t reads.0 b (ap (λ (x : FrontTold). x.watches) reads.2.rest) all)
+pub watched-reads : (told told' : Option FrontTold) (b : SeenBook) → TellsOn OnlyReads told told' → StaysWatching told told' b b
+watched-reads None told' b reads past all =
+    subst (λ (o : Option FrontTold). IfSome o (WatchesAll b.state (past ++ b.history))) (sym reads) tt
+watched-reads (Some t) told' b reads past all =
+    subst (λ (o : Option FrontTold). IfSome o (WatchesAll b.state (past ++ b.history))) (sym reads.1)
+    (watches-still t reads.0 b.state (past ++ b.history) (ap (λ (x : FrontTold). x.watches) reads.2.rest) all)
 
 -- ## The parts of a round
 

@@ -1,5 +1,5 @@
--- What command lines do to a run: each `graceful` is one order, taken or refused; the first `graceful-stop` has the server end; one that
--- says `stop` stops it, and nothing is read behind that. Each other line is dropped.
+-- What command lines ask for: each `graceful` for one order, taken or refused; the first `graceful-stop` for a graceful stop; and `stop` for
+-- a stop, behind which nothing is read. Each other line is dropped. When it is done stands in `Pace.antt`.
 use Rattle.std.specs.Prelude.{◌≡◌, ◌≢◌, ◌⊎◌, ◌<◌, ℕ, Bool, true, false, not, ◌&&◌, ◌||◌, List, [], ◌∷◌, ◌++◌, take, bytes_eq, if◌then◌else◌, ⊤}
 use Rattle.std.specs.List.{flat_map}
 use Rattle.mpm_base.specs.CommandWord.{command_word}
@@ -47,46 +47,23 @@ abbrev pub HeedsLines : Going → FrontTold → Type 0
 HeedsLines (Halted why.Asked) t = t.read < greatest_count → StopsAtLast t
 HeedsLines other t = NoneStops (lines_read t)
 
--- ## What was done
+-- ## What lines ask for
 
--- what the line asks for beside a stop, where a graceful stop was asked for before, or wasn't
+-- the line asks for a graceful stop
+abbrev pub asks_to_end : List ℕ → Bool
+asks_to_end line = bytes_eq line (command_word word.GracefulStop)
+
+-- what the line asks for, where a graceful stop was asked for before, or wasn't: a further one asks for nothing
 abbrev pub asked_in : Bool → List ℕ → List CommandWord
 asked_in ending line =
     if bytes_eq line (command_word word.Graceful) then word.Graceful ∷ []
-    else if bytes_eq line (command_word word.GracefulStop) && not ending then word.GracefulStop ∷ [] else []
-
--- a graceful stop was asked for, before the line or by it
-abbrev pub ending_with : List ℕ → Bool → Bool
-ending_with line ending = bytes_eq line (command_word word.GracefulStop) || ending
+    else if bytes_eq line stop_line then word.Stop ∷ []
+    else if asks_to_end line && not ending then word.GracefulStop ∷ [] else []
 
 -- what the lines ask for so, in order
 abbrev pub asked_by : Bool → List (List ℕ) → List CommandWord
 asked_by ending [] = []
-asked_by ending (line ∷ lines) = asked_in ending line ++ asked_by (ending_with line ending) lines
-
--- what the event does of it: an order is a `graceful`
-abbrev pub done_in : Event → List CommandWord
-done_in (event.Command (Graceful shape)) = word.Graceful ∷ []
-done_in (event.Command (Refused reason)) = word.Graceful ∷ []
-done_in (event.Command (GracefulStop until)) = word.GracefulStop ∷ []
-done_in other = []
-
--- what a history does of it, in order
-abbrev pub done_by : List Entry → List CommandWord
-done_by history = flat_map (λ e. done_in e.event) history
-
--- the history does what all lines ask for that were read but the last one
-pub record LacksLast (history : List Entry) (t : FrontTold) : Type 0 where
-  pub before : List (List ℕ)
-  pub line : List ℕ
-  pub lines_are : lines_read t ≡ before ++ line ∷ []
-  pub done : asked_by false before ≡ done_by history
-
--- the history does what the lines ask for that were read, each once and in order; where the server stopped for want of memory the last
--- one may not have been done
-abbrev pub DoesLines : Going → List Entry → FrontTold → Type 0
-DoesLines going history t =
-    t.read < greatest_count → (asked_by false (lines_read t) ≡ done_by history) ⊎ (IsBrokenOff going × LacksLast history t)
+asked_by ending (line ∷ lines) = asked_in ending line ++ asked_by (asks_to_end line || ending) lines
 
 -- the event is what a command line asks for
 abbrev pub is_by_line : Event → Bool

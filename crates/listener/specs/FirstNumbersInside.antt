@@ -1,13 +1,9 @@
--- What the numbers of a run are like, how its board opens, and what was folded of it.
-use Rattle.std.specs.Prelude.{◌≡◌, ◌≤◌, true, [], Option}
+-- What the numbers of a run are like, and how its board opens.
+use Rattle.std.specs.Prelude.{◌≡◌, ◌≤◌, true, []}
 use Rattle.mpm_base.specs.Shape.{is_in_bounds}
-use Rattle.conn_state.specs.Known.{KnownOutside}
-use Rattle.board.specs.Board.{EndedOfOutside}
 use Rattle.board.specs.Book.{SeenBook}
 use Rattle.listener.specs.declared.run_numbers.RunNumbers.{RunNumbers}
 use Rattle.listener.specs.FirstNumbers.{folded_by, opened_by}
-use Rattle.listener.specs.Listen.{HasFolded}
-use Rattle.listener.specs.Served.{whole_book}
 
 -- the numbers are ones that a table may have, and one pass serves at least
 pub record AreNumbers (n : RunNumbers) : Type 0 where
@@ -22,9 +18,3 @@ pub record AreNumbers (n : RunNumbers) : Type 0 where
 -- the book of a board that opens by these numbers
 abbrev pub opened_book : RunNumbers → SeenBook
 opened_book n = record { base = opened_by n; folded = folded_by n; history = []; state = opened_by n; passes = n.passes }
-
--- what was folded of a run by these numbers, each of whose connections was of the outside where the type knows that
-pub record IsFoldedOf (known : Option KnownOutside) (n : RunNumbers) (b : SeenBook) : Type 0 where
-  pub passes : b.passes ≡ n.passes
-  pub folded : HasFolded n b
-  pub outside : EndedOfOutside known (whole_book n folded.entries) folded.ended

@@ -1,6 +1,6 @@
 -- What helps to prove, and no public contract reaches, of: Folds of a run, and what goes on over them.
 use Rattle.std.specs.Prelude.{◌≡◌, ℕ, ◌+◌, ◌<◌, ◌^◌, List, [], ◌++◌, length, Option}
-use Rattle.mpm_base.specs.Front.{FrontTold, WaitTold}
+use Rattle.mpm_base.specs.Front.{FrontTold}
 use Rattle.mpm_base.specs.declared.shape.Shape.{Shape}
 use Rattle.conn_machine.specs.declared.event.Entry.{Entry}
 use Rattle.conn_machine.specs.declared.folded.Folded.{Folded}
@@ -17,11 +17,9 @@ use Rattle.board.specs.Book.{SeenBook}
 use Rattle.board.specs.Editions.{IsOfGeneration, KeepsEditions, orders_in}
 use Rattle.file_table.specs.Site.{SeenSite}
 use Rattle.http_read.specs.declared.request.Limits.{Limits}
-use Rattle.listener.specs.ListenInside.{IsWatching}
+use Rattle.rounds.specs.PartsInside.{NoneHas, StaysTimely}
 use Rattle.listener.specs.Patient.{IsPatientRun}
-use Rattle.rounds.specs.PartsInside.{NoneHas, StartsAsAsked}
 use Rattle.listener.specs.StandingInside.{StandsOverFold}
-use Rattle.listener.specs.Times.{IsInformed}
 
 -- the laws of folds, and of histories and connections that ended, as one fact: what a fold counted and what comes behind it are together
 -- what one fold counts of both
@@ -55,12 +53,10 @@ pub record ShowsForFolds (known : Option KnownOutside) (b : SeenBoard) : Type 0 
 pub record ListensOn (known : Option KnownOutside) (old new : SeenBoard) : Type 0 where
   pub passes : new.book.passes ≡ old.book.passes
   pub state : new.book.state ≡ old.book.state
+  pub rows : length new.book.base.rows ≡ length old.book.base.rows
   pub free : NoneHas old.book → NoneHas new.book
-  pub asked : StartsAsAsked old.book new.book
-  pub informed : (waits : Option (List WaitTold)) (calls : Option (List (ℕ × ℕ))) → IsInformed waits calls old.book → IsInformed waits calls new.book
-  pub watched : (told : Option FrontTold) → IsWatching told old.book → IsWatching told new.book
-  pub patient : (told : Option FrontTold) (calls : Option (List (ℕ × ℕ))) → IsPatientRun told calls old.book → IsPatientRun told calls new.book
+  pub timely : StaysTimely old.book new.book
+  pub patient : (told : Option FrontTold) (calls : Option (List (ℕ × ℕ))) → IsPatientRun told calls old.book.base old.book.history → IsPatientRun told calls new.book.base new.book.history
   pub folded : StandsOverFold known old.book new.book
   pub orders : orders_in new.book ≡ orders_in old.book
   pub edition : (limits : Limits) (site : SeenSite) → IsOfGeneration known old.book old.book.state.newest limits site → IsOfGeneration known new.book new.book.state.newest limits site
-  pub unfolded : new.book.folded.entries ≡ 0 → new ≡ old

@@ -1,4 +1,6 @@
 pub mod Commands
+pub mod Counted
+pub mod CountedInside
 pub mod FirstNumbers
 pub mod FirstNumbersInside
 pub mod FoldsInside
@@ -9,11 +11,13 @@ pub mod ListenInside
 pub mod Orders
 pub mod OrdersInside
 pub mod Outside
+pub mod Pace
 pub mod Patient
 pub mod RoundInside
 pub mod Runs
 pub mod RunsInside
 pub mod Served
+pub mod ShareInside
 pub mod StandingInside
 pub mod StartedFirst
 pub mod Stops

@@ -1,10 +1,10 @@
 -- What became of the links that a front handed out.
-use Rattle.std.specs.Prelude.{◌≡◌, ◌⊎◌, ◌<◌, ◌≤◌, ◌+◌, ℕ, [], ◌∷◌, length, count_by}
+use Rattle.std.specs.Prelude.{◌≡◌, ◌⊎◌, ◌<◌, ◌≤◌, ℕ, List, [], ◌∷◌, length, count_by}
 use Rattle.mpm_base.specs.Count.{greatest_count, next_count}
 use Rattle.mpm_base.specs.Front.{FrontTold, client_at}
 use Rattle.mpm_base.specs.Link.{after_close, fresh_link}
 use Rattle.conn_machine.specs.declared.state.State.{State}
-use Rattle.board.specs.Board.{SeenBoard}
+use Rattle.conn_state.specs.Answered.{SeenEnded}
 use Rattle.board.specs.Ranks.{AllTell, has_rank}
 use Rattle.rounds.specs.ClosedDown.{IsBrokenOff}
 
@@ -26,22 +26,22 @@ TakesLinks s t = HandsOutTaken s t ⊎ (IsBrokenOff s.going × TurnsOneAway s t)
 
 -- ## Links of connections that ended
 
--- the links of the connections that ended tell; they are, each once, links that the table took, and no other link; and with those of
--- the connections that were folded they are as many as the table took
-pub record EndsEachOnce (b : SeenBoard) : Type 0 where
-  pub tell : AllTell b.ended
-  pub once : (number : ℕ) → count_by (has_rank number) b.ended ≤ 1
-  pub taken : (number : ℕ) → b.book.state.accepted ≤ number → count_by (has_rank number) b.ended ≡ 0
-  pub as_many : b.book.folded.closed + length b.ended ≡ b.book.state.accepted
+-- the links of all connections that ended tell; they are, each once, links that the table took, and no other link; and they are as many as
+-- the table took
+pub record EndsEachOnce (s : State) (ended : List SeenEnded) : Type 0 where
+  pub tell : AllTell ended
+  pub once : (number : ℕ) → count_by (has_rank number) ended ≤ 1
+  pub taken : (number : ℕ) → s.accepted ≤ number → count_by (has_rank number) ended ≡ 0
+  pub as_many : length ended ≡ s.accepted
 
 -- the same, while fewer connections were taken than the greatest count
-abbrev pub EndsLinks : SeenBoard → Type 0
-EndsLinks b = b.book.state.accepted < greatest_count → EndsEachOnce b
+abbrev pub EndsLinks : State → List SeenEnded → Type 0
+EndsLinks s ended = s.accepted < greatest_count → EndsEachOnce s ended
 
 -- ## Both
 
--- what became of the links that the front handed out: the table took each but for one at most, which was turned away, and as many as it
--- took are those of connections that ended, of which the kept ones have each one of its own
-pub record KeepsLinks (b : SeenBoard) (t : FrontTold) : Type 0 where
-  pub taken : TakesLinks b.book.state t
-  pub ended : EndsLinks b
+-- what became of the links that the front handed out: the table took each but for one at most, which was turned away, and each that it took
+-- is that of one connection that ended
+pub record KeepsLinks (s : State) (ended : List SeenEnded) (t : FrontTold) : Type 0 where
+  pub taken : TakesLinks s t
+  pub ended : EndsLinks s ended

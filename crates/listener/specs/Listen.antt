@@ -14,15 +14,15 @@ use Rattle.board.specs.Board.{SeenBoard, Agrees, AreClosed, AreEnded}
 use Rattle.board.specs.ReportLine.{line_of}
 use Rattle.listener.specs.Commands.{TellsStop}
 use Rattle.listener.specs.FirstNumbers.{folded_by, opened_by}
-use Rattle.rounds.specs.Started.{AreAskedFor}
+use Rattle.rounds.specs.Timely.{AreTimely}
 use Rattle.listener.specs.declared.run_numbers.RunNumbers.{RunNumbers}
 use Rattle.rounds.specs.ClosedDown.{IsClosedDown}
 
 -- ## A run
 
 -- the history that is kept is one of the machine, from the state before it, in the order of its passes behind what was folded; each
--- entry is one that its pass, one of so many, may make where it stands, each child that was started was asked for, and each stop is told
--- by the state; before the first entry each pass had a connection of its own, or none, and each one that somebody had was some pass's; each
+-- entry is one that its pass, one of so many, may make where it stands, and is made while it is time for it, and each stop is told by the
+-- state; before the first entry each pass had a connection of its own, or none, and each one that somebody had was some pass's; each
 -- state on its way is sound; and the connections agree with the history
 pub record IsRunFrom (n : RunNumbers) (b : SeenBoard) : Type 0 where
   pub run : Run b.book.base b.book.history
@@ -30,22 +30,22 @@ pub record IsRunFrom (n : RunNumbers) (b : SeenBoard) : Type 0 where
   pub made : AreMade b.book.base b.book.folded b.book.history
   pub own : EachHasItsOwn b.book.base (first_row b.book.folded)
   pub few : AreOfPasses n.passes b.book.history
-  pub asked : AreAskedFor b.book.base b.book.history
+  pub timely : AreTimely b.book.base b.book.history
   pub state : after b.book.base b.book.history ≡ b.book.state
   pub stays_sound : StaysSound b.book.base b.book.history
   pub stop : TellsStop b.book
   pub agrees : Agrees b
 
 -- what was folded of a run by these numbers: entries from the state in which it opens, each of which is one that its pass, one of so many,
--- may make where it stands, and each child that was started was asked for; the connections that ended in them are those that they close, in
--- order, each of which shows what an ended connection shows; the state before the history that is kept is the one behind them; and the
--- record is what one fold makes of them
+-- may make where it stands, and is made while it is time for it; the connections that ended in them are those that they close, in order,
+-- each of which shows what an ended connection shows; the state before the history that is kept is the one behind them; and the record is
+-- what one fold makes of them
 pub record HasFolded (n : RunNumbers) (b : SeenBook) : Type 0 where
   pub entries : List Entry
   pub ended : List SeenEnded
   pub made : AreMade (opened_by n) (folded_by n) entries
   pub few : AreOfPasses n.passes entries
-  pub asked : AreAskedFor (opened_by n) entries
+  pub timely : AreTimely (opened_by n) entries
   pub base_is : b.base ≡ after (opened_by n) entries
   pub record_is : b.folded ≡ fold_of (opened_by n) entries (map line_of ended) (folded_by n)
   pub closed : AreClosed (opened_by n) entries ended

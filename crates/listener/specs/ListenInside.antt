@@ -2,13 +2,14 @@
 use Rattle.board.specs.Book.{SeenBook}
 use Rattle.board.specs.Finds.{acceptable}
 use Rattle.board.specs.declared.faults.BoardFault.{BoardFault}
+use Rattle.conn_machine.specs.declared.event.Entry.{Entry}
 use Rattle.conn_machine.specs.States.{is_halted, is_over, is_serving}
 use Rattle.conn_machine.specs.declared.state.State.{State}
 use Rattle.conn_state.specs.Conn.{IsFresh}
 use Rattle.conn_state.specs.Known.{KnownOutside}
 use Rattle.mpm_base.specs.Clock.{Answers}
 use Rattle.mpm_base.specs.Count.{NeverFalls, Rises, greatest_count, next_count}
-use Rattle.mpm_base.specs.Front.{Binds, FrontTold, FrontSeen, BoundTold, DialTold, WaitTold, HasNoneToTake}
+use Rattle.mpm_base.specs.Front.{Binds, FrontTold, FrontSeen, BoundTold, DialTold, HasNoneToTake}
 use Rattle.mpm_base.specs.Link.{LinkTold}
 use Rattle.mpm_base.specs.declared.conn.ConnName.{ConnName}
 use Rattle.mpm_base.specs.declared.front.Woke.{Woke}
@@ -16,19 +17,16 @@ use Rattle.listener.specs.Commands.{NoneStops, StopsAtLast, lines_read}
 use Rattle.listener.specs.Links.{HandsOutTaken, TakesLinks, TurnsOneAway}
 use Rattle.rounds.specs.ClosedDown.{HasNoLive, IsClosedDown}
 use Rattle.listener.specs.Outside.{clients_told, comings_told}
-use Rattle.rounds.specs.Started.{BeginsWithStarts}
 use Rattle.listener.specs.Stops.{HasFailedLast, HasTakenAll, StoppedFor}
-use Rattle.listener.specs.Times.{IsInformed, IsInformedOfTime, IsInformedSoFar}
 use Rattle.listener.specs.Watched.{AreWatched, accepted_names}
 use Rattle.rounds.specs.declared.ends.End.{End}
 use Rattle.listener.specs.declared.run_numbers.RunNumbers.{RunNumbers}
 use Rattle.listener.specs.declared.server.OpenFault.{OpenFault}
-use Rattle.std.specs.Prelude.{◌≡◌, ◌<◌, ℕ, List, Option, IfSome, option_map, is_some, ◌⊎◌, ◌≤◌, true, false, not, [], ◌∷◌, None, Some, length, Result, Ok, Err}
+use Rattle.std.specs.Prelude.{◌≡◌, ◌<◌, ℕ, List, Option, IfSome, option_map, is_some, ◌⊎◌, ◌≤◌, true, false, not, [], ◌∷◌, ◌++◌, None, Some, length, Result, Ok, Err}
 use Rattle.worker_group.specs.Service.{RefusalLasts}
 use Rattle.mpm_base.specs.declared.front.Woke.TheVariants as woke
 use Rattle.rounds.specs.declared.ends.End.TheVariants as end
 use Rattle.listener.specs.declared.server.OpenFault.TheVariants as opening
-use Rattle.rounds.specs.TableInside.{asked_children}
 use Rattle.rounds.specs.EndsInside.{IsAllGone}
 
 -- what a front was bound to, and its dials
@@ -107,6 +105,7 @@ pub record Follows (old new : FrontSeen) : Type 0 where
   pub faults : NeverFalls old.counts.faults new.counts.faults
   pub ends : NeverFalls old.counts.ends new.counts.ends
   pub commands : NeverFalls old.counts.commands new.counts.commands
+  pub stops : NeverFalls old.counts.words.stop new.counts.words.stop
 
 -- the front listens exactly while the server takes connections
 abbrev pub ListensAsServed : State → FrontTold → Type 0
@@ -121,11 +120,6 @@ pub record KeepsStep (s : State) (t : FrontTold) : Type 0 where
 abbrev pub IsInStep : Option FrontTold → State → Type 0
 IsInStep told s = IfSome told (KeepsStep s)
 
--- where nothing was folded, the front didn't wait, or the children were started before all else
-abbrev pub HasStarted : Option (List WaitTold) → Option (List WaitTold) → SeenBook → SeenBook → Type 0
-HasStarted waits waits' old new =
-    new.folded.entries ≡ 0 → (waits' ≡ waits) ⊎ BeginsWithStarts (asked_children old.base) new.history
-
 -- the table took each link that a front that tells handed out, or it turned the last one away
 abbrev pub HandsOut : Option FrontTold → State → Type 0
 HandsOut told s = IfSome told (λ t. HandsOutTaken s t ⊎ TurnsOneAway s t)
@@ -135,18 +129,27 @@ abbrev pub number_after : ℕ → List ConnName → ℕ
 number_after number [] = number
 number_after number (name ∷ names) = number_after (next_count number) names
 
--- the front watches each link that the table took, and the table counted them behind those whose entries were folded
-pub record WatchesAll (b : SeenBook) (t : FrontTold) : Type 0 where
-  pub watches : AreWatched b t
-  pub count : b.state.accepted ≡ number_after b.folded.accepted (accepted_names b.history)
+-- behind these entries of a run, whose state is this one, the front watches each link that the table took, and the table counted them
+pub record WatchesAll (s : State) (history : List Entry) (t : FrontTold) : Type 0 where
+  pub watches : AreWatched history t
+  pub count : s.accepted ≡ number_after 0 (accepted_names history)
 
--- the same of a front that tells
-abbrev pub IsWatching : Option FrontTold → SeenBook → Type 0
-IsWatching told b = IfSome told (WatchesAll b)
+-- where a front that tells did so, it still does, whatever was folded before
+abbrev pub StaysWatching : Option FrontTold → Option FrontTold → SeenBook → SeenBook → Type 0
+StaysWatching told told' old new =
+    (before : List Entry) → IfSome told (WatchesAll old.state (before ++ old.history)) → IfSome told' (WatchesAll new.state (before ++ new.history))
 
 -- the table took each link that a front that tells handed out, or the server was broken off and the last one was turned away
 abbrev pub HandedOut : Option FrontTold → State → Type 0
 HandedOut told s = IfSome told (TakesLinks s)
+
+-- a front that tells has told no wait and no watch, handed nothing out, given no line, and listens
+pub record HasNotBegun (t : FrontTold) : Type 0 where
+  pub waits : t.waits ≡ []
+  pub watches : t.watches ≡ []
+  pub accepted : t.accepted ≡ 0
+  pub read : t.read ≡ 0
+  pub hushed : t.hushed ≡ false
 
 -- nothing has come of a front that tells, and of the table nothing was asked: no time has passed, that a patient one tells
 pub record IsAtStart (told : Option FrontTold) (b : SeenBook) : Type 0 where
@@ -180,22 +183,12 @@ pub record HasNothingToCome (old new : FrontSeen) (s : State) : Type 0 where
 -- over, or all is gone behind one, or the server has to stop
 abbrev pub TurnsEnd : Result End BoardFault → FrontSeen → FrontSeen → SeenBook → Type 0
 TurnsEnd (Ok end.Ended) old new b = HasNothingToCome old new b.state
-TurnsEnd (Ok end.Asked) old new b = (is_halted b.state.going ≡ false) × Rises old.counts.commands new.counts.commands
+TurnsEnd (Ok end.Asked) old new b = (is_halted b.state.going ≡ false) × Rises old.counts.words.stop new.counts.words.stop
 TurnsEnd (Ok end.Failed) old new b =
     (is_halted b.state.going ≡ false) × Rises old.counts.faults new.counts.faults × IfSome new.told HasFailedLast
 TurnsEnd (Ok end.Overdue) old new b = is_over b.state.moment b.state.going ≡ true
 TurnsEnd (Ok end.Gone) old new b = IsAllGone b.state
 TurnsEnd (Err fault) old new b = RefusalLasts fault b
-
--- what the turns did of all that the waits and the clock gave: where they were broken off the last of it may be missing, and where the time
--- of a graceful stop is over nothing was signalled any more of what the last wait gave
-abbrev pub TurnsInform : Result End BoardFault → Option (List WaitTold) → Option (List (ℕ × ℕ)) → SeenBook → Type 0
-TurnsInform (Ok end.Ended) waits calls b = IsInformed waits calls b
-TurnsInform (Ok end.Asked) waits calls b = IsInformed waits calls b
-TurnsInform (Ok end.Failed) waits calls b = IsInformed waits calls b
-TurnsInform (Ok end.Overdue) waits calls b = IsInformedOfTime waits calls b
-TurnsInform (Ok end.Gone) waits calls b = IsInformed waits calls b
-TurnsInform (Err fault) waits calls b = IsInformedSoFar waits calls b
 
 -- no further connection is taken: none could be, or a front that tells has none to take, or an accept of it failed
 abbrev pub TookAll : Option FrontTold → State → Type 0
@@ -206,7 +199,7 @@ TookAll told s = (acceptable s ≡ None) ⊎ IfSome told HasNoneToTake ⊎ IfSom
 abbrev pub TakesInTo : Option End → FrontSeen → FrontSeen → State → Type 0
 TakesInTo None old new s = TookAll new.told s × HasReadAll new.told × IfSome new.told HasNoneToHeed
 TakesInTo (Some end.Asked) old new s =
-    (is_halted s.going ≡ false) × Rises old.counts.commands new.counts.commands × IfSome new.told HasOneToHeed
+    (is_halted s.going ≡ false) × Rises old.counts.words.stop new.counts.words.stop × IfSome new.told HasOneToHeed
 TakesInTo (Some end.Overdue) old new s = (is_over s.moment s.going ≡ true) × IfSome new.told HasNoneToHeed
 TakesInTo (Some end.Gone) old new s = IsAllGone s × IfSome new.told HasNoneToHeed
 TakesInTo (Some end.Ended) old new s = ⊥

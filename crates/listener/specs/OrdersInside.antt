@@ -1,5 +1,5 @@
 -- What the listener keeps of its generations on its way, and what it does for a command line.
-use Rattle.std.specs.Prelude.{◌≡◌, ◌⊎◌, ℕ, ◌+◌, Bool, [], ◌∷◌, if◌then◌else◌, Option, None, Some}
+use Rattle.std.specs.Prelude.{◌≡◌, ◌⊎◌, ℕ, ◌+◌, Bool, true, false, List, [], ◌∷◌, ◌++◌, map, if◌then◌else◌, Option, None, Some}
 use Rattle.mpm_base.specs.CommandWord.{command_word}
 use Rattle.mpm_base.specs.Front.{Commands, FrontSeen, after_hush}
 use Rattle.mpm_base.specs.Store.{StoreSeen, StoreTold}
@@ -20,6 +20,7 @@ use Rattle.conn_machine.specs.declared.event.Refusal.TheVariants as refusal
 use Rattle.listener.specs.Generations.{Opening, known_edition, head_limits_of}
 use Rattle.listener.specs.Outside.{clients_told}
 use Rattle.listener.specs.Orders.{shape_by}
+use Rattle.listener.specs.Pace.{brought, ordered}
 use Rattle.listener.specs.StandingInside.{KnowsLater, Standing, StandsBroken, StandsOn, standing}
 use Rattle.listener.specs.declared.edition.LoadedEdition.{LoadedEdition}
 use Rattle.listener.specs.declared.edition.NamedConfig.{NamedConfig}
@@ -78,10 +79,19 @@ pub record LacksMemory (old new : SeenBook) (e e' : LoadedEdition) : Type 0 wher
 abbrev pub Carries : Plan → SeenBook → SeenBook → LoadedEdition → LoadedEdition → Type 0
 Carries plan old new e e' = Begins plan old new e' ⊎ LacksMemory old new e e'
 
+-- the listener made this of command lines, and of nothing else that came from outside
+abbrev pub MakesOrders : List CommandWord → SeenBook → SeenBook → Type 0
+MakesOrders words old new = brought new.history ≡ brought old.history ++ map ordered words
+
+-- what a line that asks for a graceful stop asks for, where the server takes connections, or doesn't
+abbrev pub end_if : Bool → List CommandWord
+end_if true = word.GracefulStop ∷ []
+end_if false = []
+
 -- a run stands on over whichever front gave a line of that word, which was done
 abbrev pub StandsBehind : Option KnownOutside → NamedConfig → CommandWord → (FrontSeen → Standing) → (FrontSeen → Standing) → Type 0
 StandsBehind known c asked old new =
-    (f f' : FrontSeen) → Commands f f' (Some (command_word asked)) → StandsOn known c [] 0 (old f) (new f')
+    (f f' : FrontSeen) → Commands f f' (Some (command_word asked)) → StandsOn known c 0 0 (old f) (new f')
 
 -- the same of one that is broken off
 abbrev pub BreaksBehind : Option KnownOutside → NamedConfig → CommandWord → (FrontSeen → Standing) → (FrontSeen → Standing) → Type 0
@@ -92,13 +102,18 @@ BreaksBehind known c asked old new =
 abbrev pub EndingStands : Option KnownOutside → NamedConfig → ℕ → FrontSeen → FrontSeen → SeenBook → SeenBook → Type 0
 EndingStands known c stop_ms front front' old new =
     (f : FrontSeen) (store : StoreSeen) → Commands f front (Some (command_word word.GracefulStop))
-    → StandsOn known c [] 0 (standing stop_ms store f old) (standing stop_ms store front' new)
+    → StandsOn known c 0 0 (standing stop_ms store f old) (standing stop_ms store front' new)
 
 -- the same of one that is broken off
 abbrev pub EndingBreaks : Option KnownOutside → NamedConfig → ℕ → FrontSeen → FrontSeen → SeenBook → SeenBook → Type 0
 EndingBreaks known c stop_ms front front' old new =
     (f : FrontSeen) (store : StoreSeen) → Commands f front (Some (command_word word.GracefulStop))
     → StandsBroken known c (standing stop_ms store f old) (standing stop_ms store front' new)
+
+-- listening was stopped, or the front is as it was
+abbrev pub IsHushedIf : Bool → FrontSeen → FrontSeen → Type 0
+IsHushedIf true old new = new ≡ after_hush old
+IsHushedIf false old new = new ≡ old
 
 -- the front is as it was, or listening was stopped
 abbrev pub MayHush : FrontSeen → FrontSeen → Type 0

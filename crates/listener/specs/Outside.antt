@@ -1,39 +1,45 @@
--- What ties the history of a run to its front and its clock, each as far as it tells.
+-- What ties all entries of a run, and all connections that ended, to its front and its clock, each as far as it tells.
 use Rattle.std.specs.Prelude.{◌≡◌, ℕ, List, Option, option_map, is_some, IfSome}
 use Rattle.mpm_base.specs.Front.{FrontSeen, FrontTold}
-use Rattle.board.specs.Board.{SeenBoard}
+use Rattle.conn_machine.specs.declared.event.Entry.{Entry}
+use Rattle.conn_machine.specs.declared.state.State.{State}
+use Rattle.conn_state.specs.Answered.{SeenEnded}
 use Rattle.listener.specs.Commands.{HeedsLines}
+use Rattle.listener.specs.FirstNumbers.{opened_by}
 use Rattle.listener.specs.Links.{KeepsLinks}
+use Rattle.listener.specs.Pace.{KeepsPace}
 use Rattle.listener.specs.Patient.{IsPatientFrom}
 use Rattle.listener.specs.StartedFirst.{IsStartedFirst}
-use Rattle.listener.specs.Stops.{StoppedFor}
+use Rattle.listener.specs.Stops.{StoppedFor, TakesEach}
 use Rattle.listener.specs.Tells.{AllReceive}
-use Rattle.listener.specs.Times.{IsInTime, WasInformed, waits_of}
+use Rattle.listener.specs.Times.{IsInTime, waits_of}
 use Rattle.listener.specs.Watched.{AreWatched, IsOpenedAndHushed}
 use Rattle.listener.specs.declared.run_numbers.RunNumbers.{RunNumbers}
 
--- what a run by these numbers did with a front that tells: it was bound once, to what the numbers say, dialled nothing, and listens no
--- more; where it waited at all and nothing was folded, the children were started before all else; behind as many watches as connections
--- were taken before, which are of the first links in order, each link that the table took was watched under the name of its connection;
--- what became of each link that it handed out; each ended connection that is kept received a front of what its client sends; and its
--- command lines were heeded
-pub record KeepsFront (n : RunNumbers) (b : SeenBoard) (t : FrontTold) : Type 0 where
+-- what a run by these numbers, of which these are all entries and all connections that ended, did with a front that tells: it was bound once,
+-- to what the numbers say, dialled nothing, and listens no more; where it waited at all the children were started before all else; each
+-- link that the table took was watched under the name of its connection; what became of each link that it handed out; each ended connection
+-- received a front of what its client sends; no line was read behind one that stops the server; and where nothing more could come, and no
+-- graceful stop was begun, each connection was taken
+pub record KeepsFront (n : RunNumbers) (s : State) (history : List Entry) (ended : List SeenEnded) (t : FrontTold) : Type 0 where
   pub opened : IsOpenedAndHushed n t
-  pub started : IsStartedFirst n b.book t
-  pub watched : AreWatched b.book t
-  pub links : KeepsLinks b t
-  pub receive : AllReceive t.clients b.ended
-  pub heeded : HeedsLines b.book.state.going t
+  pub started : IsStartedFirst n history t
+  pub watched : AreWatched history t
+  pub links : KeepsLinks s ended t
+  pub receive : AllReceive t.clients ended
+  pub heeded : HeedsLines s.going t
+  pub each : TakesEach s.going history t
 
--- the same, and of any front and clock: the clock was told what the waits gave; the ticks and signals of the history come from both;
--- over a patient front, of which nothing had come at first, and a clock that answers what it is told, time passed in the history only where
--- nothing was left to be done; and the server stopped for what the front shows
-pub record KeepsOutside (n : RunNumbers) (f f' : FrontSeen) (calls : Option (List (ℕ × ℕ))) (b : SeenBoard) : Type 0 where
-  pub front : IfSome f'.told (KeepsFront n b)
+-- the same, and of any front and clock: the clock was told what the waits gave; the listener kept the pace of both; over a patient front, of
+-- which nothing had come at first, and a clock that answers what it is told, time passed only where nothing was left to be done; and the
+-- server stopped for what the front shows
+pub record KeepsOutside (n : RunNumbers) (f f' : FrontSeen) (calls : Option (List (ℕ × ℕ))) (s : State) (history : List Entry)
+    (ended : List SeenEnded) : Type 0 where
+  pub front : IfSome f'.told (KeepsFront n s history ended)
   pub time : IsInTime (waits_of f'.told) calls
-  pub informed : WasInformed (waits_of f'.told) calls b.book
-  pub patient : IsPatientFrom f.told f'.told calls b.book
-  pub stopped : StoppedFor f f' b.book.state
+  pub pace : KeepsPace n.slots f'.told calls s.going history
+  pub patient : IsPatientFrom f.told f'.told calls (opened_by n) history
+  pub stopped : StoppedFor f f' s
 
 -- what the clients of a front send, in the order of arrival, where it tells that
 abbrev pub clients_told : Option FrontTold → Option (List (List ℕ))

@@ -10,11 +10,10 @@ use Rattle.conn_machine.specs.declared.state.State.{State}
 use Rattle.conn_machine.specs.Rows.{is_parked}
 use Rattle.conn_machine.specs.States.{is_signalled}
 use Rattle.mpm_base.specs.Clock.{AreEchoes}
-use Rattle.board.specs.Book.{SeenBook}
 use Rattle.board.specs.Finds.{acceptable, next_deadline_of}
 use Rattle.rounds.specs.Moments.{moment_for}
 use Rattle.rounds.specs.AtRest.{IsAtRest}
-use Rattle.rounds.specs.Started.{AllAt}
+use Rattle.rounds.specs.Timely.{AllAt}
 
 -- ## Nothing left to be done
 
@@ -85,10 +84,10 @@ pub record IsSteady (told : Option FrontTold) (calls : Option (List (ℕ × ℕ)
   pub clock : calls ≡ Some asked
   pub echoes : AreEchoes asked
 
--- over such ones time passes patiently
-abbrev pub IsPatientRun : Option FrontTold → Option (List (ℕ × ℕ)) → SeenBook → Type 0
-IsPatientRun told calls b = (steady : IsSteady told calls) → ArePatient steady.comings steady.front.waits b.base b.history
+-- over such ones time passes patiently in the history from the state on
+abbrev pub IsPatientRun : Option FrontTold → Option (List (ℕ × ℕ)) → State → List Entry → Type 0
+IsPatientRun told calls s history = (steady : IsSteady told calls) → ArePatient steady.comings steady.front.waits s history
 
 -- over such ones time passes patiently in a run that began when nothing had come of the front
-abbrev pub IsPatientFrom : Option FrontTold → Option FrontTold → Option (List (ℕ × ℕ)) → SeenBook → Type 0
-IsPatientFrom told told' calls b = IfSome told HasNothingCome → IsPatientRun told' calls b
+abbrev pub IsPatientFrom : Option FrontTold → Option FrontTold → Option (List (ℕ × ℕ)) → State → List Entry → Type 0
+IsPatientFrom told told' calls s history = IfSome told HasNothingCome → IsPatientRun told' calls s history

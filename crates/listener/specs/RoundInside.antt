@@ -24,7 +24,7 @@ use Rattle.listener.specs.ListenInside.{IsInStep}
 use Rattle.rounds.specs.declared.ends.End.{End}
 use Rattle.rounds.specs.declared.ends.End.TheVariants as end
 use Rattle.rounds.specs.Moments.{known_slots, ticks_to}
-use Rattle.rounds.specs.PartsInside.{StartsAsAsked, way_of, GivesUp, Departures, time_events, departures_events, AreLetGo, PassesTime}
+use Rattle.rounds.specs.PartsInside.{way_of, GivesUp, Departures, time_events, departures_events, AreLetGo, PassesTime}
 
 -- ## Connections that are taken
 
@@ -148,7 +148,7 @@ pub record DoesUntil (fault : BoardFault) (old new : SeenBook) : Type 0 where
   pub why : IsRefusedFor fault new
 
 -- a round let time pass to the given moment, signalled each of the given slots that the table has, let go of connections, did what
--- command lines ask for, let go of children, started children that were asked for, and took connections
+-- command lines ask for, let go of children, started children, and took connections
 pub record GoesRound (to : ℕ) (slots : List ℕ) (old new : SeenBook) : Type 0 where
   pub round : Round
   pub soon : NoneEarly old round.early
@@ -157,7 +157,6 @@ pub record GoesRound (to : ℕ) (slots : List ℕ) (old new : SeenBook) : Type 0
   pub ways : AreWays round
   pub left : AllLeft round.takes
   pub acts : Acts 0 (round_events round) None old new
-  pub asked : StartsAsAsked old new
 
 -- a round was broken off by a call that was refused for the fault: nothing was done then, or the connection in hand was given up
 abbrev pub EndsRound : BoardFault → SeenBook → SeenBook → Type 0
@@ -173,11 +172,24 @@ pub record BreaksOff (fault : BoardFault) (to : ℕ) (slots : List ℕ) (old new
   pub left : AllLeft round.takes
   pub book : SeenBook
   pub acts : Acts 0 (round_events round) None old book
-  pub asked : StartsAsAsked old book
   pub last : EndsRound fault book new
 
--- a round that ended the turns, or didn't: where the time of a graceful stop is over nothing was done but that time passed, and late
--- connections were let go of
+-- nothing was done behind the command lines: no child was let go of or started, and no connection was taken
+pub record EndsWithLines (r : Round) : Type 0 where
+  pub retired : r.retired ≡ []
+  pub starts : r.starts ≡ []
+  pub takes : r.takes ≡ []
+
+-- nothing was done once children were let go of: none was started, and no connection was taken
+pub record EndsWithRetiring (r : Round) : Type 0 where
+  pub starts : r.starts ≡ []
+  pub takes : r.takes ≡ []
+
+-- a round that ended the turns for this, or didn't: where the time of a graceful stop is over nothing was done but that time passed, and late
+-- connections were let go of; where a command line asks to stop nothing was done behind that; and where a graceful stop is at its end
+-- nothing was done behind the last child
 abbrev pub RoundEnds : Option End → ℕ → List ℕ → SeenBook → SeenBook → Type 0
 RoundEnds (Some end.Overdue) to slots old new = PassesTime to old new
+RoundEnds (Some end.Asked) to slots old new = (goes : GoesRound to slots old new) × EndsWithLines goes.round
+RoundEnds (Some end.Gone) to slots old new = (goes : GoesRound to slots old new) × EndsWithRetiring goes.round
 RoundEnds other to slots old new = GoesRound to slots old new

@@ -21,6 +21,10 @@ whole_book n entries =
 abbrev pub all_entries : (n : RunNumbers) (b : SeenBook) → HasFolded n b → List Entry
 all_entries n b before = before.entries ++ b.history
 
+-- all connections of a run that ended: those that ended in what was folded, and behind them the kept ones
+abbrev pub all_ended : (n : RunNumbers) (b : SeenBoard) → HasFolded n b.book → List SeenEnded
+all_ended n b before = before.ended ++ b.ended
+
 -- each of the connections was served by the edition of its generation, as the book has that
 abbrev pub AreServedIn : KnownOutside → SeenBook → List SeenEnded → Type 0
 AreServedIn k b [] = ⊤
@@ -29,4 +33,4 @@ AreServedIn k b (e ∷ ended) = HasItsEdition k b e.generation e.limits e.site �
 -- each connection that ended in a run by these numbers, folded and kept ones, was served by the edition of its generation
 abbrev pub ServesByEditions : Opening → (n : RunNumbers) (b : SeenBoard) → HasFolded n b.book → Type 0
 ServesByEditions o n b before =
-    AreServedIn (known_editions o) (whole_book n (all_entries n b.book before)) (before.ended ++ b.ended)
+    AreServedIn (known_editions o) (whole_book n (all_entries n b.book before)) (all_ended n b before)

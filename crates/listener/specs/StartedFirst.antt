@@ -1,7 +1,7 @@
 -- Which children a run starts at first, where the front waited at all.
-use Rattle.std.specs.Prelude.{◌≡◌, ◌≢◌, ℕ, [], min, ⊤}
+use Rattle.std.specs.Prelude.{◌≢◌, ℕ, List, [], min}
 use Rattle.mpm_base.specs.Front.{FrontTold}
-use Rattle.board.specs.Book.{SeenBook}
+use Rattle.conn_machine.specs.declared.event.Entry.{Entry}
 use Rattle.listener.specs.declared.run_numbers.RunNumbers.{RunNumbers}
 use Rattle.rounds.specs.Started.{BeginsWithStarts}
 
@@ -9,6 +9,6 @@ use Rattle.rounds.specs.Started.{BeginsWithStarts}
 abbrev pub first_children : RunNumbers → ℕ
 first_children n = min n.shape.target n.children
 
--- where nothing was folded, and the front waited at all, these children were started before all else, in order of number
-abbrev pub IsStartedFirst : RunNumbers → SeenBook → FrontTold → Type 0
-IsStartedFirst n b t = b.folded.entries ≡ 0 → t.waits ≢ [] → BeginsWithStarts (first_children n) b.history
+-- where the front waited at all, these children were started before all else, in order of number
+abbrev pub IsStartedFirst : RunNumbers → List Entry → FrontTold → Type 0
+IsStartedFirst n history t = t.waits ≢ [] → BeginsWithStarts (first_children n) history

@@ -28,10 +28,10 @@ pub record HasEnded (old new : FrontSeen) (s : State) : Type 0 where
   pub going : s.going ≡ Halted why.FrontEnded
   pub all : HasTakenAll old new s
 
--- the server stopped because it was asked to
+-- the server stopped because it was asked to: a line that says so was given
 pub record HasBeenAsked (old new : FrontSeen) (s : State) : Type 0 where
   pub going : s.going ≡ Halted why.Asked
-  pub gave : Rises old.counts.commands new.counts.commands
+  pub gave : Rises old.counts.words.stop new.counts.words.stop
 
 -- the last of the waits that the front tells failed
 pub record HasFailedLast (t : FrontTold) : Type 0 where

@@ -1,6 +1,6 @@
 -- What a run did with its front.
-use Rattle.std.specs.Prelude.{◌≡◌, ℕ, true, false, List, [], ◌∷◌, ◌++◌, map, Option, None, Some, ⊤, take, drop}
-use Rattle.std.specs.List.{flat_map, range_with_len}
+use Rattle.std.specs.Prelude.{◌≡◌, ℕ, true, false, List, [], ◌∷◌, ◌++◌, map, Option, None, Some, ⊤}
+use Rattle.std.specs.List.{flat_map}
 use Rattle.mpm_base.specs.Count.{next_count}
 use Rattle.mpm_base.specs.Front.{FrontTold, WatchTold}
 use Rattle.mpm_base.specs.declared.conn.Cause.TheVariants.{LinkFailed}
@@ -11,7 +11,6 @@ use Rattle.conn_machine.specs.declared.event.Event.{Event}
 use Rattle.conn_machine.specs.declared.event.Event.TheVariants as event
 use Rattle.conn_machine.specs.declared.event.Reply.{Reply}
 use Rattle.conn_machine.specs.Runs.{entries_of, taken_name}
-use Rattle.board.specs.Book.{SeenBook}
 use Rattle.listener.specs.declared.run_numbers.RunNumbers.{RunNumbers}
 
 -- ## Opening and closing
@@ -81,14 +80,8 @@ abbrev pub AreClosedAtOnce : List Entry → List WatchTold → Type 0
 AreClosedAtOnce history [] = ⊤
 AreClosedAtOnce history (w ∷ watches) = (w.answer ≡ false → IsClosedAtOnce history w.name) × AreClosedAtOnce history watches
 
--- the first so many watches were of the links 0, 1, .. in order, one of each
-abbrev pub AreOfFirstLinks : ℕ → List WatchTold → Type 0
-AreOfFirstLinks count watches = map (λ (w : WatchTold). w.rank) (take count watches) ≡ range_with_len 0 count
-
--- the watches of the connections whose entries were folded were of the links 0, 1, .. in order, one of each; behind them each link that
--- the table took was watched once, in order, under the name of its connection, and no other link was; and where such a watch failed the
--- connection was closed at once
-pub record AreWatched (b : SeenBook) (t : FrontTold) : Type 0 where
-  pub first : AreOfFirstLinks b.folded.accepted t.watches
-  pub watches : map link_watched (drop b.folded.accepted t.watches) ≡ links_from b.folded.accepted (accepted_names b.history)
-  pub failed : AreClosedAtOnce b.history (drop b.folded.accepted t.watches)
+-- each link that the table took in the history was watched once, in order, under the name of its connection, and no other link was; the
+-- links are those of the numbers 0, 1, .. in order; and where such a watch failed the connection was closed at once
+pub record AreWatched (history : List Entry) (t : FrontTold) : Type 0 where
+  pub watches : map link_watched t.watches ≡ links_from 0 (accepted_names history)
+  pub failed : AreClosedAtOnce history t.watches

@@ -7,18 +7,25 @@
 //! where it stood (`specs/StandingInside.antt`).
 //! Why it is so stands in docs/DECISIONS.md: 73, What a round adds; 88, A share of the site comes first; 90, Front, clock and store stand
 //! beside the listener; 97, Where a graceful stop ends.
-ghost use Rattle.std.specs.Prelude.{◌≡◌, ◌<◌, [], None, true, is_some, max, IfOk, IfErr, IfSome, MatchResult, OnErr, OnOk};
-ghost use Rattle.mpm_base.specs.Count.{next_count};
-ghost use Rattle.mpm_base.specs.Front.{TellsOn, Waits, after_hush};
+ghost use Rattle.std.specs.Prelude.{◌≡◌, ◌<◌, [], ◌∷◌, ◌++◌, ◌≤◌, None, true, false, length, is_some, max, IfOk, IfErr, IfSome, MatchResult, OnErr, OnOk};
+ghost use Rattle.mpm_base.specs.Count.{CountsWhere, next_count};
+ghost use Rattle.mpm_base.specs.Front.{TellsOn, Waits, after_hush, is_woken};
 ghost use Rattle.conn_state.specs.Known.{IsOfClient};
 ghost use Rattle.board.specs.Finds.{acceptable, next_deadline_of};
 ghost use Rattle.board.specs.Book.{row_in};
+ghost use Rattle.board.specs.Editions.{orders_in};
 ghost use Rattle.worker_group.specs.Service.{IsUp, LeavesRest, RefusalLasts};
-ghost use Rattle.listener.specs.ListenInside.{AsksFor, Follows, HandsOut, HasNoneToHeed, IsArrival, IsInStep, IsKnownOfFront, IsWatching, ListensAsServed, OnlyReadsAndTakes, OnlyTakes, TakesInTo, TellsAlike, TookAll};
-ghost use Rattle.rounds.specs.TableInside.{IsOpening, IsRestful, asked_children};
+ghost use Rattle.listener.specs.ListenInside.{AsksFor, Follows, HandsOut, HasNoneToHeed, IsArrival, IsInStep, IsKnownOfFront, ListensAsServed, OnlyReadsAndTakes, OnlyTakes, StaysWatching, TakesInTo, TellsAlike, TookAll};
+ghost use Rattle.rounds.specs.TableInside.{IsOpening, IsRestful, NoneDueLate, StandsInTime, asked_children};
+ghost use Rattle.listener.specs.Counted.{AsksOnce};
+ghost use Rattle.listener.specs.CountedInside.{ClocksOn, CountsOn, CountsToEnd, CountsUntil, KeepsClockFrom, LacksLink, MovesClock, TurnsCount};
 ghost use Rattle.listener.specs.OrdersInside.{KnowsComing, ServesNewest};
 ghost use Rattle.listener.specs.RoundInside.{BreaksOff, EndsTaking, FailsTaking, IsTaking, RoundEnds, TakesSome, TakesUntil};
-ghost use Rattle.rounds.specs.PartsInside.{ServesSome, StartsSome};
+ghost use Rattle.rounds.specs.PartsInside.{ServesSome, StartsSome, StaysTimely};
+ghost use Rattle.rounds.specs.Timely.{is_at_its_end, is_staffed};
+ghost use Rattle.listener.specs.Pace.{brought, taken};
+ghost use Rattle.listener.specs.ShareInside.{CutsShare, GoesOnInTime, HandsMany, HushesFor, MakesOneAtMost, MakesShare, TakesAllButOne, TakesHanded};
+ghost use Rattle.conn_machine.specs.declared.state.Going.TheVariants.{Serving};
 ghost use Rattle.listener.specs.StandingInside.{StandsBroken, StandsOn, owed_at, standing};
 ghost use Rattle.rounds.specs.Started.{BeginsWithStarts};
 ghost use Rattle.listener.specs.TurnsInside.{AreOver, HasListened, MayListen, listener_of};
@@ -27,8 +34,10 @@ ghost use Rattle.rounds.specs.Moments.{moment_for};
 use crate::folding::fold_history;
 use crate::listener_state::Listener;
 use board::BoardFault;
-use board::laws::generations_keep_their_editions;
-use conn_machine::laws_of_runs::{histories_go_on_by_one_entry, histories_join};
+use board::laws::{generations_keep_their_editions, waits_are_backed_by_calls};
+use conn_machine::laws_of_runs::{
+    histories_go_on_by_one_entry, histories_join, rows_change_one_at_a_time,
+};
 use conn_state::{Conn, Known};
 use file_table::Site;
 use mpm_base::{Arrival, Bell, Clock, Front, Gate, Link, Moment, Ready, Store, Woke};
@@ -63,11 +72,17 @@ impl<'a, 'c, L: Link + Send, N: Known, B: Bell, G: Gate> Listener<'a, 'c, L, N, 
         requires named { IsKnownOfFront N.known (F.seen front.old).told }
         requires may { MayListen N.known (listener_of self.old.board (F.seen front.old)
             (C.told clock.old) self.old.ready self.old.edition (D.seen store.old) self.old.config) }
-        ensures { let first = listener_of self.old.board (F.seen front.old)
+        ensures listened { let first = listener_of self.old.board (F.seen front.old)
             (C.told clock.old) self.old.ready self.old.edition (D.seen store.old) self.old.config in
             let now = listener_of self.new.board (F.seen front.new)
             (C.told clock.new) self.new.ready self.new.edition (D.seen store.new) self.new.config in
             HasListened N.known first now }
+        ensures counts { CountsToEnd (F.seen front.old).counts (F.seen front.new).counts
+            self.old.board.book self.new.board.book }
+        ensures clock { KeepsClockFrom (C.greatest clock.old) (C.greatest clock.new)
+            self.old.board.book.state self.new.board.book.state }
+        ensures asked { AsksOnce (F.seen front.old).counts.wakes (F.seen front.new).counts.wakes
+            (C.asked clock.old) (C.asked clock.new) }
     {
         let turns = self.take_turns(rt, store, front, clock);
         self.hush(front);
@@ -99,11 +114,17 @@ impl<'a, 'c, L: Link + Send, N: Known, B: Bell, G: Gate> Listener<'a, 'c, L, N, 
         requires named { IsKnownOfFront N.known (F.seen front.old).told }
         requires may { MayListen N.known (listener_of self.old.board (F.seen front.old)
             (C.told clock.old) self.old.ready self.old.edition (D.seen store.old) self.old.config) }
-        ensures { let first = listener_of self.old.board (F.seen front.old)
+        ensures over { let first = listener_of self.old.board (F.seen front.old)
             (C.told clock.old) self.old.ready self.old.edition (D.seen store.old) self.old.config in
             let now = listener_of self.new.board (F.seen front.new)
             (C.told clock.new) self.new.ready self.new.edition (D.seen store.new) self.new.config in
             AreOver N.known result first now }
+        ensures counts { TurnsCount result (F.seen front.old).counts (F.seen front.new).counts
+            self.old.board.book self.new.board.book }
+        ensures clock { ClocksOn result (C.greatest clock.old) (C.greatest clock.new)
+            self.old.board.book.state self.new.board.book.state }
+        ensures asked { AsksOnce (F.seen front.old).counts.wakes (F.seen front.new).counts.wakes
+            (C.asked clock.old) (C.asked clock.new) }
     {
         generations_keep_their_editions();
         histories_join();
@@ -136,7 +157,10 @@ impl<'a, 'c, L: Link + Send, N: Known, B: Bell, G: Gate> Listener<'a, 'c, L, N, 
     fn start(&mut self) -> Result<Rest, BoardFault>
         requires passes { 0 < self.old.board.book.passes }
         requires free { row_in 0 self.old.board.book ≡ None }
+        requires going { self.old.board.book.state.going ≡ Serving }
+        requires children { 0 < length self.old.board.book.state.children }
         ensures starts { StartsSome self.old.board.book self.new.board.book }
+        ensures staffed { OnOk result (is_staffed self.new.board.book.state ≡ true) }
         ensures first { OnOk result
             (IsOpening self.old.board.book → BeginsWithStarts
             (asked_children self.old.board.book.base) self.new.board.book.history) }
@@ -159,7 +183,11 @@ impl<'a, 'c, L: Link + Send, N: Known, B: Bell, G: Gate> Listener<'a, 'c, L, N, 
     fn serve<R: Wait>(&mut self, rt: &R) -> Result<Rest, BoardFault>
         requires passes { 1 < self.old.board.book.passes }
         requires free { row_in 1 self.old.board.book ≡ None }
+        requires in_time { NoneDueLate self.old.board.book.state }
+        requires staffed { is_staffed self.old.board.book.state ≡ true }
         ensures serves { ServesSome self.old.board self.new.board }
+        ensures timely { StaysTimely self.old.board.book self.new.board.book }
+        ensures staffed { is_staffed self.new.board.book.state ≡ true }
         ensures rest { LeavesRest self.old.board.book self.new.board.book }
         ensures until { IfOk result
             (λ rest. rest.until ≡ next_deadline_of self.old.board.book.state) }
@@ -197,18 +225,29 @@ impl<'a, 'c, L: Link + Send, N: Known, B: Bell, G: Gate> Listener<'a, 'c, L, N, 
         requires up { IsUp self.old.board.book.state.going }
         requires step { IsInStep (F.seen front.old).told self.old.board.book.state }
         requires heeded { IfSome (F.seen front.old).told HasNoneToHeed }
+        requires in_time { StandsInTime self.old.board.book.state }
         ensures round { IfOk result
             (λ ended. RoundEnds ended (moment_for moment) self.old.ready self.old.board.book
             self.new.board.book) }
         ensures broken { IfErr result
             (λ fault. BreaksOff fault (moment_for moment) self.old.ready self.old.board.book
             self.new.board.book) }
+        ensures share { MatchResult result
+            (λ ended. MakesShare ended moment self.old.ready (F.seen front.old).told
+            (F.seen front.new).told self.old.board.book self.new.board.book)
+            (λ fault. CutsShare moment self.old.ready (F.seen front.old).told
+            (F.seen front.new).told self.old.board.book self.new.board.book) }
+        ensures hushes { OnOk result
+            (TellsOn HushesFor (F.seen front.old).told (F.seen front.new).told) }
+        ensures timely { StaysTimely self.old.board.book self.new.board.book }
+        ensures goes_on { IfOk result (λ ended. GoesOnInTime ended self.new.board.book.state) }
+        ensures before { OnErr result (is_at_its_end self.new.board.book.state ≡ false) }
         ensures stands { let old = standing self.old.edition.stop_ms
             (D.seen store.old) (F.seen front.old) self.old.board.book in
             let new = standing self.new.edition.stop_ms
             (D.seen store.new) (F.seen front.new) self.new.board.book in
             MatchResult result
-            (λ ended. StandsOn N.known self.old.config [] (owed_at ended) old new)
+            (λ ended. StandsOn N.known self.old.config 0 (owed_at ended) old new)
             (λ fault. StandsBroken N.known self.old.config old new) }
         ensures knows { OnOk result
             (KnowsComing N.known self.new.board.book self.new.config (D.seen store.new).told) }
@@ -217,6 +256,15 @@ impl<'a, 'c, L: Link + Send, N: Known, B: Bell, G: Gate> Listener<'a, 'c, L, N, 
         ensures moment { OnOk result
             (self.new.board.book.state.moment ≡ max self.old.board.book.state.moment
             (moment_for moment)) }
+        ensures stays { OnErr result
+            (self.new.board.book.state.moment ≤ max self.old.board.book.state.moment
+            (moment_for moment)) }
+        ensures counts { let old = (F.seen front.old).counts in
+            let new = (F.seen front.new).counts in
+            MatchResult result
+            (λ ended. CountsOn (owed_at ended) old new self.old.board.book self.new.board.book)
+            (λ fault. CountsUntil old new self.old.board.book self.new.board.book) }
+        ensures wakes { (F.seen front.new).counts.wakes ≡ (F.seen front.old).counts.wakes }
         ensures step { OnOk result (IsInStep (F.seen front.new).told self.new.board.book.state) }
         ensures ends { IfOk result
             (λ ended. TakesInTo ended (F.seen front.old) (F.seen front.new)
@@ -224,8 +272,8 @@ impl<'a, 'c, L: Link + Send, N: Known, B: Bell, G: Gate> Listener<'a, 'c, L, N, 
         ensures unheeded { OnErr result (IfSome (F.seen front.new).told HasNoneToHeed) }
         ensures follows { Follows (F.seen front.old) (F.seen front.new) }
         ensures front { TellsOn OnlyReadsAndTakes (F.seen front.old).told (F.seen front.new).told }
-        ensures watched { IsWatching (F.seen front.old).told self.old.board.book
-            → IsWatching (F.seen front.new).told self.new.board.book }
+        ensures watched { StaysWatching (F.seen front.old).told (F.seen front.new).told
+            self.old.board.book self.new.board.book }
         ensures listens { IfSome (F.seen front.new).told
             (ListensAsServed self.new.board.book.state) }
         ensures links { OnErr result (HandsOut (F.seen front.new).told self.new.board.book.state) }
@@ -234,6 +282,7 @@ impl<'a, 'c, L: Link + Send, N: Known, B: Bell, G: Gate> Listener<'a, 'c, L, N, 
         ensures err { IfErr result (λ fault. RefusalLasts fault self.new.board.book) }
     {
         generations_keep_their_editions();
+        histories_join();
         passes_act_in_steps();
         pass_time(&mut self.board, moment)?;
         if is_overdue(&self.board) {
@@ -241,6 +290,7 @@ impl<'a, 'c, L: Link + Send, N: Known, B: Bell, G: Gate> Listener<'a, 'c, L, N, 
         }
         signal_all(&mut self.board, self.ready.slots())?;
         let_go_of_conns(&mut self.board, !self.ready.is_full())?;
+        show_state(&self.board);
         let asked = self.heed(rt, store, front)?;
         if asked {
             return Ok(Some(End::Asked));
@@ -250,6 +300,7 @@ impl<'a, 'c, L: Link + Send, N: Known, B: Bell, G: Gate> Listener<'a, 'c, L, N, 
             return Ok(Some(End::Gone));
         }
         start_children(&mut self.board)?;
+        show_state(&self.board);
         self.take_all(rt, front)?;
         Ok(None)
     }
@@ -270,15 +321,30 @@ impl<'a, 'c, L: Link + Send, N: Known, B: Bell, G: Gate> Listener<'a, 'c, L, N, 
         ensures takes { OnOk result (TakesSome self.old.board.book self.new.board.book) }
         ensures until { IfErr result
             (λ fault. TakesUntil fault self.old.board.book self.new.board.book) }
+        ensures handed { OnOk result (TakesHanded 0 (F.seen front.old).told
+            (F.seen front.new).told self.old.board.book self.new.board.book) }
+        ensures cut { OnErr result (TakesAllButOne (F.seen front.old).told
+            (F.seen front.new).told self.old.board.book self.new.board.book) }
+        ensures timely { StaysTimely self.old.board.book self.new.board.book }
+        ensures children { self.new.board.book.state.children
+            ≡ self.old.board.book.state.children }
+        ensures in_time { NoneDueLate self.old.board.book.state
+            → NoneDueLate self.new.board.book.state }
         ensures going { self.new.board.book.state.going ≡ self.old.board.book.state.going }
         ensures newest { self.new.board.book.state.newest ≡ self.old.board.book.state.newest }
         ensures moment { self.new.board.book.state.moment ≡ self.old.board.book.state.moment }
         ensures step { OnOk result (IsInStep (F.seen front.new).told self.new.board.book.state) }
         ensures taken { OnOk result (TookAll (F.seen front.new).told self.new.board.book.state) }
+        ensures counts { let old = (F.seen front.old).counts in
+            let new = (F.seen front.new).counts in
+            MatchResult result
+            (λ done. CountsOn 0 old new self.old.board.book self.new.board.book)
+            (λ fault. CountsUntil old new self.old.board.book self.new.board.book) }
+        ensures wakes { (F.seen front.new).counts.wakes ≡ (F.seen front.old).counts.wakes }
         ensures follows { Follows (F.seen front.old) (F.seen front.new) }
         ensures front { TellsOn OnlyTakes (F.seen front.old).told (F.seen front.new).told }
-        ensures watched { IsWatching (F.seen front.old).told self.old.board.book
-            → IsWatching (F.seen front.new).told self.new.board.book }
+        ensures watched { StaysWatching (F.seen front.old).told (F.seen front.new).told
+            self.old.board.book self.new.board.book }
         ensures links { OnErr result (HandsOut (F.seen front.new).told self.new.board.book.state) }
         ensures edition { self.new.edition ≡ self.old.edition }
         ensures ready { self.new.ready ≡ self.old.ready }
@@ -325,18 +391,31 @@ impl<'a, 'c, L: Link + Send, N: Known, B: Bell, G: Gate> Listener<'a, 'c, L, N, 
             self.old.board.book self.new.board.book) }
         ensures until { IfErr result
             (λ fault. FailsTaking fault self.old.board.book self.new.board.book) }
+        ensures makes { OnOk result (brought self.new.board.book.history
+            ≡ brought self.old.board.book.history ++ taken ∷ []) }
+        ensures made { OnErr result (MakesOneAtMost self.old.board.book self.new.board.book) }
+        ensures handed { TellsOn (HandsMany 0) (F.seen front.old).told (F.seen front.new).told }
+        ensures timely { StaysTimely self.old.board.book self.new.board.book }
+        ensures children { self.new.board.book.state.children
+            ≡ self.old.board.book.state.children }
+        ensures in_time { NoneDueLate self.old.board.book.state
+            → NoneDueLate self.new.board.book.state }
         ensures going { self.new.board.book.state.going ≡ self.old.board.book.state.going }
         ensures newest { self.new.board.book.state.newest ≡ self.old.board.book.state.newest }
         ensures moment { self.new.board.book.state.moment ≡ self.old.board.book.state.moment }
         ensures taken { OnOk result
             (self.new.board.book.state.accepted ≡ next_count self.old.board.book.state.accepted) }
+        ensures counts { (F.seen front.new).counts ≡ (F.seen front.old).counts }
+        ensures orders { orders_in self.new.board.book ≡ orders_in self.old.board.book }
+        ensures lacks { OnErr result
+            (LacksLink self.old.board.book.state self.new.board.book.state) }
         ensures step { OnOk result
             (IsInStep (F.seen front.old).told self.new.board.book.state → IsInStep
             (F.seen front.new).told self.new.board.book.state) }
         ensures follows { Follows (F.seen front.old) (F.seen front.new) }
         ensures front { TellsOn OnlyTakes (F.seen front.old).told (F.seen front.new).told }
-        ensures watched { IsWatching (F.seen front.old).told self.old.board.book
-            → IsWatching (F.seen front.new).told self.new.board.book }
+        ensures watched { StaysWatching (F.seen front.old).told (F.seen front.new).told
+            self.old.board.book self.new.board.book }
         ensures links { OnErr result
             (EndsTaking (L.seen link).told (F.seen front.old).told (F.seen front.new).told
             self.old.board.book.state self.new.board.book.state) }
@@ -346,8 +425,12 @@ impl<'a, 'c, L: Link + Send, N: Known, B: Bell, G: Gate> Listener<'a, 'c, L, N, 
         ensures err { IfErr result (λ fault. RefusalLasts fault self.new.board.book) }
     {
         histories_go_on_by_one_entry();
+        histories_join();
         generations_keep_their_editions();
         passes_act_in_steps();
+        rows_change_one_at_a_time();
+        waits_are_backed_by_calls();
+        show_state(&self.board);
         let mut link = link;
         let taken = match accept(&mut self.board) {
             Ok(taken) => taken,
@@ -368,7 +451,9 @@ impl<'a, 'c, L: Link + Send, N: Known, B: Bell, G: Gate> Listener<'a, 'c, L, N, 
             link,
         );
         conn.show();
-        settle(&mut self.board, conn, watched)
+        let left = settle(&mut self.board, conn, watched);
+        show_state(&self.board);
+        left
     }
 }
 
@@ -385,6 +470,9 @@ fn take_pause<R: Wait, L: Link + Send, F: Front<L = L>, C: Clock>(
         ready.new }
     ensures asks { AsksFor result.woke present (C.told clock.old) (C.told clock.new) result.moment }
     ensures clock { is_some (C.told clock.new) ≡ is_some (C.told clock.old) }
+    ensures moves { MovesClock result.woke present
+        (C.greatest clock.old) (C.greatest clock.new) result.moment }
+    ensures asked { CountsWhere (is_woken result.woke) (C.asked clock.old) (C.asked clock.new) }
 {
     let woke = front.wait(rt, rest.until, rest.quiet, ready);
     Pause {
@@ -395,7 +483,9 @@ fn take_pause<R: Wait, L: Link + Send, F: Front<L = L>, C: Clock>(
 
 /// The moment behind a wait: what the clock says where the wait gave one, and else the present one.
 fn moment_of<C: Clock>(clock: &mut C, woke: Woke, present: Moment) -> Moment
-    ensures { AsksFor woke present (C.told clock.old) (C.told clock.new) result }
+    ensures asks { AsksFor woke present (C.told clock.old) (C.told clock.new) result }
+    ensures moves { MovesClock woke present (C.greatest clock.old) (C.greatest clock.new) result }
+    ensures asked { CountsWhere (is_woken woke) (C.asked clock.old) (C.asked clock.new) }
 {
     match woke {
         Woke::Woke(at) => clock.now(at),

@@ -5,21 +5,26 @@
 //! reason, and all goes on as it was.
 //! Why it is so stands in docs/DECISIONS.md: 93, Which command line stops a server; 96, A restart that comes too late; 98, Lines that ask
 //! for nothing.
-ghost use Rattle.std.specs.Prelude.{◌≡◌, ◌<◌, ◌≤◌, [], None, Some, true, false, IfErr, IfOk, IfSome, MatchResult, OnErr, OnOk};
+ghost use Rattle.std.specs.Prelude.{◌≡◌, ◌<◌, ◌≤◌, [], ◌∷◌, ◌+◌, None, Some, true, false, IfErr, IfOk, IfSome, MatchResult, OnErr, OnOk};
 ghost use Rattle.mpm_base.specs.Count.{Rises};
 ghost use Rattle.mpm_base.specs.Front.{TellsOn};
 ghost use Rattle.mpm_base.specs.declared.script_line.CommandWord.TheVariants as word;
+ghost use Rattle.conn_machine.specs.States.{is_serving};
 ghost use Rattle.conn_machine.specs.Table.{greatest_generation};
 ghost use Rattle.board.specs.Book.{row_in};
 ghost use Rattle.board.specs.Editions.{orders_in};
 ghost use Rattle.board.specs.Faults.{IsRefusedFor};
 ghost use Rattle.worker_group.specs.Service.{IsUp, RefusalLasts};
-ghost use Rattle.listener.specs.ListenInside.{Follows, HasNoneToHeed, HasOneToHeed, HasReadAll, IsInStep, IsWatching, OnlyReads};
+ghost use Rattle.listener.specs.ListenInside.{Follows, HasNoneToHeed, HasOneToHeed, HasReadAll, IsInStep, OnlyReads, StaysWatching};
+ghost use Rattle.listener.specs.CountedInside.{CountsOn, CountsUntil};
 ghost use Rattle.listener.specs.Orders as spec;
-ghost use Rattle.listener.specs.OrdersInside.{BreaksBehind, Carries, EndingBreaks, EndingStands, KnowsComing, MayHush, Refuses, ServesNewest, StandsBehind, owed_by};
+ghost use Rattle.listener.specs.OrdersInside.{BreaksBehind, Carries, EndingBreaks, EndingStands, IsHushedIf, KnowsComing, MakesOrders, MayHush, Refuses, ServesNewest, StandsBehind, end_if, owed_by};
 ghost use Rattle.listener.specs.OrdersInside as inside;
 ghost use Rattle.listener.specs.RoundInside.{DoesOrders, DoesUntil};
+ghost use Rattle.listener.specs.ShareInside.{DoesAllButOne, DoesAsked, HushesFor, stop_if};
 ghost use Rattle.listener.specs.StandingInside.{StandsBroken, StandsOn, standing};
+ghost use Rattle.rounds.specs.PartsInside.{StaysTimely};
+ghost use Rattle.rounds.specs.TableInside.{StandsInTime};
 
 use crate::edition::LoadedEdition;
 use crate::listener_state::Listener;
@@ -56,15 +61,25 @@ impl<'a, 'c, L: Link + Send, N: Known, B: Bell, G: Gate> Listener<'a, 'c, L, N, 
         requires up { IsUp self.old.board.book.state.going }
         requires step { IsInStep (F.seen front.old).told self.old.board.book.state }
         requires heeded { IfSome (F.seen front.old).told HasNoneToHeed }
+        requires in_time { StandsInTime self.old.board.book.state }
         ensures does { OnOk result (DoesOrders self.old.board.book self.new.board.book) }
         ensures until { IfErr result
             (λ fault. DoesUntil fault self.old.board.book self.new.board.book) }
+        ensures asks { MatchResult result
+            (λ asked. DoesAsked (stop_if asked) (F.seen front.old).told (F.seen front.new).told
+            self.old.board.book self.new.board.book)
+            (λ fault. DoesAllButOne (F.seen front.old).told (F.seen front.new).told
+            self.old.board.book self.new.board.book) }
+        ensures hushes { OnOk result
+            (TellsOn HushesFor (F.seen front.old).told (F.seen front.new).told) }
+        ensures timely { StaysTimely self.old.board.book self.new.board.book }
+        ensures in_time { StandsInTime self.new.board.book.state }
         ensures stands { let old = standing self.old.edition.stop_ms
             (D.seen store.old) (F.seen front.old) self.old.board.book in
             let new = standing self.new.edition.stop_ms
             (D.seen store.new) (F.seen front.new) self.new.board.book in
             MatchResult result
-            (λ asked. StandsOn N.known self.old.config [] (owed_by asked) old new)
+            (λ asked. StandsOn N.known self.old.config 0 (owed_by asked) old new)
             (λ fault. StandsBroken N.known self.old.config old new) }
         ensures knows { OnOk result
             (KnowsComing N.known self.new.board.book self.new.config (D.seen store.new).told) }
@@ -74,16 +89,22 @@ impl<'a, 'c, L: Link + Send, N: Known, B: Bell, G: Gate> Listener<'a, 'c, L, N, 
         ensures accepted { self.new.board.book.state.accepted ≡ self.old.board.book.state.accepted }
         ensures step { IsInStep (F.seen front.new).told self.new.board.book.state }
         ensures asked { IfOk result
-            (λ asked. asked ≡ true → Rises (F.seen front.old).counts.commands
-            (F.seen front.new).counts.commands × IfSome (F.seen front.new).told HasOneToHeed) }
+            (λ asked. asked ≡ true → Rises (F.seen front.old).counts.words.stop
+            (F.seen front.new).counts.words.stop × IfSome (F.seen front.new).told HasOneToHeed) }
         ensures none { IfOk result
             (λ asked. asked ≡ false → IfSome (F.seen front.new).told HasNoneToHeed × HasReadAll
             (F.seen front.new).told) }
         ensures unheeded { OnErr result (IfSome (F.seen front.new).told HasNoneToHeed) }
+        ensures counts { let old = (F.seen front.old).counts in
+            let new = (F.seen front.new).counts in
+            MatchResult result
+            (λ asked. CountsOn (owed_by asked) old new self.old.board.book self.new.board.book)
+            (λ fault. CountsUntil old new self.old.board.book self.new.board.book) }
+        ensures wakes { (F.seen front.new).counts.wakes ≡ (F.seen front.old).counts.wakes }
         ensures follows { Follows (F.seen front.old) (F.seen front.new) }
         ensures front { TellsOn OnlyReads (F.seen front.old).told (F.seen front.new).told }
-        ensures watched { IsWatching (F.seen front.old).told self.old.board.book
-            → IsWatching (F.seen front.new).told self.new.board.book }
+        ensures watched { StaysWatching (F.seen front.old).told (F.seen front.new).told
+            self.old.board.book self.new.board.book }
         ensures others { self.new ≡ record self.old
             { board = self.new.board; edition = self.new.edition } }
         ensures err { IfErr result (λ fault. RefusalLasts fault self.new.board.book) }
@@ -113,7 +134,12 @@ impl<'a, 'c, L: Link + Send, N: Known, B: Bell, G: Gate> Listener<'a, 'c, L, N, 
             (D.seen store.old).told }
         requires serves { ServesNewest N.known self.old.board.book self.old.edition }
         requires up { IsUp self.old.board.book.state.going }
+        requires in_time { StandsInTime self.old.board.book.state }
         ensures does { OnOk result (DoesOrders self.old.board.book self.new.board.book) }
+        ensures makes { OnOk result (MakesOrders (word.Graceful ∷ [])
+            self.old.board.book self.new.board.book) }
+        ensures timely { StaysTimely self.old.board.book self.new.board.book }
+        ensures in_time { StandsInTime self.new.board.book.state }
         ensures stands { OnOk result (StandsBehind N.known self.old.config word.Graceful
             (λ f. standing self.old.edition.stop_ms (D.seen store.old) f self.old.board.book)
             (λ f. standing self.new.edition.stop_ms (D.seen store.new) f self.new.board.book)) }
@@ -124,6 +150,8 @@ impl<'a, 'c, L: Link + Send, N: Known, B: Bell, G: Gate> Listener<'a, 'c, L, N, 
             (KnowsComing N.known self.new.board.book self.new.config (D.seen store.new).told) }
         ensures serves { ServesNewest N.known self.new.board.book self.new.edition }
         ensures going { self.new.board.book.state.going ≡ self.old.board.book.state.going }
+        ensures orders { OnOk result
+            (orders_in self.new.board.book ≡ orders_in self.old.board.book + 1) }
         ensures moment { self.new.board.book.state.moment ≡ self.old.board.book.state.moment }
         ensures accepted { self.new.board.book.state.accepted ≡ self.old.board.book.state.accepted }
         ensures same { OnErr result (self.new ≡ self.old) }
@@ -207,7 +235,13 @@ impl<'a, 'c, L: Link + Send, N: Known, B: Bell, G: Gate> Listener<'a, 'c, L, N, 
         requires free { row_in 0 self.old.board.book ≡ None }
         requires up { IsUp self.old.board.book.state.going }
         requires step { IsInStep (F.seen front.old).told self.old.board.book.state }
+        requires in_time { StandsInTime self.old.board.book.state }
         ensures does { OnOk result (DoesOrders self.old.board.book self.new.board.book) }
+        ensures makes { OnOk result
+            (MakesOrders (end_if (is_serving self.old.board.book.state.going))
+            self.old.board.book self.new.board.book) }
+        ensures timely { StaysTimely self.old.board.book self.new.board.book }
+        ensures in_time { StandsInTime self.new.board.book.state }
         ensures stands { OnOk result (EndingStands N.known self.old.config self.old.edition.stop_ms
             (F.seen front.old) (F.seen front.new) self.old.board.book self.new.board.book) }
         ensures broken { OnErr result (EndingBreaks N.known self.old.config self.old.edition.stop_ms
@@ -219,6 +253,11 @@ impl<'a, 'c, L: Link + Send, N: Known, B: Bell, G: Gate> Listener<'a, 'c, L, N, 
         ensures orders { orders_in self.new.board.book ≡ orders_in self.old.board.book }
         ensures step { IsInStep (F.seen front.new).told self.new.board.book.state }
         ensures hushed { MayHush (F.seen front.old) (F.seen front.new) }
+        ensures hushes { OnOk result (IsHushedIf (is_serving self.old.board.book.state.going)
+            (F.seen front.old) (F.seen front.new)) }
+        ensures ended { OnOk result (is_serving self.new.board.book.state.going ≡ false) }
+        ensures serving { OnErr result (is_serving self.old.board.book.state.going ≡ true) }
+        ensures kept { OnErr result (F.seen front.new ≡ F.seen front.old) }
         ensures same { OnErr result (self.new ≡ self.old) }
         ensures others { self.new ≡ record self.old { board = self.new.board } }
         ensures why { IfErr result (λ fault. IsRefusedFor fault self.old.board.book) }

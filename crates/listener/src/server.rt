@@ -3,19 +3,21 @@
 ghost use Rattle.std.specs.Prelude.{◌≡◌, ℕ, List, [], Some, is_some, IfErr, IfOk, IfSome, OnErr};
 ghost use Rattle.mpm_base.specs.Count.{NeverFalls};
 ghost use Rattle.listener.specs.Unused.{IsUnused};
-ghost use Rattle.board.specs.Board.{AreOfOutside};
+ghost use Rattle.board.specs.Board.{AreOfOutside, EndedOfOutside};
 ghost use Rattle.run_report.specs.EndingsInside.{WritesAll};
-ghost use Rattle.listener.specs.FirstNumbersInside.{AreNumbers, IsFoldedOf, opened_book};
+ghost use Rattle.listener.specs.FirstNumbersInside.{AreNumbers, opened_book};
 ghost use Rattle.listener.specs.FirstNumbers as opening;
 ghost use Rattle.listener.specs.OrdersInside.{known_outside, opening_by};
 ghost use Rattle.listener.specs.Generations.{head_limits_of};
-ghost use Rattle.listener.specs.StandingInside.{HasStood, standing};
+ghost use Rattle.listener.specs.RunsInside.{HasRunBy};
+ghost use Rattle.listener.specs.Served.{all_ended, whole_book};
+ghost use Rattle.listener.specs.Counted.{AsksOnce, KeepsClock};
 ghost use Rattle.listener.specs.Links.{EndsLinks};
-ghost use Rattle.listener.specs.Listen.{HasClosedAll, IsRunFrom};
+ghost use Rattle.listener.specs.Listen.{HasClosedAll, HasFolded, IsRunFrom};
 ghost use Rattle.rounds.specs.ClosedDown.{IsClosedDown};
 ghost use Rattle.listener.specs.ListenInside.{Follows, IsUnopened, clients_known};
-ghost use Rattle.listener.specs.Outside.{KeepsOutside};
-ghost use Rattle.rounds.specs.Started.{AreAskedFor};
+ghost use Rattle.rounds.specs.Timely.{AreTimely};
+ghost use Rattle.listener.specs.RunsInside.{BacksWaits};
 ghost use Rattle.listener.specs.Tells.{AllReceive};
 
 use crate::edition::{LoadedEdition, NamedConfig};
@@ -23,7 +25,10 @@ use crate::folding::{folds_join, show_for_folds};
 use crate::listener_state::Listener;
 use crate::run_numbers::{RunNumbers, numbers_of};
 use board::Board;
-use board::laws::ended_links_are_of_closed_connections;
+use board::laws::{
+    ended_connections_are_backed, ended_links_are_of_closed_connections,
+    generations_keep_their_editions,
+};
 use conn_machine::laws::{accepted_connections_are_closed_or_live, events_keep_states_sound};
 use conn_machine::laws_of_runs::made_histories_are_runs;
 use conn_state::{Known, Nothing};
@@ -84,20 +89,17 @@ pub fn run_server<
         (known_outside (opening_by config edition (D.seen store.old) (F.seen front.old))) }
     requires unused { IfSome (F.seen front.old).told IsUnused }
     requires unasked { IfSome (C.told clock.old) (λ calls. calls ≡ []) }
-    ensures run { IfOk result
-        (λ s. IsRunFrom (opening.numbers_of config.entry.config.now) s.board) }
-    ensures stood { let opened = opening_by config.entry edition
+    ensures run { let opened = opening_by config.entry edition
         (D.seen store.old) (F.seen front.old) in
-        let numbers = opening.numbers_of config.entry.config.now in
-        IfOk result (λ s. HasStood N.known opened numbers
-        (standing 0 (D.seen store.new) (F.seen front.new) s.board.book)) }
-    ensures closed { IfOk result (λ s. HasClosedAll s.board) }
-    ensures edition { IfOk result (λ s. AreOfOutside N.known s.board) }
-    ensures outside { IfOk result
-        (λ s. KeepsOutside (opening.numbers_of config.entry.config.now) (F.seen front.old)
-        (F.seen front.new) (C.told clock.new) s.board) }
+        IfOk result (λ s. HasRunBy opened (D.seen store.new) (F.seen front.new)
+        (C.told clock.new) s.board) }
     ensures follows { Follows (F.seen front.old) (F.seen front.new) }
     ensures still { is_some (C.told clock.new) ≡ is_some (C.told clock.old) }
+    ensures clocked { IfOk result
+        (λ s. KeepsClock s.board.book.state (C.greatest clock.old) (C.greatest clock.new)) }
+    ensures unclocked { OnErr result (C.greatest clock.new ≡ C.greatest clock.old) }
+    ensures asked { AsksOnce (F.seen front.old).counts.wakes (F.seen front.new).counts.wakes
+        (C.asked clock.old) (C.asked clock.new) }
     ensures written { IfOk result
         (λ s. WritesAll (K.seen out.old) (K.seen out.new) text.now s.written) }
     ensures faults { IfOk result (λ s. NeverFalls (K.seen out.old).faults (K.seen out.new).faults) }
@@ -123,6 +125,7 @@ pub fn run_server<
     }
     board.show();
     folds_join();
+    generations_keep_their_editions();
     let written = write_all(out, text);
     let mut listener = Listener {
         alloc,
@@ -166,21 +169,27 @@ fn open_board<L: Link, N: Known>(
 }
 
 /// What a board shows of its run, behind what was folded of it: each state on the way was sound, and where no connection is live each one
-/// that was taken ended, and the links that tell are, each once, ones that were taken. Does nothing.
+/// that was taken ended, and the links that tell are, each once, ones that were taken; folded connections among them. Does nothing.
 fn show_run<L: Link, N: Known>(board: &Board<L, N>, numbers: RunNumbers)
-    requires folded { IsFoldedOf N.known numbers board.now.book }
-    requires asked { AreAskedFor board.now.book.base board.now.book.history }
-    ensures run { IsRunFrom numbers board.now }
-    ensures closed { IsClosedDown board.now.book.state → HasClosedAll board.now }
-    ensures links { (clients : List (List ℕ))
+    requires passes { board.now.book.passes ≡ numbers.passes }
+    requires timely { AreTimely board.now.book.base board.now.book.history }
+    ensures run { (before : HasFolded numbers board.now.book) → IsRunFrom numbers board.now }
+    ensures closed { (before : HasFolded numbers board.now.book)
+        → IsClosedDown board.now.book.state
+        → HasClosedAll board.now }
+    ensures links { (clients : List (List ℕ)) (before : HasFolded numbers board.now.book)
+        → EndedOfOutside N.known (whole_book numbers before.entries) before.ended
         → clients_known N.known ≡ Some clients
         → IsClosedDown board.now.book.state
-        → EndsLinks board.now }
-    ensures receive { (clients : List (List ℕ))
+        → EndsLinks board.now.book.state (all_ended numbers board.now before) }
+    ensures receive { (clients : List (List ℕ)) (before : HasFolded numbers board.now.book)
+        → EndedOfOutside N.known (whole_book numbers before.entries) before.ended
         → clients_known N.known ≡ Some clients
-        → AllReceive clients board.now.ended }
+        → AllReceive clients (all_ended numbers board.now before) }
     ensures outside { AreOfOutside N.known board.now }
+    ensures backed { BacksWaits numbers board.now }
 {
+    ended_connections_are_backed();
     events_keep_states_sound();
     accepted_connections_are_closed_or_live();
     ended_links_are_of_closed_connections();

@@ -27,3 +27,16 @@ RisesExactlyWhere false old new = new ≡ old
 abbrev pub RisesWhere : Bool → ℕ → ℕ → Type 0
 RisesWhere true old new = Rises old new
 RisesWhere false old new = NeverFalls old new
+
+-- the count rose by one; of one that stood at its greatest number nothing is said, but that it did not fall
+abbrev pub RisesByOne : ℕ → ℕ → Type 0
+RisesByOne old new = (old ≤ new) × (old < greatest_count → new ≡ old + 1)
+
+-- the count rose by one where the test holds, and else stayed
+abbrev pub CountsWhere : Bool → ℕ → ℕ → Type 0
+CountsWhere true old new = RisesByOne old new
+CountsWhere false old new = new ≡ old
+
+-- the count rose by just so many, while it is below its greatest number
+abbrev pub RisesJustBy : ℕ → ℕ → ℕ → Type 0
+RisesJustBy many old new = (old ≤ new) × (new < greatest_count → new ≡ old + many)

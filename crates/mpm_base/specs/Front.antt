@@ -4,7 +4,8 @@
 -- tells hands out links that tell; 76, A link that the table refuses.
 use Rattle.std.specs.Prelude.{◌≡◌, ◌⊎◌, ℕ, ◌-◌, ◌<◌, ◌≤◌, Bool, true, false, not, List, [], ◌∷◌, ◌++◌, length, find, nat_lt, min, Option, None, Some, option_map, is_some, IfSome, slice_get, slice_index_or, ⊤}
 use Rattle.std.specs.List.{flat_map}
-use Rattle.mpm_base.specs.Count.{next_count, RisesWhere, RisesExactlyWhere}
+use Rattle.mpm_base.specs.Count.{CountsWhere, next_count, RisesWhere, RisesExactlyWhere}
+use Rattle.mpm_base.specs.GivenWords.{CountsWords}
 use Rattle.mpm_base.specs.Link.{LinkTold, LinkSeen, OnlyFaults, after_close, fresh_link}
 use Rattle.mpm_base.specs.declared.addr.Addr.{Addr}
 use Rattle.mpm_base.specs.declared.conn.ConnName.{ConnName}
@@ -12,6 +13,7 @@ use Rattle.mpm_base.specs.declared.front.Arrival.{Arrival}
 use Rattle.mpm_base.specs.declared.front.Arrival.TheVariants as arrival
 use Rattle.mpm_base.specs.declared.front.Woke.{Woke}
 use Rattle.mpm_base.specs.declared.front.Woke.TheVariants as woke
+use Rattle.mpm_base.specs.declared.given_words.GivenWords.{GivenWords}
 use Rattle.mpm_base.specs.declared.script_line.ScriptLine.{ScriptLine}
 
 -- what waited to be taken just before a wait let time pass: connections that had arrived, and command lines that had come
@@ -19,9 +21,17 @@ pub record Backlog : Type 0 where
   pub arrivals : ℕ
   pub lines : ℕ
 
--- a wait of a front: until when it was to last at most, and whether time might pass in it; the slots that it gave, and its
--- answer; and what waited to be taken just before it let time pass, where it did
+-- how far a server is with a front: how many connections were handed out to it, how many command lines it has read, and whether it has
+-- stopped listening
+pub record Progress : Type 0 where
+  pub accepted : ℕ
+  pub read : ℕ
+  pub hushed : Bool
+
+-- a wait of a front: how far the server was as the wait began; until when it was to last at most, and whether time might pass in it; the
+-- slots that it gave, and its answer; and what waited to be taken just before it let time pass, where it did
 pub record WaitTold : Type 0 where
+  pub began : Progress
   pub until : Option ℕ
   pub quiet : Bool
   pub slots : List ℕ
@@ -69,12 +79,16 @@ pub record FrontTold : Type 0 where
   pub waits : List WaitTold
 
 -- counts that each front keeps, whether it tells or not: of failed binds, waits and dials, of failed accepts, of waits that answered
--- Ended, and of the command lines that it gave
+-- Ended, of waits that gave a moment, of the command lines that it gave, of those of them that say each of the words, and of the links that
+-- it handed out
 pub record FrontCounts : Type 0 where
   pub faults : ℕ
   pub accept_faults : ℕ
   pub ends : ℕ
   pub commands : ℕ
+  pub wakes : ℕ
+  pub words : GivenWords
+  pub handed : ℕ
 
 -- what is seen of a front: the script that it was made of, where it was made of one; what it tells, where it tells; and its
 -- counts
@@ -82,6 +96,10 @@ pub record FrontSeen : Type 0 where
   pub script : Option (List ScriptLine)
   pub told : Option FrontTold
   pub counts : FrontCounts
+
+-- how far a server is with a front that tells
+abbrev pub progress_of : FrontTold → Progress
+progress_of t = record { accepted = t.accepted; read = t.read; hushed = t.hushed }
 
 -- it tells before and after, and this holds of what it tells; or it tells nothing
 abbrev pub TellsOn : (FrontTold → FrontTold → Type 0) → Option FrontTold → Option FrontTold → Type 0
@@ -102,7 +120,10 @@ pub record Binds (old new : FrontSeen) (listen : Addr) (control : Option ℕ) (a
   pub faults : RisesWhere (not answer) old.counts.faults new.counts.faults
   pub accept_faults : new.counts.accept_faults ≡ old.counts.accept_faults
   pub ends : new.counts.ends ≡ old.counts.ends
+  pub wakes : new.counts.wakes ≡ old.counts.wakes
   pub commands : new.counts.commands ≡ old.counts.commands
+  pub words : new.counts.words ≡ old.counts.words
+  pub handed : new.counts.handed ≡ old.counts.handed
 
 -- the front takes no further connection
 abbrev pub hushed_front : FrontTold → FrontTold
@@ -119,6 +140,12 @@ abbrev pub is_ended : Woke → Bool
 is_ended (woke.Woke m) = false
 is_ended woke.Ended = true
 is_ended woke.Failed = false
+
+-- the wait gave a moment
+abbrev pub is_woken : Woke → Bool
+is_woken (woke.Woke m) = true
+is_woken woke.Ended = false
+is_woken woke.Failed = false
 
 -- the wait failed
 abbrev pub wait_failed : Woke → Bool
@@ -198,7 +225,8 @@ pub record GoesForward (until : Option ℕ) (quiet : Bool) (answer : Woke) (read
   pub answers : IsAnswerOf answer t'
   pub passed : Option Backlog
   pub patient : IfSome t.comings (λ comings. IsPatient comings until quiet answer passed t t')
-  pub waits : t'.waits ≡ t.waits ++ record { until = until; quiet = quiet; slots = ready; answer = answer; passed = passed } ∷ []
+  pub waits :
+      t'.waits ≡ t.waits ++ record { began = progress_of t; until = until; quiet = quiet; slots = ready; answer = answer; passed = passed } ∷ []
 
 -- nothing comes any more
 pub record StandsStill (t t' : FrontTold) : Type 0 where
@@ -228,7 +256,10 @@ pub record Waits (old new : FrontSeen) (until : Option ℕ) (quiet : Bool) (answ
   pub faults : RisesWhere (wait_failed answer) old.counts.faults new.counts.faults
   pub accept_faults : new.counts.accept_faults ≡ old.counts.accept_faults
   pub ends : RisesExactlyWhere (is_ended answer) old.counts.ends new.counts.ends
+  pub wakes : CountsWhere (is_woken answer) old.counts.wakes new.counts.wakes
   pub commands : new.counts.commands ≡ old.counts.commands
+  pub words : new.counts.words ≡ old.counts.words
+  pub handed : new.counts.handed ≡ old.counts.handed
 
 -- ## An accept
 
@@ -288,7 +319,10 @@ pub record Accepts {L : Type 0} (link_seen : L → LinkSeen) (old new : FrontSee
   pub faults : new.counts.faults ≡ old.counts.faults
   pub accept_faults : RisesWhere (accept_failed answer) old.counts.accept_faults new.counts.accept_faults
   pub ends : new.counts.ends ≡ old.counts.ends
+  pub wakes : new.counts.wakes ≡ old.counts.wakes
   pub commands : new.counts.commands ≡ old.counts.commands
+  pub words : new.counts.words ≡ old.counts.words
+  pub handed : CountsWhere (is_handed answer) old.counts.handed new.counts.handed
 
 -- ## A watch
 
@@ -339,7 +373,10 @@ pub record Commands (old new : FrontSeen) (answer : Option (List ℕ)) : Type 0 
   pub faults : new.counts.faults ≡ old.counts.faults
   pub accept_faults : new.counts.accept_faults ≡ old.counts.accept_faults
   pub ends : new.counts.ends ≡ old.counts.ends
+  pub wakes : new.counts.wakes ≡ old.counts.wakes
   pub commands : RisesExactlyWhere (is_some answer) old.counts.commands new.counts.commands
+  pub words : CountsWords answer old.counts.words new.counts.words
+  pub handed : new.counts.handed ≡ old.counts.handed
 
 -- ## A dial
 
@@ -354,4 +391,7 @@ pub record Dials (old new : FrontSeen) (port : ℕ) (word : List ℕ) (answer : 
   pub faults : RisesWhere (not answer) old.counts.faults new.counts.faults
   pub accept_faults : new.counts.accept_faults ≡ old.counts.accept_faults
   pub ends : new.counts.ends ≡ old.counts.ends
+  pub wakes : new.counts.wakes ≡ old.counts.wakes
   pub commands : new.counts.commands ≡ old.counts.commands
+  pub words : new.counts.words ≡ old.counts.words
+  pub handed : new.counts.handed ≡ old.counts.handed

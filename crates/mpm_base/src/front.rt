@@ -47,8 +47,8 @@ pub trait Front {
     type B: Bell + Send + Sync;
 
     /// The script that it was made of, which no call changes; what it tells: what has come and what will, what was taken and
-    /// turned away, and its waits; and its counts of failed binds, waits and dials, of failed accepts, of waits that answered Ended, and of command
-    /// lines, none of which ever falls.
+    /// turned away, and its waits; and its counts of failed binds, waits and dials, of failed accepts, of waits that answered Ended, of command
+    /// lines, of those that say each of the words, and of links that it handed out, none of which ever falls.
     ghost seen: { Self → FrontSeen };
 
     /// From now on connections are taken at the address, and command lines at the port of this machine, where there is one.

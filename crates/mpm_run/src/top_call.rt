@@ -3,8 +3,8 @@
 ghost use Rattle.std.specs.Prelude.{◌≡◌, [], IfSome};
 ghost use Rattle.command_words.specs.Invocations.{CallsFront};
 ghost use Rattle.mpm_run.specs.ExitStatuses.{Causes, LeavesAll};
+ghost use Rattle.listener.specs.Counted.{AsksOnce, LeavesClock};
 ghost use Rattle.listener.specs.Outside.{TellsStill};
-ghost use Rattle.script_run.specs.Played.{IsLeftOfRun};
 ghost use Rattle.listener.specs.Unused.{IsUnused};
 ghost use Rattle.run_opening.specs.Calls.{seen_call};
 
@@ -38,6 +38,7 @@ pub fn run<R: Threads + Wait + Sync, D: Store, F: Front, C: Clock, G: Gate + Syn
     requires unused { IfSome (F.seen front.old).told IsUnused }
     requires unasked { IfSome (C.told clock.old) (λ calls. calls ≡ []) }
 
+<<<<<<< f0e0bae9ba4e81f209b5ffa9de4069fbf16ad08a
     // A history is folded as it grows, and a record counts what was folded. What is said here of a history, of connections that ended, and
     // of watches, links, ticks, signals and time is said of those that are kept, behind as many as the record counts.
 
@@ -46,17 +47,22 @@ pub fn run<R: Threads + Wait + Sync, D: Store, F: Front, C: Clock, G: Gate + Syn
     ensures left { IfSome result.scripted IsLeftOfRun }
 
     // What a call leaves, and why it has its exit status (`specs/ExitStatuses.antt`; `specs/Ends.antt` of `server_run`).
+=======
+    // What a call leaves, and why it has its exit status (`specs/ExitStatuses.antt`).
+>>>>>>> 2ab3f64187a3797f889734a258fbe51c0036452d
     //
     // What is left of a script's run is of one of the script that was read or made, by the configuration that it writes and the site that
     // it has by that, and then by the editions that its lines make: it closed each connection that it took, each child is gone, and each
-    // connection was served by the files, and by the limits of heads, of its generation's edition. The record is what one fold makes of
-    // entries that lead to the kept history, and of connections that they close, of which the same holds.
+    // connection was served by the files, and by the limits of heads, of its generation's edition. A history is folded as it grows: the
+    // record is what one fold makes of entries that lead to the kept history, and of connections that they close. What is said of entries
+    // and of connections is said of those and of the kept ones alike.
     //
-    // Of all entries, each command line that was read did what it asks for, once and in order: a restart began a generation by the next
-    // edition, or was refused, for what that edition lacks, as it came too late, as the store failed, or as memory lacked; and a graceful
-    // stop set the limit that the newest generation's configuration says. Its store was renewed at each restart. Where its server stopped
-    // for want of memory the last line may not have been done, and the store may have been renewed once more. Where nothing more could
-    // come, and no graceful stop was begun, each connection of the script was taken.
+    // Wait by wait, and nothing of it behind the next wait: time passed to what the clock answered, each slot that the front gave was
+    // signalled, each command line that was read did what it asks for, and each connection that was handed out was taken. A restart began a
+    // generation by the next edition, or was refused, for what that edition lacks, as it came too late, as the store failed, or as memory
+    // lacked; and a graceful stop set the limit that the newest generation's configuration says. Its store was renewed at each restart.
+    // Where its server stopped for want of memory the end of the last wait's part may be missing, and the store may have been renewed once
+    // more. Where nothing more could come, and no graceful stop was begun, each connection of the script was taken.
     //
     // The same of what is left of a server, as far as its front, its clock and its store tell: it was run by the configuration and the
     // site of the store, and then by the editions that the store has at each restart.
@@ -70,6 +76,13 @@ pub fn run<R: Threads + Wait + Sync, D: Store, F: Front, C: Clock, G: Gate + Syn
     // Whatever became of them, a front and a clock that told tell still.
     ensures telling { TellsStill (F.seen front.old) (F.seen front.new)
         (C.told clock.old) (C.told clock.new) }
+
+    // Over each clock, whether it tells or not, the moment of a server is its greatest answer (`specs/Counted.antt` of `listener`).
+    ensures clocked { LeavesClock result.board (C.greatest clock.old) (C.greatest clock.new) }
+
+    // Over each front and clock the clock is asked once for each wait that gave a moment, in every form.
+    ensures asked { AsksOnce (F.seen front.old).counts.wakes (F.seen front.new).counts.wakes
+        (C.asked clock.old) (C.asked clock.new) }
 
     // Other words than those that serve or send a command leave the front and the clock as they were.
     ensures unmoved { ¬ CallsFront words.now →

@@ -16,7 +16,7 @@ use Rattle.board.specs.Events.{with_recorded}
 use Rattle.worker_group.specs.Acts.{Acts, ActsInSteps}
 use Rattle.worker_group.specs.Service.{LeavesRest}
 use Rattle.rounds.specs.ClosingInside.{DrainsUntil, IsDrainedWay, IsLateWay, IsRetiringWay, LetsGo, NoneEarly}
-use Rattle.rounds.specs.PartsInside.{LetsGoOfConns, LetsGoUntil, NoneHas, PassesTime, RetiresSome, SignalsFirst, StartsAsAsked, StartsSome, gone_events, signal_events, time_events}
+use Rattle.rounds.specs.PartsInside.{LetsGoOfConns, LetsGoUntil, NoneHas, PassesTime, RetiresSome, SignalsFirst, StaysTimely, StartsSome, gone_events, signal_events, time_events}
 use Rattle.rounds.specs.Moments.{known_slots, ticks_to}
 
 -- ## No pass has a connection
@@ -46,27 +46,29 @@ acts-added steps e has b b' is adds row = steps.one 0 e has b.book b'.book (ap (
 -- ## Starts and ends of children
 
 pub starts-none : ActsInSteps → (b : SeenBook) → row_in 0 b ≡ None → StartsSome b b
-starts-none steps b row = record { children = []; acts = steps.none 0 None b row; asked = λ before. before }
+starts-none steps b row = record { children = []; acts = steps.none 0 None b row; timely = λ before. before }
 
-pub starts-more : ActsInSteps → (k : ℕ) (a b c : SeenBook) → StartsSome a b → Acts 0 (event.StartChild k ∷ []) None b c → StartsAsAsked b c
+pub starts-more : ActsInSteps → (k : ℕ) (a b c : SeenBook) → StartsSome a b → Acts 0 (event.StartChild k ∷ []) None b c → StaysTimely b c
     → StartsSome a c
-starts-more steps k a b c starts one asked = record {
+starts-more steps k a b c starts one timely = record {
   children = starts.children ++ k ∷ [];
   acts =
       acts-spelled _ (map event.StartChild (starts.children ++ k ∷ [])) a c (steps.more 0 _ _ None None a b c starts.acts one)
       (sym (map-append event.StartChild starts.children (k ∷ [])));
-  asked = λ before. asked (starts.asked before);
+  timely = λ before. timely (starts.timely before);
 }
 
 pub retires-none : ActsInSteps → (b : SeenBook) → row_in 0 b ≡ None → RetiresSome b b
-retires-none steps b row = record { children = []; acts = steps.none 0 None b row }
+retires-none steps b row = record { children = []; acts = steps.none 0 None b row; timely = λ before. before }
 
-pub retires-more : ActsInSteps → (k : ℕ) (a b c : SeenBook) → RetiresSome a b → Acts 0 (event.Retire k ∷ []) None b c → RetiresSome a c
-retires-more steps k a b c retires one = record {
+pub retires-more : ActsInSteps → (k : ℕ) (a b c : SeenBook) → RetiresSome a b → Acts 0 (event.Retire k ∷ []) None b c → StaysTimely b c
+    → RetiresSome a c
+retires-more steps k a b c retires one timely = record {
   children = retires.children ++ k ∷ [];
   acts =
       acts-spelled _ (map event.Retire (retires.children ++ k ∷ [])) a c (steps.more 0 _ _ None None a b c retires.acts one)
       (sym (map-append event.Retire retires.children (k ∷ [])));
+  timely = λ before. timely (retires.timely before);
 }
 
 -- ## A round

@@ -22,6 +22,7 @@ down-here steps b free gone = record {
   accepted = refl;
   going = refl;
   down = gone.down;
+  timely = λ before. before;
 }
 
 pub down-gone : ActsInSteps → (turns : Result End BoardFault) (b : SeenBook) → is_at_end turns ≡ true → NoneHas b → MustHalt turns b → GoesDown turns b b

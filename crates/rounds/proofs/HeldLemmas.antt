@@ -1,8 +1,9 @@
 -- A connection that waited and is held: what its row says, and how it may be left.
-use Rattle.std.proofs.Common.{◌≡◌, ◌==◌, ℕ, Bool, true, false, not, ◌&&◌, List, length, nat_le, nat_lt, cond, Option, None, Some, IfSome, option_map, slice_get, is_some, refl, sym, ap, subst, ◌∙◌, inl, inr, eq-eqb}
+use Rattle.std.proofs.Common.{◌≡◌, ◌==◌, ℕ, Bool, true, false, not, ◌&&◌, List, length, nat_le, nat_lt, cond, Option, None, Some, IfSome, option_map, slice_get, is_some, refl, sym, ap, subst, ◌∙◌, inl, inr, eq-eqb, arith}
 use Rattle.std.proofs.lemmas.Bool.{and_parts}
 use Rattle.std.specs.Option.{option_and_then, option_map_or}
 use Rattle.mpm_base.specs.Cause.{cause_number}
+use Rattle.mpm_base.specs.Count.{NeverFalls, RisesExactlyWhere}
 use Rattle.mpm_base.specs.Link.{LinkTold, with_received}
 use Rattle.mpm_base.specs.declared.conn.ConnName.{ConnName}
 use Rattle.mpm_base.specs.declared.conn.Cause.{Cause}
@@ -29,7 +30,9 @@ use Rattle.conn_state.specs.declared.turn.LingerTurn.{LingerTurn}
 use Rattle.conn_state.specs.declared.turn.LingerTurn.TheVariants as left
 use Rattle.conn_state.specs.Conn.{IsConn, IsWaiting, SeenConn, TurnFits, is_half_closed, is_usable, lingers}
 use Rattle.conn_state.specs.Answered.{IsLeft, MayLinger, SentAll, ShowsCause, waits_on}
-use Rattle.conn_state.specs.Turns.{LingersOn, after_linger}
+use Rattle.conn_state.specs.Turns.{LingersOn, after_linger, is_linger_late}
+use Rattle.board.specs.Backed.{BacksWait, waits_to_read}
+use Rattle.board.specs.BoardLaws.{WaitsAreBackedByCalls}
 use Rattle.board.specs.Fits.{Fits, FoundNoMore, IsOnItsWay, IsSettled, IsSettledFrom, IsTakenUp, LingersFor, NotesEnd, WaitsAs, WaitsForNext}
 use Rattle.board.specs.Finds.{cause_of, kind_of, waits_for}
 use Rattle.worker_group.specs.InHand.{IsClosable, IsInHand}
@@ -249,6 +252,7 @@ closes-lingering s why how c lingers_for fits is_left =
       generation = lingers_for.fits.generation;
       notes = notes-end why c.notes row.notes lingers_for.fits.notes;
       rank = lingers_for.fits.rank;
+      backed = lingers_for.fits.backed;
       shown = record { shows = shows-cause s row why how c fits lingers_for.shows; left = is_left };
     }
 
@@ -266,10 +270,19 @@ rank-turned : (told told' : Option LinkTold) (got rank : ℕ) → told' ≡ opti
 rank-turned None told' got rank is same = rw is tt
 rank-turned (Some t) told' got rank is same = rw is same
 
+-- a count that rises where a test holds never falls
+never-falls : (test : Bool) (old new : ℕ) → RisesExactlyWhere test old new → NeverFalls old new
+never-falls true old new rises = rises.0
+never-falls false old new same = omega (arith, same)
+
+-- nor does one that stays
+stays-there : (old new : ℕ) → new ≡ old → NeverFalls old new
+stays-there old new same = omega (arith, same)
+
 -- it lingers for its cause still
-pub lingers-turned : (s : State) (why : Cause) (c c' : SeenConn) (answer : LingerTurn) → IsLingeringFor why s c → LingersOn c c' answer → MayLinger why c'
+pub lingers-turned : WaitsAreBackedByCalls → (s : State) (why : Cause) (c c' : SeenConn) (answer : LingerTurn) → IsLingeringFor why s c → LingersOn c c' answer → MayLinger why c'
     → IsLingeringFor why s c'
-lingers-turned s why c c' answer held turned may = record {
+lingers-turned law s why c c' answer held turned may = record {
   row = held.row;
   found = subst (λ (n : ConnName). live_row s.rows n ≡ Some held.row) (sym turned.name) held.found;
   held = held.held;
@@ -280,10 +293,31 @@ lingers-turned s why c c' answer held turned may = record {
         generation = turned.generation ∙ held.fits.generation;
         notes = turned.notes ∙ held.fits.notes;
         rank = rank-turned c.told c'.told (length turned.got) held.row.arrival turned.told held.fits.rank;
+        backed =
+            law.stay held.row.waits c.counts c'.counts (never-falls (is_linger_late answer) c.counts.late_reads c'.counts.late_reads turned.late_reads)
+            (stays-there c.counts.late_writes c'.counts.late_writes turned.late_writes) held.fits.backed;
       };
   shut = ap is_half_closed turned.linger ∙ half-closed_after answer;
   shows = may;
 }
+
+-- one for which nothing came yet backs a further wait
+pub backs-turned : WaitsAreBackedByCalls → (s : State) (why : Cause) (c c' : SeenConn) (answer : LingerTurn) (kind : Kind) → IsLingeringFor why s c
+    → LingersOn c c' answer → answer ≡ left.NotReady → is_linger_kind kind ≡ true → BacksWait kind s c'
+backs-turned law s why c c' answer kind held turned late lingers = record {
+  row = held.row;
+  found = subst (λ (n : ConnName). live_row s.rows n ≡ Some held.row) (sym turned.name) held.found;
+  backed =
+      law.read held.row.waits kind c.counts c'.counts (linger-reads kind lingers)
+      (subst (λ (a : LingerTurn). RisesExactlyWhere (is_linger_late a) c.counts.late_reads c'.counts.late_reads) late turned.late_reads)
+      (stays-there c.counts.late_writes c'.counts.late_writes turned.late_writes) held.fits.backed;
+} where
+  linger-reads : (k : Kind) → is_linger_kind k ≡ true → waits_to_read k ≡ true
+  linger-reads Reading is = absurd (cc)
+  linger-reads KeepAlive is = absurd (cc)
+  linger-reads Writing is = absurd (cc)
+  linger-reads Linger is = refl
+  linger-reads ShortLinger is = refl
 
 -- its link is left as the turn shows
 left-by : (answer : LingerTurn) (how : Tail) (last : LastLinger) → tail_of answer ≡ Some how → last ≡ after_linger answer → IsLeft how last

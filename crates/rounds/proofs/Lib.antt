@@ -1,9 +1,9 @@
 pub mod ActLemmas
 pub mod AddedLemmas
-pub mod AskedLemmas
 pub mod ChildrenLemmas
 pub mod ClosingLemmas
 pub mod DownLemmas
+pub mod DueLemmas
 pub mod FoundLemmas
 pub mod GoneLemmas
 pub mod HaltLemmas
@@ -13,5 +13,7 @@ pub mod ListenLemmas
 pub mod MeasureLemmas
 pub mod PassLemmas
 pub mod SameEditionLemmas
+pub mod StaffLemmas
 pub mod TakeLemmas
 pub mod TimeLemmas
+pub mod TimelyLemmas

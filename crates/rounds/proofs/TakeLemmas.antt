@@ -89,6 +89,7 @@ taken-of law s slot name child generation r at slot_is taken =
       generation_is = sym generation_is;
       arrival_is = refl;
       notes = refl;
+      waits = refl;
     }
 
 -- what was taken is held

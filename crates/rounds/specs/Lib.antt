@@ -6,3 +6,4 @@ pub mod Moments
 pub mod PartsInside
 pub mod Started
 pub mod TableInside
+pub mod Timely

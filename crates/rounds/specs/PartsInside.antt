@@ -24,27 +24,28 @@ use Rattle.rounds.specs.EndsInside.{HaltsAs, why_of}
 use Rattle.rounds.specs.AtRest.{NoneDue}
 use Rattle.rounds.specs.declared.ends.End.{End}
 use Rattle.rounds.specs.declared.ends.End.TheVariants as end
-use Rattle.rounds.specs.Started.{AreAskedFor}
+use Rattle.rounds.specs.Timely.{AreTimely}
 use Rattle.rounds.specs.Moments.{known_slots, ticks_to}
 
 -- no pass has a connection
 abbrev pub NoneHas : SeenBook → Type 0
 NoneHas b = (who : ℕ) → row_in who b ≡ None
 
--- where each child that was started before was asked for, so was each one that was started since
-abbrev pub StartsAsAsked : SeenBook → SeenBook → Type 0
-StartsAsAsked old new = AreAskedFor old.base old.history → AreAskedFor new.base new.history
+-- where it was time for each event before, so it was for each one since
+abbrev pub StaysTimely : SeenBook → SeenBook → Type 0
+StaysTimely old new = AreTimely old.base old.history → AreTimely new.base new.history
 
--- children were started, each of which was asked for, and nothing else was done
+-- children were started, each in its time, and nothing else was done
 pub record StartsSome (old new : SeenBook) : Type 0 where
   pub children : List ℕ
   pub acts : Acts 0 (map event.StartChild children) None old new
-  pub asked : StartsAsAsked old new
+  pub timely : StaysTimely old new
 
--- children were let go of, and nothing else was done
+-- children were let go of, each in its time, and nothing else was done
 pub record RetiresSome (old new : SeenBook) : Type 0 where
   pub children : List ℕ
   pub acts : Acts 0 (map event.Retire children) None old new
+  pub timely : StaysTimely old new
 
 -- ## Connections that are taken
 
@@ -159,3 +160,4 @@ pub record GoesDown (turns : Result End BoardFault) (old new : SeenBook) : Type 
   pub accepted : new.state.accepted ≡ old.state.accepted
   pub going : HaltsAs turns old.state.going new.state.going
   pub down : IsClosedDown new.state
+  pub timely : StaysTimely old new

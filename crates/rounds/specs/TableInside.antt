@@ -2,13 +2,15 @@
 use Rattle.board.specs.Book.{SeenBook}
 use Rattle.conn_machine.specs.Made.{IsOpened}
 use Rattle.conn_machine.specs.Rows.{is_held, is_lingering, is_parked, live_row}
-use Rattle.conn_machine.specs.States.{is_overdue}
+use Rattle.conn_machine.specs.States.{is_over, is_overdue, is_signalled}
 use Rattle.conn_machine.specs.declared.row.Row.{Row}
 use Rattle.conn_machine.specs.declared.state.State.{State}
 use Rattle.mpm_base.specs.declared.conn.ConnName.{ConnName}
+use Rattle.mpm_base.specs.Moment.{greatest_moment}
 use Rattle.rounds.specs.AtRest.{IsAtRest}
+use Rattle.rounds.specs.Timely.{is_staffed}
 use Rattle.std.specs.List.{list_any}
-use Rattle.std.specs.Prelude.{◌≡◌, ℕ, min, ◌↔◌, Bool, true, false, [], None, Some, slice_get, length}
+use Rattle.std.specs.Prelude.{◌≡◌, ◌<◌, ℕ, min, ◌↔◌, Bool, true, false, [], None, Some, slice_get, length}
 
 -- how many children a server that opens in the state starts at first
 abbrev pub asked_children : State → ℕ
@@ -30,6 +32,7 @@ pub record HasTaken (s : State) (name : ConnName) (child generation arrival : �
   pub generation_is : row.generation ≡ generation
   pub arrival_is : row.arrival ≡ arrival
   pub notes : row.notes ≡ []
+  pub waits : row.waits ≡ []
 
 -- no connection is late
 abbrev pub NoneOverdue : State → Type 0
@@ -42,3 +45,14 @@ NoneParked s = (slot : ℕ) (r : Row) → slice_get s.rows slot ≡ Some r → i
 -- the next wait may let time pass exactly where nothing is left to be done
 abbrev pub IsRestful : Bool → State → Type 0
 IsRestful quiet s = (quiet ≡ true) ↔ IsAtRest s
+
+-- each connection that waits for service, and for which something came, has a deadline that is later than the moment
+abbrev pub NoneDueLate : State → Type 0
+NoneDueLate s =
+    (slot : ℕ) (r : Row) → slice_get s.rows slot ≡ Some r → is_signalled s slot ≡ true → is_parked r.place ≡ true → is_lingering r ≡ false
+    → s.moment < r.deadline
+
+-- between two rounds: the time of a graceful stop is over only where moments end, and some child isn't gone
+pub record StandsInTime (s : State) : Type 0 where
+  pub within : is_over s.moment s.going ≡ true → s.moment ≡ greatest_moment
+  pub staffed : is_staffed s ≡ true

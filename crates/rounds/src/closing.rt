@@ -9,6 +9,7 @@ ghost use Rattle.conn_machine.specs.Table.{is_allowed, next};
 ghost use Rattle.conn_machine.specs.declared.event.Event.TheVariants as event;
 ghost use Rattle.conn_state.specs.Answered.{MayLinger};
 ghost use Rattle.conn_state.specs.declared.turn.LastLinger.TheVariants as linger;
+ghost use Rattle.board.specs.Backed.{BacksWait};
 ghost use Rattle.board.specs.Faults.{IsRefusedFor};
 ghost use Rattle.board.specs.Finds.{has_to_be_drained, is_late, is_let_go};
 ghost use Rattle.board.specs.Book.{row_in};
@@ -22,6 +23,7 @@ ghost use Rattle.rounds.specs.TableInside.{NoneOverdue};
 
 use crate::ends::LISTENER;
 use crate::showing::show_state;
+use board::laws::waits_are_backed_by_calls;
 use board::{Board, BoardFault};
 use conn_machine::laws_of_runs::{histories_join, rows_change_one_at_a_time};
 use conn_state::laws::{lingering_connections_keep_their_cause, untouched_connections_may_be_late};
@@ -139,6 +141,7 @@ pub(crate) fn drain_all<L: Link, N: Known>(board: &mut Board<L, N>) -> Result<()
     ensures drains { OnOk result (DrainsSome board.old.book board.new.book) }
     ensures until { IfErr result (λ fault. DrainsUntil fault board.old.book board.new.book) }
     ensures none { OnOk result (NoneToDrain board.new.book.state) }
+    ensures none_late { OnOk result (NoneOverdue board.new.book.state) }
     ensures rest { LeavesRest board.old.book board.new.book }
     ensures err { IfErr result (λ fault. RefusalLasts fault board.new.book) }
 {
@@ -166,6 +169,7 @@ fn drain<L: Link, N: Known>(board: &mut Board<L, N>, name: ConnName) -> Result<(
     rows_change_one_at_a_time();
     passes_act_in_steps();
     lingering_connections_keep_their_cause();
+    waits_are_backed_by_calls();
     board.show();
     let (Some(cause), Some(kind)) = (board.cause(name), board.kind(name)) else {
         unreachable!()
@@ -207,6 +211,7 @@ fn linger_on<L: Link, N: Known>(
     requires allowed { is_halted board.old.book.state.going ≡ false
         → is_allowed board.old.book.state (event.Park conn.name kind) ≡ true }
     requires late { conn.linger ≡ linger.NotReady }
+    requires backed { BacksWait kind board.old.book.state conn }
     ensures parked { OnOk result
         (Acts 0 (event.Park conn.name kind ∷ []) None board.old.book board.new.book) }
     ensures state { OnOk result

@@ -13,6 +13,7 @@ ghost use Rattle.rounds.specs.ClosedDown.{HasNoLive, IsBrokenOff};
 ghost use Rattle.rounds.specs.EndsInside as inside;
 ghost use Rattle.rounds.specs.EndsInside.{MustHalt, HaltsAs};
 ghost use Rattle.rounds.specs.TableInside.{NoneParked};
+ghost use Rattle.rounds.specs.Timely.{is_at_its_end};
 ghost use Rattle.rounds.specs.PartsInside.{GoesDown, NoneHas, halt_events};
 ghost use Rattle.mpm_base.specs.declared.conn.Tail.TheVariants.{Direct};
 ghost use Rattle.conn_machine.specs.declared.event.Commanded.TheVariants.{Stop};
@@ -20,7 +21,7 @@ ghost use Rattle.conn_machine.specs.declared.event.Why.TheVariants as why;
 
 use crate::ends::{End, LISTENER};
 use crate::round::retire_all;
-use crate::showing::show_none_live;
+use crate::showing::{show_none_live, show_state};
 use board::{Board, BoardFault};
 use conn_machine::Why;
 use conn_machine::laws_of_runs::rows_change_one_at_a_time;
@@ -36,13 +37,16 @@ pub fn close_down<L: Link, N: Known>(board: &mut Board<L, N>, turns: Result<End,
     requires free { NoneHas board.old.book }
     requires must { MustHalt turns board.old.book }
     requires up { IsUp board.old.book.state.going }
+    requires end { is_at_its_end board.old.book.state ≡ inside.is_at_end turns }
     ensures { GoesDown turns board.old.book board.new.book }
 {
     passes_act_in_steps();
+    show_state(board);
     if is_at_end(turns) {
         return;
     }
     halt(board, turns);
+    show_state(board);
     close_all(board);
     retire_all(board);
 }

@@ -1,7 +1,7 @@
 //! The parts of the listener's round: a connection that comes is taken and waits, time passes, slots are signalled, connections
 //! are let go of and served, and children are started and let go of.
 //! Why it is so stands in docs/DECISIONS.md: 94, When connections retire.
-ghost use Rattle.std.specs.Prelude.{◌≡◌, ◌↔◌, ◌<◌, [], ◌∷◌, None, Some, true, false, not, is_some, max, IfOk, IfErr, OnErr, OnOk};
+ghost use Rattle.std.specs.Prelude.{◌≡◌, ◌↔◌, ◌<◌, [], ◌∷◌, None, Some, true, false, length, not, is_some, max, IfOk, IfErr, OnErr, OnOk};
 ghost use Rattle.std.specs.List.{list_any};
 ghost use Rattle.mpm_base.specs.Count.{next_count};
 ghost use Rattle.mpm_base.specs.declared.conn.Cause.TheVariants as cause;
@@ -13,6 +13,7 @@ ghost use Rattle.conn_machine.specs.States.{is_halted, is_over};
 ghost use Rattle.conn_machine.specs.Table.{is_allowed};
 ghost use Rattle.conn_machine.specs.declared.event.Event.TheVariants as event;
 ghost use Rattle.board.specs.Faults.{IsRefusedFor};
+ghost use Rattle.board.specs.Backed.{BacksWait};
 ghost use Rattle.board.specs.Fits.{IsSettled};
 ghost use Rattle.board.specs.Finds.{acceptable, next_deadline_of, startable};
 ghost use Rattle.board.specs.Book.{row_in};
@@ -23,9 +24,10 @@ ghost use Rattle.worker_group.specs.Service.{IsUp, LeavesRest, RefusalLasts, lef
 ghost use Rattle.rounds.specs.ClosingInside.{IsLateWay, LetsGo};
 ghost use Rattle.rounds.specs.ClosedDown.{HasNoLive, IsClosedDown};
 ghost use Rattle.rounds.specs.EndsInside.{IsAllGone};
-ghost use Rattle.rounds.specs.TableInside.{HasTaken, IsOpening, IsRestful, NoneOverdue, asked_children};
+ghost use Rattle.rounds.specs.TableInside.{HasTaken, IsOpening, IsRestful, NoneDueLate, NoneOverdue, StandsInTime, asked_children};
 ghost use Rattle.rounds.specs.AtRest.{NoneDue};
-ghost use Rattle.rounds.specs.PartsInside.{GivesUp, LetsGoOfConns, LetsGoUntil, PassesTime, RetiresSome, ServesSome, SignalsFirst, StartsSome, signal_events, way_of};
+ghost use Rattle.rounds.specs.PartsInside.{GivesUp, LetsGoOfConns, LetsGoUntil, PassesTime, RetiresSome, ServesSome, SignalsFirst, StartsSome, StaysTimely, signal_events, way_of};
+ghost use Rattle.rounds.specs.Timely.{is_at_its_end, is_staffed};
 ghost use Rattle.rounds.specs.Started.{BeginsWithStarts};
 ghost use Rattle.rounds.specs.Moments.{moment_for};
 
@@ -38,7 +40,7 @@ use conn_machine::laws::{
     connections_go_to_the_chosen_child, passes_leave_the_rest_to_the_listener,
 };
 use conn_machine::laws_of_runs::{
-    children_change_one_at_a_time, histories_keep_sizes, rows_change_one_at_a_time,
+    children_change_one_at_a_time, histories_join, histories_keep_sizes, rows_change_one_at_a_time,
 };
 use conn_state::{Conn, Known};
 use mpm_base::{Bell, Cause, GREATEST_MOMENT, Gate, Kind, Link, Moment, Tail};
@@ -60,6 +62,7 @@ pub fn settle<L: Link, N: Known>(
     requires allowed { is_halted board.old.book.state.going ≡ false
         → is_allowed board.old.book.state (event.Park conn.name Reading) ≡ true }
     requires settled { watched ≡ true → IsSettled Reading None conn }
+    requires backed { watched ≡ true → BacksWait Reading board.old.book.state conn }
     requires closable { watched ≡ false
         → IsClosable board.old.book.state cause.LinkFailed Direct conn }
     ensures left { OnOk result
@@ -144,24 +147,33 @@ pub fn pass_time<L: Link, N: Known>(
     requires passes { 0 < board.old.book.passes }
     requires free { row_in 0 board.old.book ≡ None }
     requires up { IsUp board.old.book.state.going }
+    requires in_time { StandsInTime board.old.book.state }
     ensures passes { OnOk result (PassesTime (moment_for moment) board.old.book board.new.book) }
     ensures refused { OnErr result (LetsGo IsLateWay board.old.book board.new.book) }
+    ensures timely { StaysTimely board.old.book board.new.book }
+    ensures staffed { is_staffed board.new.book.state ≡ true }
     ensures why { IfErr result (λ fault. IsRefusedFor fault board.new.book) }
     ensures none { OnOk result (NoneOverdue board.new.book.state) }
     ensures going { board.new.book.state.going ≡ board.old.book.state.going }
     ensures newest { board.new.book.state.newest ≡ board.old.book.state.newest }
     ensures moment { OnOk result
         (board.new.book.state.moment ≡ max board.old.book.state.moment (moment_for moment)) }
+    ensures stays { OnErr result
+        (board.new.book.state.moment ≡ board.old.book.state.moment) }
     ensures taken { board.new.book.state.accepted ≡ board.old.book.state.accepted }
     ensures err { IfErr result (λ fault. RefusalLasts fault board.new.book) }
 {
+    histories_join();
     passes_act_in_steps();
+    show_state(board);
     let_go_late(board);
+    board.show();
     let moment = moment.min(GREATEST_MOMENT);
     if moment > board.moment() {
-        board.show();
         board.tick(LISTENER, moment)?;
+        show_state(board);
         let_go_late(board);
+        show_state(board);
     }
     Ok(())
 }
@@ -172,8 +184,13 @@ pub fn signal_all<L: Link, N: Known>(
 ) -> Result<(), BoardFault>
     requires passes { 0 < board.old.book.passes }
     requires free { row_in 0 board.old.book ≡ None }
+    requires within { is_over board.old.book.state.moment board.old.book.state.going ≡ false }
+    requires staffed { is_staffed board.old.book.state ≡ true }
     ensures signals { OnOk result
         (Acts 0 (signal_events board.old.book slots.now) None board.old.book board.new.book) }
+    ensures timely { StaysTimely board.old.book board.new.book }
+    ensures rows { board.new.book.state.rows ≡ board.old.book.state.rows }
+    ensures children { board.new.book.state.children ≡ board.old.book.state.children }
     ensures first { OnErr result (SignalsFirst slots.now board.old.book board.new.book) }
     ensures why { IfErr result (λ fault. IsRefusedFor fault board.new.book) }
     ensures rest { LeavesRest board.old.book board.new.book }
@@ -189,8 +206,13 @@ pub fn signal_all<L: Link, N: Known>(
 fn signal<L: Link, N: Known>(board: &mut Board<L, N>, slot: u32) -> Result<(), BoardFault>
     requires passes { 0 < board.old.book.passes }
     requires free { row_in 0 board.old.book ≡ None }
+    requires within { is_over board.old.book.state.moment board.old.book.state.going ≡ false }
+    requires staffed { is_staffed board.old.book.state ≡ true }
     ensures signals { OnOk result
         (Acts 0 (signal_events board.old.book (slot ∷ [])) None board.old.book board.new.book) }
+    ensures timely { StaysTimely board.old.book board.new.book }
+    ensures rows { board.new.book.state.rows ≡ board.old.book.state.rows }
+    ensures children { board.new.book.state.children ≡ board.old.book.state.children }
     ensures rest { LeavesRest board.old.book board.new.book }
     ensures refused { OnErr result (board.new ≡ board.old) }
     ensures why { IfErr result (λ fault. IsRefusedFor fault board.old.book) }
@@ -212,15 +234,23 @@ pub fn let_go_of_conns<L: Link, N: Known>(
 ) -> Result<(), BoardFault>
     requires passes { 0 < board.old.book.passes }
     requires free { row_in 0 board.old.book ≡ None }
+    requires staffed { is_staffed board.old.book.state ≡ true }
     ensures gone { OnOk result (LetsGoOfConns board.old.book board.new.book) }
+    ensures timely { StaysTimely board.old.book board.new.book }
+    ensures staffed { is_staffed board.new.book.state ≡ true }
+    ensures none_late { OnOk result (NoneOverdue board.new.book.state) }
     ensures until { IfErr result (λ fault. LetsGoUntil fault board.old.book board.new.book) }
     ensures rest { LeavesRest board.old.book board.new.book }
     ensures err { IfErr result (λ fault. RefusalLasts fault board.new.book) }
 {
+    histories_join();
     passes_act_in_steps();
+    show_state(board);
     let_go_retiring(board, all_signalled);
     let_go_late(board);
-    drain_all(board)
+    let drained = drain_all(board);
+    show_state(board);
+    drained
 }
 /// Whether the time of a graceful stop is over.
 pub fn is_overdue<L: Link, N: Known>(board: &Board<L, N>) -> bool
@@ -231,7 +261,8 @@ pub fn is_overdue<L: Link, N: Known>(board: &Board<L, N>) -> bool
 /// Whether a graceful stop is at its end: the server takes no connections, and each child is gone.
 pub fn is_gone<L: Link, N: Known>(board: &Board<L, N>) -> bool
     requires { IsUp board.now.book.state.going }
-    ensures { (result ≡ true) ↔ IsAllGone board.now.book.state }
+    ensures gone { (result ≡ true) ↔ IsAllGone board.now.book.state }
+    ensures end { result ≡ is_at_its_end board.now.book.state }
 {
     board.show();
     let state = board.state();
@@ -253,6 +284,15 @@ pub fn start_children<L: Link, N: Known>(board: &mut Board<L, N>) -> Result<(), 
     ensures starts { StartsSome board.old.book board.new.book }
     ensures why { IfErr result (λ fault. IsRefusedFor fault board.new.book) }
     ensures started { OnOk result (startable board.new.book.state ≡ None) }
+    ensures staffed { OnOk result
+        (is_halted board.old.book.state.going ≡ false
+        → is_at_its_end board.old.book.state ≡ false
+        → 0 < length board.new.book.state.children
+        → is_staffed board.new.book.state ≡ true) }
+    ensures before { is_at_its_end board.old.book.state ≡ false
+        → is_at_its_end board.new.book.state ≡ false }
+    ensures children { length board.new.book.state.children
+        ≡ length board.old.book.state.children }
     ensures first { OnOk result
         (IsOpening board.old.book → BeginsWithStarts (asked_children board.old.book.base)
         board.new.book.history) }
@@ -267,6 +307,7 @@ pub fn start_children<L: Link, N: Known>(board: &mut Board<L, N>) -> Result<(), 
         board.show();
         board.start_child(LISTENER, child)?;
     }
+    board.show();
     Ok(())
 }
 /// Serves each connection that is signalled and that a worker of its child is free for.
@@ -277,12 +318,18 @@ pub fn serve_all<R: Wait, L: Link, N: Known, B: Bell, G: Gate>(
 ) -> Result<(), BoardFault>
     requires passes { 1 < board.old.book.passes }
     requires free { row_in 1 board.old.book ≡ None }
+    requires in_time { NoneDueLate board.old.book.state }
+    requires staffed { is_staffed board.old.book.state ≡ true }
     ensures serves { ServesSome board.old board.new }
+    ensures timely { StaysTimely board.old.book board.new.book }
+    ensures staffed { is_staffed board.new.book.state ≡ true }
     ensures why { IfErr result (λ fault. IsRefusedFor fault board.new.book) }
     ensures served { OnOk result (NoneDue board.new.book.state) }
     ensures rest { LeavesRest board.old.book board.new.book }
     ensures err { IfErr result (λ fault. RefusalLasts fault board.new.book) }
 {
+    histories_join();
+    rows_change_one_at_a_time();
     passes_act_in_steps();
     passes_leave_the_rest_to_the_listener();
     show_state(board);
@@ -305,6 +352,7 @@ pub fn retire_all<L: Link, N: Known>(board: &mut Board<L, N>)
 {
     passes_act_in_steps();
     while let Some(child) = board.can_retire() {
+        show_state(board);
         board.retire(LISTENER, child);
     }
     board.show();

@@ -1,14 +1,14 @@
 -- How a run ends: with which exit status, and what was written.
-use Rattle.std.proofs.Common.{◌≡◌, ◌⊎◌, ◌++◌, inl, inr, ℕ, Bool, true, false, List, Option, None, Some, option_map, ◌&&◌, refl, sym, ap, subst, ◌∙◌, arith}
+use Rattle.std.proofs.Common.{◌≡◌, ◌⊎◌, ◌+◌, ◌<◌, ◌≤◌, ◌++◌, inl, inr, ℕ, Bool, true, false, List, length, length-append, Option, None, Some, option_map, IfSome, IsSomeAnd, ◌&&◌, refl, sym, ap, subst, ◌∙◌, arith}
 use Rattle.std.proofs.lemmas.Bool.Decides.{nat_tests}
 use Rattle.std.proofs.lemmas.List.{append_assoc}
-use Rattle.mpm_base.specs.Count.{NeverFalls, Rises}
+use Rattle.mpm_base.specs.Count.{NeverFalls}
 use Rattle.mpm_base.specs.Sink.{SinkSeen}
 use Rattle.conn_machine.specs.declared.event.Why.TheVariants as why
 use Rattle.conn_machine.specs.declared.state.Going.{Going}
 use Rattle.conn_machine.specs.declared.state.Going.TheVariants.{Halted}
 use Rattle.board.specs.Board.{SeenBoard}
-use Rattle.run_report.specs.Written.{WritesText}
+use Rattle.run_report.specs.Written.{LacksText, LeavesUnwritten, WritesText}
 use Rattle.run_report.specs.EndingsInside.{IsEnd, EndsReport, IsExitStatusOf, IsStoppedStatus, LacksInRun, LacksReport, ReportsAs, WritesAll, status_of_writes}
 use Rattle.run_report.specs.Endings.{EndsAs, EndsLacking, IsGoodEnd, MayEndWith}
 use Rattle.run_report.specs.Report.{board_report}
@@ -63,6 +63,42 @@ told-both None p q first second one two = two ∙ ap (option_map (λ (written : 
 told-both (Some w) p q first second one two =
     two ∙ ap (option_map (λ (written : List ℕ). written ++ second)) one ∙ ap (λ (x : List ℕ). Some x) (append_assoc w first second)
 
+-- what is too short for a text behind another one is too short for both
+short-joined : (w : List ℕ) (q : Option (List ℕ)) (first second : List ℕ) → IsSomeAnd q (λ w'. length w' < length (w ++ first) + length second)
+    → IsSomeAnd q (λ w'. length w' < length w + length (first ++ second))
+short-joined w None first second short = short
+short-joined w (Some w') first second short = omega (arith, short, length-append w first, length-append first second)
+
+-- an output that lacks some of one text lacks some of it behind another one that was written
+lacks-behind : (o p q : Option (List ℕ)) (first second : List ℕ) → p ≡ option_map (λ written. written ++ first) o → LacksText p q second
+    → LacksText o q (first ++ second)
+lacks-behind None p q first second one lacks = tt
+lacks-behind (Some w) p q first second one lacks =
+    short-joined w q first second (subst (λ (x : Option (List ℕ)). LacksText x q second) one lacks)
+
+-- the output took no more than the text
+abbrev GrowsWithin : Option (List ℕ) → Option (List ℕ) → List ℕ → Type 0
+GrowsWithin o q text = IfSome o (λ w. IsSomeAnd q (λ w'. length w' ≤ length w + length text))
+
+-- it took no more where it took the text
+within-whole : (o q : Option (List ℕ)) (text : List ℕ) → q ≡ option_map (λ written. written ++ text) o → GrowsWithin o q text
+within-whole None q text whole = tt
+within-whole (Some w) q text whole =
+    subst (λ (x : Option (List ℕ)). IsSomeAnd x (λ w'. length w' ≤ length w + length text)) (sym whole) (omega (arith, length-append w text))
+
+-- nor where it lacks some of it
+within-lacking : (o q : Option (List ℕ)) (text : List ℕ) → LacksText o q text → GrowsWithin o q text
+within-lacking None q text lacks = tt
+within-lacking (Some w) None text lacks = lacks
+within-lacking (Some w) (Some w') text lacks = omega (arith, lacks)
+
+-- an output that lacks some of one text lacks some of it and of what follows it
+lacks-before : (o p q : Option (List ℕ)) (first second : List ℕ) → LacksText o p first → GrowsWithin p q second → LacksText o q (first ++ second)
+lacks-before None p q first second lacks within = tt
+lacks-before (Some w) None q first second lacks within = absurd lacks
+lacks-before (Some w) (Some v) None first second lacks within = within
+lacks-before (Some w) (Some v) (Some u) first second lacks within = omega (arith, lacks, within, length-append first second)
+
 -- the warnings, where they were written, and the report
 pub report-well : (old mid new : SinkSeen) (first second : List ℕ) (written : Bool) (status : ℕ) → WritesAll old mid first written
     → EndsReport mid new second written status → status ≡ 0 → new.told ≡ option_map (λ before. before ++ (first ++ second)) old.told
@@ -70,15 +106,26 @@ report-well old mid new first second true status warned report zero =
     told-both old.told mid.told new.told first second warned (report.well zero).1
 report-well old mid new first second false status warned report zero = absurd (cc (report.well zero).0)
 
--- a write of the warnings or of the report failed
+-- a write of the warnings or of the report failed, and they were not written whole
 pub report-unwritten : (old mid new : SinkSeen) (first second : List ℕ) (written : Bool) (status : ℕ) → WritesAll old mid first written
-    → NeverFalls old.faults mid.faults → EndsReport mid new second written status → status ≡ 5 → Rises old.faults new.faults
+    → NeverFalls old.faults mid.faults → EndsReport mid new second written status → status ≡ 5 → LeavesUnwritten old new (first ++ second)
 report-unwritten old mid new first second true status warned faults report five =
     elim (report.failed five) [
-      | inl unwarned ↦ absurd (cc unwarned)
-      | inr failed ↦ rises-behind old.faults mid.faults new.faults faults failed
+      | inl unwritten ↦ record {
+        failed = rises-behind old.faults mid.faults new.faults faults unwritten.failed;
+        lacks = lacks-behind old.told mid.told new.told first second warned unwritten.lacks;
+      }
+      | inr unwarned ↦ absurd (cc unwarned.0)
     ]
-report-unwritten old mid new first second false status warned faults report five = rises-before old.faults mid.faults new.faults warned report.faults
+report-unwritten old mid new first second false status warned faults report five = record {
+  failed = rises-before old.faults mid.faults new.faults warned.failed report.faults;
+  lacks =
+      lacks-before old.told mid.told new.told first second warned.lacks
+      (elim (report.failed five) [
+        | inl unwritten ↦ within-lacking mid.told new.told second unwritten.lacks
+        | inr unwarned ↦ within-whole mid.told new.told second unwarned.1
+      ]);
+}
 
 -- both were written whole, or a write failed
 both-whole : (old mid new : SinkSeen) (first second : List ℕ) → mid.told ≡ option_map (λ written. written ++ first) old.told
@@ -98,7 +145,7 @@ text-behind : (old mid new : SinkSeen) (first second : List ℕ) (written : Bool
 text-behind old mid new first second true warned faults writes = both-whole old mid new first second warned faults writes
 text-behind old mid new first second false warned faults writes = record {
   faults = omega (arith, faults, writes.faults);
-  whole = inr (rises-before old.faults mid.faults new.faults warned writes.faults);
+  whole = inr (rises-before old.faults mid.faults new.faults warned.failed writes.faults);
 }
 
 pub report-text : (old mid new : SinkSeen) (first second : List ℕ) (written : Bool) (status : ℕ) → WritesAll old mid first written
@@ -109,7 +156,7 @@ report-text old mid new first second written status warned faults report is =
 -- a text was written, or a write failed
 writes-text : (old new : SinkSeen) (text : List ℕ) (whole : Bool) → WritesAll old new text whole → NeverFalls old.faults new.faults → WritesText old new text
 writes-text old new text true all faults = record { faults = faults; whole = inl all }
-writes-text old new text false all faults = record { faults = faults; whole = inr all }
+writes-text old new text false all faults = record { faults = faults; whole = inr all.failed }
 
 -- with exit status 6
 ends-lacking : (old mid new : SinkSeen) (warnings : List ℕ) (b : SeenBoard) (written : Bool) → WritesAll old mid warnings written
@@ -135,7 +182,7 @@ ends-as old mid new warnings b written status warned faults end may report lacki
   };
   unwritten = λ five. record {
     going = good-end b.book.state.going status end may (inr five);
-    failed = report-unwritten old mid new warnings (board_report b) written status warned faults report five;
+    unwritten = report-unwritten old mid new warnings (board_report b) written status warned faults report five;
   };
   lacking = λ six. ends-lacking old mid new warnings b written warned faults (lacking six);
 }
@@ -158,7 +205,7 @@ report-unwarned : (old new : SinkSeen) (text : List ℕ) (status : ℕ) → Writ
 report-unwarned old new text status all faults other = record {
   faults = faults;
   well = λ zero. absurd (other zero);
-  failed = λ five. inl refl;
+  failed = λ five. inr (refl, all);
   writes = λ is. record { faults = faults; whole = inl all };
 }
 
@@ -168,8 +215,8 @@ report-failed : (old new : SinkSeen) (text : List ℕ) (written : Bool) (status 
 report-failed old new text written status all faults other = record {
   faults = faults;
   well = λ zero. absurd (other zero);
-  failed = λ five. inr all;
-  writes = λ is. record { faults = faults; whole = inr all };
+  failed = λ five. inl all;
+  writes = λ is. record { faults = faults; whole = inr all.failed };
 }
 
 -- where a write failed the status isn't 0

@@ -2,10 +2,9 @@
 use Rattle.board.specs.Board.{SeenBoard}
 use Rattle.conn_machine.specs.declared.state.Going.{Going}
 use Rattle.conn_machine.specs.declared.state.Going.TheVariants.{Ending, Halted}
-use Rattle.mpm_base.specs.Count.{Rises}
 use Rattle.mpm_base.specs.Sink.{SinkSeen}
 use Rattle.run_report.specs.Report.{board_report}
-use Rattle.run_report.specs.Written.{WritesText}
+use Rattle.run_report.specs.Written.{LeavesUnwritten, WritesText}
 use Rattle.std.specs.Prelude.{◌≡◌, ◌⊎◌, ℕ, Option, List, ◌++◌, option_map}
 use Rattle.conn_machine.specs.declared.event.Why.TheVariants as why
 
@@ -40,10 +39,10 @@ pub record EndsWell (sink sink' : SinkSeen) (warnings : List ℕ) (b : SeenBoard
   pub going : IsGoodEnd b.book.state.going
   pub report : Reports sink sink' warnings b
 
--- with exit status 5, of a run: the same, but a write of them failed
-pub record EndsUnwritten (sink sink' : SinkSeen) (b : SeenBoard) : Type 0 where
+-- with exit status 5, of a run: the same, but a write of them failed, and they were not written whole
+pub record EndsUnwritten (sink sink' : SinkSeen) (warnings : List ℕ) (b : SeenBoard) : Type 0 where
   pub going : IsGoodEnd b.book.state.going
-  pub failed : Rises sink.faults sink'.faults
+  pub unwritten : LeavesUnwritten sink sink' (run_text warnings b)
 
 -- with exit status 4, of a run: a wait of its front failed
 pub record EndsFailed (sink sink' : SinkSeen) (warnings : List ℕ) (b : SeenBoard) : Type 0 where
@@ -61,5 +60,5 @@ pub record EndsAs (sink sink' : SinkSeen) (warnings : List ℕ) (b : SeenBoard) 
   pub may : MayEndWith b.book.state.going status
   pub well : status ≡ 0 → EndsWell sink sink' warnings b
   pub failed : status ≡ 4 → EndsFailed sink sink' warnings b
-  pub unwritten : status ≡ 5 → EndsUnwritten sink sink' b
+  pub unwritten : status ≡ 5 → EndsUnwritten sink sink' warnings b
   pub lacking : status ≡ 6 → EndsLacking sink sink' warnings b

@@ -2,11 +2,11 @@
 use Rattle.board.specs.Board.{SeenBoard}
 use Rattle.conn_machine.specs.declared.state.Going.{Going}
 use Rattle.conn_machine.specs.declared.state.Going.TheVariants.{Halted, Ending}
-use Rattle.mpm_base.specs.Count.{NeverFalls, Rises}
+use Rattle.mpm_base.specs.Count.{NeverFalls}
 use Rattle.mpm_base.specs.Sink.{SinkSeen}
 use Rattle.run_report.specs.Endings.{HasEndedGracefully}
 use Rattle.run_report.specs.Report.{board_report}
-use Rattle.run_report.specs.Written.{WritesText}
+use Rattle.run_report.specs.Written.{LeavesUnwritten, WritesText}
 use Rattle.std.specs.Prelude.{◌≡◌, ◌⊎◌, ◌==◌, ℕ, Bool, true, false, if◌then◌else◌, List, ◌++◌, option_map}
 use Rattle.conn_machine.specs.declared.event.Why.TheVariants as why
 
@@ -39,16 +39,21 @@ abbrev pub status_of_writes : Bool → ℕ → ℕ
 status_of_writes true status = status
 status_of_writes false status = if status == 0 then 5 else status
 
--- all of the text was written, or a write failed
+-- all of the text was written, or not
 abbrev pub WritesAll : SinkSeen → SinkSeen → List ℕ → Bool → Type 0
 WritesAll old new text true = new.told ≡ option_map (λ written. written ++ text) old.told
-WritesAll old new text false = Rises old.faults new.faults
+WritesAll old new text false = LeavesUnwritten old new text
+
+-- the text was not written whole; or it was, and the one before it was not
+abbrev pub LacksBoth : SinkSeen → SinkSeen → List ℕ → Bool → Type 0
+LacksBoth old new text written =
+    LeavesUnwritten old new text ⊎ ((written ≡ false) × WritesAll old new text true)
 
 -- what was written of a report by the exit status, behind warnings that were written or not
 pub record EndsReport (sink sink' : SinkSeen) (text : List ℕ) (written : Bool) (status : ℕ) : Type 0 where
   pub faults : NeverFalls sink.faults sink'.faults
   pub well : status ≡ 0 → (written ≡ true) × (sink'.told ≡ option_map (λ before. before ++ text) sink.told)
-  pub failed : status ≡ 5 → (written ≡ false) ⊎ Rises sink.faults sink'.faults
+  pub failed : status ≡ 5 → LacksBoth sink sink' text written
   pub writes : status ≡ 4 → WritesText sink sink' text
 
 -- the report was written behind exit status 6, or memory lacked for it, and the output is as it was

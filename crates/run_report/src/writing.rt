@@ -4,7 +4,7 @@ ghost use Rattle.run_report.specs.EndingsInside.{WritesAll};
 
 use mpm_base::{Put, Sink};
 
-/// Writes all the bytes. False where a write failed.
+/// Writes all the bytes. False where a write failed, and then some of them were not written.
 pub fn write_all<K: Sink>(out: &mut K, bytes: &[u8]) -> bool
     ensures all { WritesAll (K.seen out.old) (K.seen out.new) bytes.now result }
     ensures faults { NeverFalls (K.seen out.old).faults (K.seen out.new).faults }

@@ -10,12 +10,12 @@ use Rattle.run_tests.specs.ShutFrontInside.{shut_front_seen}
 pub fails-to-bind : (n m : ℕ) (listen : Addr) (control : Option ℕ) → Rises n m
     → Binds (shut_front_seen n) (shut_front_seen m) listen control false
 fails-to-bind n m listen control rises =
-    record { script = refl; told_is = refl; faults = rises; accept_faults = refl; ends = refl; commands = refl }
+    record { script = refl; told_is = refl; faults = rises; accept_faults = refl; ends = refl; wakes = refl; commands = refl; words = refl; handed = refl }
 
 -- a dial that fails
 pub fails-to-dial : (n m port : ℕ) (word : List ℕ) → Rises n m → Dials (shut_front_seen n) (shut_front_seen m) port word false
 fails-to-dial n m port word rises =
-    record { script = refl; told_is = refl; faults = rises; accept_faults = refl; ends = refl; commands = refl }
+    record { script = refl; told_is = refl; faults = rises; accept_faults = refl; ends = refl; wakes = refl; commands = refl; words = refl; handed = refl }
 
 -- a wait that fails
 pub fails-to-wait : (n m : ℕ) (until : Option ℕ) (quiet : Bool) (ready : List ℕ) → Rises n m → ready ≡ []
@@ -29,5 +29,8 @@ fails-to-wait n m until quiet ready rises none = rw none (record {
   faults = rises;
   accept_faults = refl;
   ends = refl;
+  wakes = refl;
   commands = refl;
+  words = refl;
+  handed = refl;
 })

@@ -1,11 +1,12 @@
 -- The front to which nothing comes.
 use Rattle.std.specs.Prelude.{ℕ, None}
 use Rattle.mpm_base.specs.Front.{FrontSeen}
+use Rattle.mpm_base.specs.GivenWords.{no_words}
 
 -- what is seen of it, with so many calls that failed: it tells nothing
 abbrev pub shut_front_seen : ℕ → FrontSeen
 shut_front_seen faults = record {
   script = None;
   told = None;
-  counts = record { faults = faults; accept_faults = 0; ends = 0; commands = 0 };
+  counts = record { faults = faults; accept_faults = 0; ends = 0; wakes = 0; commands = 0; words = no_words; handed = 0 };
 }

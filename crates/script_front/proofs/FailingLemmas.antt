@@ -1,11 +1,12 @@
 -- Waits of a front of a script that fail.
 use Rattle.std.proofs.Common.{◌≡◌, ℕ, Bool, List, [], append-nil, Option, None, subst, sym, refl, arith}
 use Rattle.std.specs.Prelude.{IfSome}
-use Rattle.mpm_base.specs.Front.{FrontTold, GoesForward, IsPatient}
+use Rattle.mpm_base.specs.Front.{FrontTold, GoesForward, IsPatient, WaitTold, progress_of}
 use Rattle.script_front.specs.FailingFront.{after_failed_wait}
-use Rattle.script_front.specs.ScriptFront.{IsOfScript, SeenFront}
+use Rattle.script_front.specs.ScriptFront.{IsOfScript, SeenFront, woken_waits}
 use Rattle.mpm_base.specs.declared.front.Woke.TheVariants as woke
 use Rattle.script_front.proofs.PlayedLemmas.{arrived-within}
+use Rattle.script_front.proofs.WaitLemmas.{woken-more}
 
 -- a wait that failed is what a front that tells may do
 pub forward-failed : (old new : SeenFront) (until : Option ℕ) (quiet : Bool) → IsOfScript old → new ≡ after_failed_wait until quiet old
@@ -36,3 +37,10 @@ forward-failed old new until quiet was is =
       patient = patient;
       waits = refl;
     })
+
+-- and gave no moment
+pub failed-wakes : (old new : SeenFront) (until : Option ℕ) (quiet : Bool) → new ≡ after_failed_wait until quiet old
+    → woken_waits new.told.waits ≡ woken_waits old.told.waits
+failed-wakes old new until quiet is =
+    let wait : WaitTold = record { began = progress_of old.told; until = until; quiet = quiet; slots = []; answer = woke.Failed; passed = None } in
+    subst (λ (f : SeenFront). woken_waits f.told.waits ≡ woken_waits old.told.waits) (sym is) (woken-more old.told.waits wait)

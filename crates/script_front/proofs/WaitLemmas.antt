@@ -1,13 +1,14 @@
 -- A wait of a front that plays a script is one of a front.
-use Rattle.std.proofs.Common.{◌≡◌, ℕ, ◌+◌, ◌-◌, ◌<◌, ◌≤◌, Bool, true, false, nat_lt, max, if◌then◌else◌, List, [], ◌∷◌, ◌++◌, drop, length, take, Option, None, Some, ap, subst, sym, refl, ◌∙◌, arith}
+use Rattle.std.proofs.Common.{◌≡◌, ℕ, ◌+◌, ◌-◌, ◌<◌, ◌≤◌, Bool, true, false, cond, nat_lt, max, if◌then◌else◌, List, [], ◌∷◌, ◌++◌, drop, length, take, Option, None, Some, ap, subst, sym, refl, ◌∙◌, arith}
 use Rattle.std.specs.Prelude.{option_map, IfSome}
 use Rattle.std.proofs.lemmas.Bool.Decides.{nat_tests}
+use Rattle.std.proofs.lemmas.List.Sums.{sum_by-append, sum_by-cons}
 use Rattle.mpm_script.specs.Clients.{names_of}
 use Rattle.mpm_script.specs.Commands.{command_lines_of}
-use Rattle.mpm_base.specs.Count.{RisesExactlyWhere, RisesWhere}
-use Rattle.mpm_base.specs.Front.{FrontTold, Backlog, GivesOnlyAwake, HasAllTaken, IsAnswerOf, IsPatient, LetsTimePass, StandsStill, Waits, earlier, is_ended, wait_failed}
+use Rattle.mpm_base.specs.Count.{CountsWhere, RisesExactlyWhere, RisesWhere}
+use Rattle.mpm_base.specs.Front.{Backlog, FrontTold, GivesOnlyAwake, HasAllTaken, IsAnswerOf, IsPatient, LetsTimePass, StandsStill, WaitTold, Waits, earlier, is_ended, is_woken, progress_of, wait_failed}
 use Rattle.script_front.specs.PlayedFrontInside.{KeepsRest, waiting_counts, passed_between, with_wait}
-use Rattle.script_front.specs.ScriptFront.{IsOfScript, MayPass, Moves, Plays, SeenFront, backlog_of, begins, comings_of, ends, front_seen, next_moment, lines_now, over, passes, recovers, served, signals, stays, to_come}
+use Rattle.script_front.specs.ScriptFront.{IsOfScript, MayPass, Moves, Plays, SeenFront, backlog_of, begins, comings_of, ends, front_seen, next_moment, lines_now, over, passes, recovers, served, signals, stays, to_come, woken_waits}
 use Rattle.script_front.specs.declared.wait_end.WaitEnd.{WaitEnd}
 use Rattle.script_front.specs.declared.wait_end.WaitingCounts.{WaitingCounts}
 use Rattle.mpm_base.specs.declared.front.Woke.{Woke}
@@ -150,12 +151,27 @@ still-put_down old mid new end ready is still = record {
   moment = ap (λ (f : SeenFront). f.told.moment) is ∙ still.moment;
 }
 
-pub waits : (old mid new : SeenFront) (until : Option ℕ) (quiet : Bool) (answer : Woke) (ready : List ℕ) (passed : Option WaitingCounts) → IsOfScript old → IsOfScript new → (0 < new.ends → HasAllTaken new.told)
-    → passed ≡ passed_between old.told.moment mid.told.moment (waiting_counts old)
-    → new ≡ with_wait ready (record { until = until; quiet = quiet; answer = answer; passed = passed }) mid → Plays old new until quiet answer ready → KeepsRest answer old mid
+-- one more wait gave a moment, or as many
+woken-by : (gave : Bool) (n m : ℕ) → m ≡ n + cond gave 1 0 → CountsWhere gave n m
+woken-by true n m is = (omega (arith, is), λ below. omega (arith, is))
+woken-by false n m is = omega (arith, is)
+
+pub woken-more : (told : List WaitTold) (wait : WaitTold)
+    → CountsWhere (is_woken wait.answer) (woken_waits told) (woken_waits (told ++ wait ∷ []))
+woken-more told wait =
+    let both : woken_waits (told ++ wait ∷ []) ≡ woken_waits told + woken_waits (wait ∷ []) =
+    sum_by-append (λ (w : WaitTold). cond (is_woken w.answer) 1 0) told (wait ∷ []) in
+    let one : woken_waits (wait ∷ []) ≡ cond (is_woken wait.answer) 1 0 + woken_waits [] =
+    sum_by-cons (λ (w : WaitTold). cond (is_woken w.answer) 1 0) wait [] in
+    woken-by (is_woken wait.answer) (woken_waits told) (woken_waits (told ++ wait ∷ [])) (omega (arith, both, one))
+
+pub waits : (old mid new : SeenFront) (until : Option ℕ) (quiet : Bool) (answer : Woke) (ready : List ℕ) (passed : Option WaitingCounts) (accepted read : ℕ) (hushed : Bool)
+    → IsOfScript old → IsOfScript new → (0 < new.ends → HasAllTaken new.told) → passed ≡ passed_between old.told.moment mid.told.moment (waiting_counts old)
+    → accepted ≡ mid.told.accepted → read ≡ mid.told.read → hushed ≡ mid.told.hushed
+    → new ≡ with_wait ready (record { accepted = accepted; read = read; hushed = hushed; until = until; quiet = quiet; answer = answer; passed = passed }) mid → Plays old new until quiet answer ready → KeepsRest answer old mid
     → (0 < old.ends → (ready ≡ []) × StandsStill old.told mid.told)
     → Waits (front_seen old) (front_seen new) until quiet answer ready
-waits old mid new until quiet answer ready passed was now taken passed_so is plays rest ended =
+waits old mid new until quiet answer ready passed accepted read hushed was now taken passed_so accepted_is read_is hushed_is is plays rest ended =
     let went = plays-went plays in
     let told : new.told ≡ record mid.told { failed = false; waits = new.told.waits } = rw is refl in
     let kept : record new.told { arrived = 0; lines = []; left = 0; moment = 0; failed = false; waits = [] } ≡ record old.told { arrived = 0; lines = []; left = 0; moment = 0; failed = false; waits = [] } = rw (told, rest.told_is) refl in
@@ -164,6 +180,10 @@ waits old mid new until quiet answer ready passed was now taken passed_so is pla
     let rises : RisesExactlyWhere (is_ended answer) old.ends new.ends = rw ends rest.ends in
     let says = plays-answers (λ e. taken (omega (arith, e, never-fell (is_ended answer) old.ends new.ends rises))) plays in
     let moment : mid.told.moment ≡ new.told.moment = sym (ap (λ (f : SeenFront). f.told.moment) is) in
+    let told_wait : WaitTold = record { began = progress_of old.told; until = until; quiet = quiet; slots = ready; answer = answer; passed = passed-of old new.told.moment } in
+    let told_waits : new.told.waits ≡ old.told.waits ++ told_wait ∷ [] =
+    ap (λ (f : SeenFront). f.told.waits) is
+    ∙ rw (passed_so, moment, accepted_is, read_is, hushed_is) (ap (λ (t : FrontTold). t.waits ++ record { began = progress_of t; until = until; quiet = quiet; slots = ready; answer = answer; passed = passed-of old new.told.moment } ∷ []) rest.told_is) in
     record {
       script = ap (λ (lines : List ScriptLine). let some : Option (List ScriptLine) = Some lines in some) went.script;
       tells = (
@@ -194,7 +214,7 @@ waits old mid new until quiet answer ready passed was now taken passed_so is pla
           patient = subst (λ (o : Option (List ℕ)). IfSome o (λ comings. IsPatient comings until quiet answer (passed-of old new.told.moment) old.told new.told)) (sym was.comings) (plays-patient was plays);
           waits =
               ap (λ (f : SeenFront). f.told.waits) is
-              ∙ rw (passed_so, moment) (ap (λ (t : FrontTold). t.waits ++ record { until = until; quiet = quiet; slots = ready; answer = answer; passed = passed-of old new.told.moment } ∷ []) rest.told_is);
+              ∙ rw (passed_so, moment, accepted_is, read_is, hushed_is) (ap (λ (t : FrontTold). t.waits ++ record { began = progress_of t; until = until; quiet = quiet; slots = ready; answer = answer; passed = passed-of old new.told.moment } ∷ []) rest.told_is);
         },
       );
       over = λ e. record { none = (ended e).0; still = (new.told, refl, still-put_down old mid new _ ready is (ended e).1) };
@@ -203,5 +223,10 @@ waits old mid new until quiet answer ready passed was now taken passed_so is pla
       faults = says.2;
       accept_faults = refl;
       ends = rises;
+      wakes =
+          subst (λ (told : List WaitTold). CountsWhere (is_woken answer) (woken_waits old.told.waits) (woken_waits told)) (sym told_waits)
+          (woken-more old.told.waits told_wait);
       commands = ap (λ (t : FrontTold). t.read) kept;
+      words = ap (λ (f : SeenFront). f.words) is ∙ rest.words;
+      handed = ap (λ (t : FrontTold). t.accepted) kept;
     }

@@ -2,9 +2,9 @@
 -- it.
 use Rattle.std.specs.Prelude.{◌≡◌, ℕ, Bool, true, false, List, [], ◌∷◌, ◌++◌, Option, None, Some}
 use Rattle.mpm_base.specs.Count.{next_count}
-use Rattle.mpm_base.specs.Front.{FrontSeen}
+use Rattle.mpm_base.specs.Front.{FrontSeen, progress_of}
 use Rattle.stand_ins.specs.Calls.{next_is_listed}
-use Rattle.script_front.specs.ScriptFront.{Plays, SeenFront, new_front}
+use Rattle.script_front.specs.ScriptFront.{Plays, SeenFront, new_front, woken_waits}
 use Rattle.mpm_base.specs.declared.conn.ConnName.{ConnName}
 use Rattle.mpm_base.specs.declared.front.Woke.{Woke}
 use Rattle.mpm_base.specs.declared.front.Woke.TheVariants as woke
@@ -29,7 +29,15 @@ failing_front_seen f =
     record {
       script = Some f.front.script;
       told = Some f.front.told;
-      counts = record { faults = f.faults; accept_faults = f.accept_faults; ends = f.front.ends; commands = f.front.told.read };
+      counts = record {
+        faults = f.faults;
+        accept_faults = f.accept_faults;
+        ends = f.front.ends;
+        wakes = woken_waits f.front.told.waits;
+        commands = f.front.told.read;
+        words = f.front.words;
+        handed = f.front.told.accepted;
+      };
     }
 
 -- no line has happened, and no call was made
@@ -78,7 +86,9 @@ after_failed_wait until quiet f =
     record f {
       told = record f.told {
         failed = false;
-        waits = f.told.waits ++ record { until = until; quiet = quiet; slots = []; answer = woke.Failed; passed = None } ∷ [];
+        waits =
+            f.told.waits
+            ++ record { began = progress_of f.told; until = until; quiet = quiet; slots = []; answer = woke.Failed; passed = None } ∷ [];
       };
     }
 

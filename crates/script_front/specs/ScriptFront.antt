@@ -1,9 +1,10 @@
 -- The front that plays a script: what contracts see of it, and what its waits do.
-use Rattle.std.specs.Prelude.{◌≡◌, ℕ, suc, ◌+◌, ◌<◌, ◌≤◌, Bool, true, false, max, nat_le, if◌then◌else◌, List, [], ◌∷◌, drop, take, length, map, Option, None, Some, option_map, ⊤}
+use Rattle.std.specs.Prelude.{◌≡◌, ℕ, suc, ◌+◌, ◌<◌, ◌≤◌, Bool, true, false, max, nat_le, if◌then◌else◌, List, [], ◌∷◌, count_by, drop, take, length, map, Option, None, Some, option_map, ⊤}
 use Rattle.std.specs.List.{flat_map}
 use Rattle.mpm_script.specs.Clients.{clients_of, fails_of, is_dropped, name_at, names_of}
 use Rattle.mpm_script.specs.Commands.{command_lines_of}
-use Rattle.mpm_base.specs.Front.{BoundTold, DialTold, FrontSeen, FrontTold, HasAllTaken, WaitTold, Backlog, WatchTold, client_at, earlier, next_coming}
+use Rattle.mpm_base.specs.Front.{BoundTold, DialTold, FrontSeen, FrontTold, HasAllTaken, WaitTold, Backlog, WatchTold, client_at, earlier, is_woken, next_coming}
+use Rattle.mpm_base.specs.GivenWords.{no_words}
 use Rattle.mpm_base.specs.Link.{LinkTold}
 use Rattle.stand_ins.specs.ScriptLink.{SeenScriptLink, new_paced_link}
 use Rattle.script_front.specs.Signals.{SeenClient, Gives, client_after_lines, all_closed, new_client}
@@ -17,12 +18,14 @@ use Rattle.mpm_base.specs.declared.front.Arrival.{Arrival}
 use Rattle.mpm_base.specs.declared.front.Arrival.TheVariants as arrival
 use Rattle.mpm_base.specs.declared.front.Woke.{Woke}
 use Rattle.mpm_base.specs.declared.front.Woke.TheVariants as woke
+use Rattle.mpm_base.specs.declared.given_words.GivenWords.{GivenWords}
 use Rattle.mpm_base.specs.declared.script_line.LinkCall.TheVariants as call
 use Rattle.mpm_base.specs.declared.script_line.ScriptLine.{ScriptLine}
 use Rattle.mpm_base.specs.declared.script_line.ScriptLine.TheVariants as line
 
 -- its script, how many of the lines have happened, whether it waited before, its clients in the order of their connections,
--- under which name the link of each is watched, what it tells, and how often a wait answered Ended
+-- under which name the link of each is watched, what it tells, how often a wait answered Ended, and how many of the command lines that
+-- were read say each of the words
 pub record SeenFront : Type 0 where
   pub script : List ScriptLine
   pub happened : ℕ
@@ -31,15 +34,17 @@ pub record SeenFront : Type 0 where
   pub names : List (Option ConnName)
   pub told : FrontTold
   pub ends : ℕ
+  pub words : GivenWords
 
 -- so many connections and command lines wait to be taken
 abbrev pub backlog_of : WaitingCounts → Backlog
 backlog_of counts = record { arrivals = counts.arrivals; lines = counts.lines }
 
--- a wait of it, from the slots that it gave and how it ended
+-- a wait of it, from the slots that it gave, how it ended, and how far the server was as it began
 abbrev pub wait_told : List ℕ × WaitEnd → WaitTold
 wait_told wait =
     record {
+      began = record { accepted = wait.1.accepted; read = wait.1.read; hushed = wait.1.hushed };
       until = wait.1.until;
       quiet = wait.1.quiet;
       slots = wait.0;
@@ -63,13 +68,26 @@ bound_told bound = record { listen = bound.0; control = bound.1 }
 abbrev pub dial_told : ℕ × Log ℕ Bool → DialTold
 dial_told dial = record { port = dial.0; word = map (λ byte. byte.0) dial.1.items; answer = true }
 
--- it as each front is seen: it has a script and tells, and none of its calls fails; as many command lines were given as were read
+-- how many of the waits gave a moment
+abbrev pub woken_waits : List WaitTold → ℕ
+woken_waits waits = count_by (λ wait. is_woken wait.answer) waits
+
+-- it as each front is seen: it has a script and tells, and none of its calls fails; as many waits gave a moment as it tells, as many command
+-- lines were given as were read, and as many links handed out as connections
 abbrev pub front_seen : SeenFront → FrontSeen
 front_seen f =
     record {
       script = Some f.script;
       told = Some f.told;
-      counts = record { faults = 0; accept_faults = 0; ends = f.ends; commands = f.told.read };
+      counts = record {
+        faults = 0;
+        accept_faults = 0;
+        ends = f.ends;
+        wakes = woken_waits f.told.waits;
+        commands = f.told.read;
+        words = f.words;
+        handed = f.told.accepted;
+      };
     }
 
 -- the moment of the line, where it is an `at`
@@ -117,6 +135,7 @@ new_front lines =
         waits = [];
       };
       ends = 0;
+      words = no_words;
     }
 
 -- ## The lines that come next

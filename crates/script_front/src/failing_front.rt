@@ -254,6 +254,7 @@ impl Front for FailingFront {
               front = record self.old.front {
                 told = after_command
                     (is_some result) self.old.front.told;
+                words = self.new.front.words;
               };
             } }
     {

@@ -1,6 +1,7 @@
 //! The clock that goes with the front of a script.
-ghost use Rattle.std.specs.Prelude.{◌≡◌, Some, [], ◌∷◌, ◌++◌};
-ghost use Rattle.mpm_base.specs.Clock.{Answers, AreEchoes};
+ghost use Rattle.std.specs.Prelude.{◌≡◌, Some, [], ◌∷◌, ◌++◌, length, max};
+ghost use Rattle.mpm_base.specs.Clock.{Answers, AreEchoes, greatest_answer};
+ghost use Rattle.mpm_base.specs.Count.{RisesByOne};
 
 use http_server::Log;
 use mpm_base::{Clock, Moment};
@@ -42,10 +43,19 @@ impl ScriptClock {
 }
 
 impl Clock for ScriptClock {
+    ghost use Rattle.std.specs.Prelude.{length};
+    ghost use Rattle.mpm_base.specs.Clock.{greatest_answer};
+
     ghost told = { λ c. Some c };
+
+    ghost greatest = { λ c. greatest_answer c };
+
+    ghost asked = { λ c. length c };
 
     fn now(&mut self, at: Moment) -> Moment
         ensures told { Answers (Some self.old) (Some self.new) at result }
+        ensures most { greatest_answer self.new ≡ max (greatest_answer self.old) result }
+        ensures asked { RisesByOne (length self.old) (length self.new) }
         ensures same { result ≡ at }
     {
         self.calls = self.calls.and(&at, &at);

@@ -64,6 +64,13 @@ impl ScriptCommands {
         self.came - self.read
     }
 
+    /// How many were read.
+    pub(crate) fn read(&self) -> usize
+        ensures { result ≡ self.now.read }
+    {
+        self.read
+    }
+
     /// Whether each that came was read.
     pub(crate) fn are_read(&self) -> bool
         ensures { result ≡ (self.now.read == self.now.came) }

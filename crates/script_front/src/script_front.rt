@@ -7,7 +7,7 @@ ghost use Rattle.mpm_base.specs.declared.front.Woke.TheVariants as woke;
 ghost use Rattle.script_front.specs.DuePlacesInside.{AllLook};
 ghost use Rattle.script_front.specs.FailingFront.{after_failed_wait, after_failed_watch, told_watch};
 ghost use Rattle.script_front.specs.PlayedFrontInside.{KeepsRest, gone_to, waiting_counts, with_begun, with_clients, with_end, with_lines, with_moment, with_wait};
-ghost use Rattle.script_front.specs.ScriptFront.{HandsPaced, IsOfScript, Plays, comings_of, front_seen, lines_now, new_front, all_taken_closed, to_come};
+ghost use Rattle.script_front.specs.ScriptFront.{HandsPaced, IsOfScript, Plays, comings_of, front_seen, lines_now, new_front, all_taken_closed, to_come, woken_waits};
 ghost use Rattle.script_front.specs.Signals.{Gives, after_watch_of};
 ghost use Rattle.stand_ins.specs.ScriptLink.{SeenScriptLink, script_link_after_failed_watch};
 
@@ -22,7 +22,8 @@ use crate::watch_end::WatchEnd;
 use crate::word_log::log_of;
 use http_server::Log;
 use mpm_base::{
-    Addr, Arrival, ConnName, Front, Line, Link, Moment, NoMemory, Ready, ScriptLine, Woke,
+    Addr, Arrival, ConnName, Front, GivenWords, Line, Link, Moment, NoMemory, Ready, ScriptLine,
+    Woke,
 };
 use mpm_script::Script;
 use stand_ins::ScriptLink;
@@ -46,6 +47,7 @@ pub struct ScriptFront {
     clients: ScriptClients,
     commands: ScriptCommands,
     ends: u64,
+    words: GivenWords,
     // Kept for clauses alone: they take no memory.
     binds: Log<Addr, Option<u16>>,
     dials: Log<u16, Log<u8, bool>>,
@@ -88,6 +90,7 @@ impl Model for ScriptFront {
         waits = map wait_told f.waits.items;
       };
       ends = f.ends;
+      words = f.words;
     } };
 
     ghost invariant = { λ f.
@@ -117,6 +120,7 @@ impl ScriptFront {
             clients,
             commands,
             ends: 0,
+            words: GivenWords::none(),
             binds: Log::new(),
             dials: Log::new(),
             watches: Log::new(),
@@ -308,10 +312,14 @@ impl ScriptFront {
         ensures none { ready.new ≡ [] }
         ensures told { self.new ≡ after_failed_wait until quiet self.old }
         ensures forward { GoesForward until quiet woke.Failed [] self.old.told self.new.told }
+        ensures wakes { woken_waits self.new.told.waits ≡ woken_waits self.old.told.waits }
     {
         self.show();
         ready.clear();
         let end = WaitEnd {
+            accepted: self.accepted,
+            read: self.commands.read(),
+            hushed: self.hushed,
             until,
             quiet,
             answer: Woke::Failed,
@@ -386,6 +394,9 @@ impl Front for ScriptFront {
         let waiting = self.waiting();
         let answer = self.wake(until, quiet, ready);
         let end = WaitEnd {
+            accepted: self.accepted,
+            read: self.commands.read(),
+            hushed: self.hushed,
             until,
             quiet,
             answer,
@@ -470,10 +481,15 @@ impl Front for ScriptFront {
         ensures commands { Commands (front_seen self.old) (front_seen self.new) result }
         ensures line { result ≡ slice_get self.old.told.lines self.old.told.read }
         ensures rest { self.new
-            ≡ record self.old { told = after_command (is_some result) self.old.told } }
+            ≡ record self.old {
+              told = after_command (is_some result) self.old.told;
+              words = self.new.words;
+            } }
     {
         let word = self.commands.next()?;
-        Some(line_of(word))
+        let given = Some(line_of(word));
+        self.words.count(&given);
+        given
     }
 
     /// The call does not fail.

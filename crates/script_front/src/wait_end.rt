@@ -12,10 +12,14 @@ pub(crate) struct WaitingCounts {
     pub(crate) lines: usize,
 }
 
-/// How a wait ended: until when it was to last at most, whether time might pass in it, its answer, and what waited to be taken just
-/// before it let time pass, where it did.
+/// How a wait ended: how many connections were handed out as it began, how many command lines were read, and whether listening was
+/// stopped; until when it was to last at most, whether time might pass in it, its answer, and what waited to be taken just before it let
+/// time pass, where it did.
 #[derive(Clone, Copy)]
 pub(crate) struct WaitEnd {
+    pub(crate) accepted: usize,
+    pub(crate) read: usize,
+    pub(crate) hushed: bool,
     pub(crate) until: Option<Moment>,
     pub(crate) quiet: bool,
     pub(crate) answer: Woke,

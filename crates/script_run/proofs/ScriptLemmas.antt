@@ -11,7 +11,7 @@ use Rattle.mpm_script.specs.declared.script.ScriptFault.{ScriptFault}
 use Rattle.run_opening.specs.Calls.{Call, IsFileUnread}
 use Rattle.script_run.specs.Scripts.{PlaysLines, most_script, HasConfig, HasScriptSite}
 use Rattle.script_run.specs.ScriptRefusals.{EndsMisconfigured, EndsRefused, EndsScriptSiteRefused}
-use Rattle.script_run.specs.Played.{HasPlayed, IsLeftOfRun}
+use Rattle.script_run.specs.Played.{HasPlayed}
 use Rattle.script_run.specs.PlayedInside.{HasRunScript, IsPlayed, EndsScript, IsPlayedStatus, IsScriptStatus, IsServedRun}
 use Rattle.script_run.specs.ScriptsInside.{IsConfigRefusalOf, IsRefusalOf, IsSiteRefusalOf, HasReadConfig, IsOfText, IsScriptConfig, RefusesConfig, RefusesLoad, RefusesSite}
 use Rattle.run_opening.specs.RefusalsInside.{RefusesRun}
@@ -52,11 +52,11 @@ makes-load call count command unasked = inr (record { count = count; command = c
 
 -- they were played
 pub played : (o : Option Scripted) (call : Call) (lines : List ScriptLine) → PlaysLines call lines → (IsSome o → call.shown ≡ None)
-    → IfSome o (IsPlayed lines) → IfSome o (λ s. HasPlayed call s.config s.board s.front s.store)
+    → IfSome o (IsPlayed lines) → IfSome o (λ s. HasPlayed call s.config s.board s.front s.clock s.store)
 played None call lines plays shows run = tt
 played (Some s) call lines plays shows run =
     let same = sym run.script in
-    let ran = subst (λ (script : List ScriptLine). HasRunScript script s.config run.site s.board s.front s.store) same run.run in
+    let ran = subst (λ (script : List ScriptLine). HasRunScript script s.config run.site s.board s.front s.clock s.store) same run.run in
     record {
       config = run.text;
       site = run.site;
@@ -66,10 +66,9 @@ played (Some s) call lines plays shows run =
       site_is = subst (λ (script : List ScriptLine). HasScriptSite script s.config run.site) same run.site_is;
       shows = shows refl;
       has_run = ran.has_run;
+      left = ran.left;
       receive = ran.receive;
-      receive_before = ran.receive_before;
       taken = ran.taken;
-      lines = ran.done;
       store_is = ran.store_is;
     }
 
@@ -166,7 +165,7 @@ is-played (Some s) lines c told has run = record {
   text_is = has.text_is;
   accepted = subst (Configures has.text) (sym run.config) has.accepted;
   site_is = subst (λ (x : Configuration). HasScriptSite lines x run.site) (sym run.config) run.site_is;
-  run = subst (λ (x : Configuration). HasRunScript lines x run.site s.board s.front s.store) (sym run.config) run.run;
+  run = subst (λ (x : Configuration). HasRunScript lines x run.site s.board s.front s.clock s.store) (sym run.config) run.run;
 }
 
 -- why it is refused
@@ -196,14 +195,13 @@ script-status status (inr (inr nine)) = inr (inr (inr (inr (inr (inr nine)))))
 
 -- its lines were played
 pub plays : (call : Call) (lines : List ScriptLine) (status : ℕ) (left : Option Scripted) → PlaysLines call lines → IfSome left (IsPlayed lines)
-    → IfSome left IsLeftOfRun → IfSome left (λ s. EndsAs call.sink call.sink' (warnings_of s.config) s.board status)
+    → IfSome left (λ s. EndsAs call.sink call.sink' (warnings_of s.config) s.board status)
     → ((status ≡ 0) ⊎ (status ≡ 5) → IsSome left) → (IsSome left → call.shown ≡ None) → IsPlayedStatus status ⊎ (status ≡ 1) ⊎ (status ≡ 9)
     → (status ≡ 1 → IsConfigRefusalOf call.sink call.sink' lines call.shown) → (status ≡ 9 → IsSiteRefusalOf call.sink call.sink' lines call.shown)
     → (status ≡ 6 → IsNone left → EndsSilently call.sink call.sink' call.shown) → EndsScript call status left
-plays call lines status left plays_lines kept of_run ends opened shows known unfit siteless silent = record {
+plays call lines status left plays_lines kept ends opened shows known unfit siteless silent = record {
   known = script-status status known;
   kept = played left call lines plays_lines shows kept;
-  left_of_run = of_run;
   ends = ends;
   opened = opened;
   misconfigured = λ one. misconfigured call lines plays_lines (unfit one);
@@ -224,7 +222,6 @@ unplayed call status None none known unread refused silent = record {
         | inr other ↦ elim other [ inl six ↦ inr (inr (inr (inr (inl six)))) | inr eight ↦ inr (inr (inr (inr (inr (inl eight))))) ]
       ];
   kept = tt;
-  left_of_run = tt;
   ends = tt;
   opened = λ good. absurd (omega (arith, known, good));
   misconfigured = λ one. absurd (omega (arith, known, one));

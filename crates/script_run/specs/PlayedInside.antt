@@ -8,7 +8,8 @@ use Rattle.mpm_base.specs.declared.script_line.ScriptLine.{ScriptLine}
 use Rattle.mpm_config.specs.Config.{Configuration}
 use Rattle.listener.specs.Commands.{is_graceful_stop}
 use Rattle.script_run.specs.Played.{opening_store, script_opening, HasPlayed, IsLeftOfRun}
-use Rattle.listener.specs.Runs.{HasRun, KeepsLines, entries_of_run}
+use Rattle.listener.specs.FirstNumbers.{numbers_of}
+use Rattle.listener.specs.Runs.{HasRun, ended_of_run, entries_of_run}
 use Rattle.script_run.specs.Scripts.{HasConfig, HasScriptSite}
 use Rattle.listener.specs.Stores.{KeepsStore}
 use Rattle.listener.specs.Tells.{AllReceive}
@@ -33,19 +34,20 @@ IsPlayedStatus s = (s ≡ 0) ⊎ (s ≡ 5) ⊎ (s ≡ 6)
 abbrev pub IsScriptStatus : ℕ → Type 0
 IsScriptStatus s = (s ≡ 0) ⊎ (s ≡ 1) ⊎ (s ≡ 3) ⊎ (s ≡ 5) ⊎ (s ≡ 6) ⊎ (s ≡ 8) ⊎ (s ≡ 9)
 
--- what is left is of a run by this configuration and this site, and then by the editions of the script, in which each connection received a
--- front of what its client of the script sends, and all of it where the client had done, and so did ones that the folded entries close; where
--- nothing more could come each connection of the script was taken, unless a graceful stop was begun; what the command lines ask for was done;
--- and the store went on by them
-pub record HasRunScript (lines : List ScriptLine) (c : Configuration) (site : SeenSite) (b : SeenBoard) (f : SeenFront) (store : SeenStore) : Type 0 where
+-- what is left is of a run by this configuration and this site, and then by the editions of the script, which did with its front and its clock
+-- what such a run does; each connection received a front of what its client of the script sends, and all of it where the client had done;
+-- where nothing more could come each connection of the script was taken, unless a graceful stop was begun; and the store went on by the orders
+pub record HasRunScript (lines : List ScriptLine) (c : Configuration) (site : SeenSite) (b : SeenBoard) (f : SeenFront) (calls : List (ℕ × ℕ))
+    (store : SeenStore) : Type 0 where
   pub has_run : HasRun (script_opening lines c site) b
-  pub receive : AllReceive (clients_of lines) b.ended
-  pub receive_before : AllReceive (clients_of lines) has_run.folded.ended
+  pub left :
+      IsLeftOfRun (numbers_of c) b (entries_of_run (script_opening lines c site) b has_run)
+      (ended_of_run (script_opening lines c site) b has_run) f calls
+  pub receive : AllReceive (clients_of lines) (ended_of_run (script_opening lines c site) b has_run)
   pub taken :
       b.book.state.going ≡ Halted why.FrontEnded
       → count_events is_graceful_stop (entries_of_run (script_opening lines c site) b has_run) ≡ 0
       → b.book.state.accepted ≡ length (names_of lines)
-  pub done : KeepsLines (entries_of_run (script_opening lines c site) b has_run) b f.told
   pub store_is :
       KeepsStore b.book.state.going (entries_of_run (script_opening lines c site) b has_run)
       (opening_store lines) (telling_store store.told store.counts)
@@ -56,7 +58,7 @@ pub record IsServedRun (lines : List ScriptLine) (c : Configuration) (s : Script
   pub config : s.config ≡ c
   pub site : SeenSite
   pub site_is : HasScriptSite lines c site
-  pub run : HasRunScript lines c site s.board s.front s.store
+  pub run : HasRunScript lines c site s.board s.front s.clock s.store
 
 -- what is left is of a run of the script, by the configuration that its lines write, and the site that they have by it
 pub record IsPlayed (lines : List ScriptLine) (s : Scripted) : Type 0 where
@@ -66,13 +68,12 @@ pub record IsPlayed (lines : List ScriptLine) (s : Scripted) : Type 0 where
   pub text_is : HasConfig lines text
   pub accepted : Configures text s.config
   pub site_is : HasScriptSite lines s.config site
-  pub run : HasRunScript lines s.config site s.board s.front s.store
+  pub run : HasRunScript lines s.config site s.board s.front s.clock s.store
 
 -- how the play of a script ends, and what is left of its run, where one opened
 pub record EndsScript (call : Call) (status : ℕ) (left : Option Scripted) : Type 0 where
   pub known : IsScriptStatus status
-  pub kept : IfSome left (λ s. HasPlayed call s.config s.board s.front s.store)
-  pub left_of_run : IfSome left IsLeftOfRun
+  pub kept : IfSome left (λ s. HasPlayed call s.config s.board s.front s.clock s.store)
   pub ends : IfSome left (λ s. EndsAs call.sink call.sink' (warnings_of s.config) s.board status)
   pub opened : (status ≡ 0) ⊎ (status ≡ 5) → IsSome left
   pub misconfigured : status ≡ 1 → EndsMisconfigured call

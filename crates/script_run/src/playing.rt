@@ -4,7 +4,6 @@ ghost use Rattle.command_words.specs.Invocations.{IsLoadWords, IsScriptWords};
 ghost use Rattle.file_table.specs.Load.{is_store_fault};
 ghost use Rattle.mpm_base.specs.Store.{StoreSeen};
 ghost use Rattle.listener.specs.Generations.{head_limits_of};
-ghost use Rattle.script_run.specs.Played.{IsLeftOfRun};
 ghost use Rattle.script_run.specs.PlayedInside.{EndsScript, HasRunScript, IsPlayed, IsPlayedStatus, IsServedRun};
 ghost use Rattle.script_run.specs.ScriptRefusals.{fault_at};
 ghost use Rattle.script_run.specs.ScriptsInside.{IsConfigRefusalOf, IsOfText, IsRefusalOf, IsScriptConfig, IsSiteRefusalOf, RefusesConfig, RefusesLoad, RefusesSite};
@@ -16,7 +15,6 @@ ghost use Rattle.run_report.specs.Endings.{EndsAs};
 ghost use Rattle.script_front.specs.Editions.{editions_of, store_of};
 
 use crate::scripted::Scripted;
-use board::laws::{ended_connections_join, generations_keep_their_editions};
 use file_table::LoadFault;
 use listener::{LoadedEdition, NamedConfig, OpenFault, ServedRun, head_limits_of, run_server};
 use mpm_base::{Gate, NoMemory, Octets, Sink, Store, StoreFault};
@@ -124,7 +122,6 @@ fn play_script<R: Wait, G: Gate, K: Sink>(
 ) -> Ending<Scripted>
     requires { HaveTextNames script }
     ensures kept { IfSome result.left (λ s. IsPlayed script s) }
-    ensures left { IfSome result.left IsLeftOfRun }
     ensures ends { IfSome result.left (λ s.
         EndsAs (K.seen out.old) (K.seen out.new) (warnings_of s.config) s.board result.status) }
     ensures opened { (result.status ≡ 0) ⊎ (result.status ≡ 5) → IsSome result.left }
@@ -160,7 +157,6 @@ fn play_site<R: Wait, G: Gate, K: Sink>(
     requires told { told.now ≡ warnings_of config }
     requires store { store.told ≡ editions_of script }
     ensures kept { IfSome result.left (λ s. IsServedRun script config s) }
-    ensures left { IfSome result.left IsLeftOfRun }
     ensures ends { IfSome result.left (λ s.
         EndsAs (K.seen out.old) (K.seen out.new) (warnings_of s.config) s.board result.status) }
     ensures opened { (result.status ≡ 0) ⊎ (result.status ≡ 5) → IsSome result.left }
@@ -262,10 +258,9 @@ fn serve_script<R: Wait, G: Gate, K: Sink>(
     requires limits { edition.limits ≡ head_limits_of config }
     requires timeout { edition.stop_ms ≡ config.current.stop_ms }
     ensures kept { IfSome result.left (λ s.
-        HasRunScript script config edition.site.value s.board s.front s.store) }
+        HasRunScript script config edition.site.value s.board s.front s.clock s.store) }
     ensures script { IfSome result.left (λ s. s.front.script ≡ script) }
     ensures config { IfSome result.left (λ s. s.config ≡ config) }
-    ensures left { IfSome result.left IsLeftOfRun }
     ensures ends { IfSome result.left (λ s.
         EndsAs (K.seen out.old) (K.seen out.new) (warnings_of s.config) s.board result.status) }
     ensures opened { (result.status ≡ 0) ⊎ (result.status ≡ 5) → IsSome result.left }
@@ -296,8 +291,6 @@ fn serve_script<R: Wait, G: Gate, K: Sink>(
     );
     front.show();
     clock.show();
-    generations_keep_their_editions();
-    ended_connections_join();
     match answer {
         Ok(served) => {
             let ServedRun { board, written } = served;

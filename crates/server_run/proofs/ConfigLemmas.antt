@@ -2,7 +2,6 @@
 use Rattle.run_opening.proofs.ConfigLemmas.{RefusesText, RefusesSize, from-refused, from-missing, from-failed, has-accepted, told-of}
 use Rattle.std.proofs.Common.{◌≡◌, inl, inr, ℕ, ◌⊎◌, ◌++◌, Bool, List, None, Some, option_map, Result, Ok, Err, refl, ap, subst, ◌∙◌, arith}
 use Rattle.mpm_base.specs.CommandWord.{command_word}
-use Rattle.mpm_base.specs.Count.{Rises}
 use Rattle.mpm_base.specs.Front.{Dials, FrontSeen}
 use Rattle.mpm_base.specs.Store.{ReadsFile}
 use Rattle.mpm_base.specs.declared.script_line.CommandWord.{CommandWord}
@@ -16,6 +15,7 @@ use Rattle.server_run.specs.Ends.{EndsFileRefused, EndsTested, EndsTestUnwritten
 use Rattle.run_opening.specs.RefusalsInside.{RefusesConfigOf, RefusesRun}
 use Rattle.command_words.specs.Invocations.{IsSendWords, IsTestWords, NamesConfig}
 use Rattle.run_report.specs.Texts.{config_refused, no_control_line, syntax_ok}
+use Rattle.run_report.specs.Written.{LeavesUnwritten}
 use Rattle.run_opening.specs.declared.config_reading.NoConfig.{NoConfig}
 use Rattle.run_opening.specs.declared.config_reading.NoConfig.TheVariants as no
 use Rattle.run_report.specs.declared.texts.ConfigRefusal.{ConfigRefusal}
@@ -98,17 +98,17 @@ ends-tested call name answer conf command reads is shows text = record {
   text = text ∙ ap (λ (t : List ℕ). option_map (λ (written : List ℕ). written ++ (t ++ syntax_ok)) call.sink.told) (told-of answer conf is);
 }
 
--- or a write of it failed
+-- or it was not written whole
 pub ends-test-unwritten : (call : Call) (name : List ℕ) (answer : Result (List ℕ) StoreFault) (conf : Configuration × List ℕ) → IsTestWords call.words name
     → ReadsFile call.store call.store' name most_config answer → IsConfigFrom answer (Ok conf) → call.shown ≡ None
-    → Rises call.sink.faults call.sink'.faults → EndsTestUnwritten call
-ends-test-unwritten call name answer conf command reads is shows failed = record {
+    → LeavesUnwritten call.sink call.sink' (conf.1 ++ syntax_ok) → EndsTestUnwritten call
+ends-test-unwritten call name answer conf command reads is shows unwritten = record {
   name = name;
   config = conf.0;
   command = command;
   accepted = has-accepted call call.store' name answer conf reads refl is;
   shows = shows;
-  failed = failed;
+  unwritten = subst (λ (t : List ℕ). LeavesUnwritten call.sink call.sink' (t ++ syntax_ok)) (told-of answer conf is) unwritten;
 }
 
 -- ## Commands

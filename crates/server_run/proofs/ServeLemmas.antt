@@ -1,6 +1,6 @@
 -- What a server that was run shows, and why one wasn't.
 use Rattle.listener.proofs.LeftLemmas.{store-since}
-use Rattle.std.proofs.Common.{◌≡◌, ◌∙◌, ◌⊎◌, inl, inr, ℕ, false, List, ◌++◌, Option, None, Some, IfSome, IsNone, IsSome, Result, Ok, Err, refl, sym, subst, arith}
+use Rattle.std.proofs.Common.{◌≡◌, ◌∙◌, ◌⊎◌, inl, inr, ℕ, false, List, Option, None, Some, IfSome, IsNone, IsSome, Result, Ok, Err, refl, sym, subst, arith}
 use Rattle.mpm_base.specs.Count.{NeverFalls}
 use Rattle.mpm_base.specs.Front.{Binds, FrontSeen}
 use Rattle.mpm_base.specs.Store.{ReadsFile, StoreSeen, StoreTold, answers_with, is_failure, is_refusal}
@@ -17,15 +17,20 @@ use Rattle.run_opening.specs.Calls.{Call, HadConfigAccepted, HasConfigAccepted, 
 use Rattle.restart_control.specs.Reload.{most_config, order_of}
 use Rattle.run_opening.specs.Configured.{warnings_of}
 use Rattle.run_report.specs.Endings.{EndsAs, MayEndWith}
+<<<<<<< f0e0bae9ba4e81f209b5ffa9de4069fbf16ad08a:crates/server_run/proofs/ServeLemmas.antt
 use Rattle.server_run.specs.Ends.{EndsServedSiteRefused, EndsUnbound, EndsUnread, HasRunServer, IsUnbound, LeavesFront, EndsFileRefused}
+=======
+use Rattle.mpm_run.specs.ExitStatuses.{EndsSiteRefused, EndsUnbound, EndsUnread, HasRunServer, IsUnbound, LeavesFront, EndsConfigRefused}
+use Rattle.listener.specs.Counted.{LeavesClock}
+>>>>>>> 2ab3f64187a3797f889734a258fbe51c0036452d:crates/mpm_run/proofs/ServeLemmas.antt
 use Rattle.listener.specs.RunsInside.{HasRunBy}
 use Rattle.server_run.specs.EndsInside.{LeavesUnbound, RefusesFolder, IsOpenedStatus, EndsServe}
 use Rattle.run_opening.specs.RefusalsInside.{RefusesRun}
 use Rattle.listener.specs.FirstNumbers.{numbers_of, opened_by}
 use Rattle.listener.specs.Generations.{Opening}
 use Rattle.command_words.specs.Invocations.{IsServeWords}
-use Rattle.listener.specs.Outside.{KeepsOutside}
-use Rattle.listener.specs.Served.{all_entries, whole_book}
+use Rattle.listener.specs.Runs.{ended_of_run, entries_of_run}
+use Rattle.listener.specs.Served.{whole_book}
 use Rattle.run_opening.specs.Sites.{IsSiteRefusedOf}
 use Rattle.run_report.specs.Texts.{front_fault}
 use Rattle.run_opening.proofs.ConfigLemmas.{accepted-still}
@@ -92,15 +97,14 @@ asked-only old read loaded name answer site reads leaves =
 -- a run that opened behind that
 pub serves : (o : Option SeenBoard) (call : Call) (name : List ℕ) (c : Configuration) (site : SeenSite) (loaded : StoreSeen) (f f' : FrontSeen)
     (calls : Option (List (ℕ × ℕ))) (status : ℕ) → IsReady call name c site → IsAskedOnly call.store loaded → (IsSome o → call.shown ≡ None)
-    → IfSome o (HasRunBy (record { name = name; config = c; site = site; store = loaded; front = f }) call.store' f')
-    → IfSome o (KeepsOutside (numbers_of c) f f' calls) → IfSome o (λ b. EndsAs call.sink call.sink' (warnings_of c) b status)
-    → IfSome o (HasRunServer call f f' calls status)
-serves None call name c site loaded f f' calls status ready asked shows run outside ends = tt
-serves (Some b) call name c site loaded f f' calls status ready asked shows run outside ends =
+    → IfSome o (HasRunBy (record { name = name; config = c; site = site; store = loaded; front = f }) call.store' f' calls)
+    → IfSome o (λ b. EndsAs call.sink call.sink' (warnings_of c) b status) → IfSome o (HasRunServer call f f' calls status)
+serves None call name c site loaded f f' calls status ready asked shows run ends = tt
+serves (Some b) call name c site loaded f f' calls status ready asked shows run ends =
     let opening : Opening = record { name = name; config = c; site = site; store = loaded; front = f } in
     let ran = run.has_run in
     let n = numbers_of c in
-    let entries = all_entries n b.book ran.folded in
+    let entries = entries_of_run opening b ran in
     record {
       name = name;
       config = c;
@@ -114,14 +118,21 @@ serves (Some b) call name c site loaded f f' calls status ready asked shows run 
         folded = ran.folded;
         closed = ran.closed;
         ordered = ordered-reopened opening call.store f 0 0 (opened_by n) entries (sym asked.told) ran.ordered;
-        served = served-reopened opening call.store f (whole_book n entries) (ran.folded.ended ++ b.ended) (sym asked.told) ran.served;
+        served = served-reopened opening call.store f (whole_book n entries) (ended_of_run opening b ran) (sym asked.told) ran.served;
+        backed = ran.backed;
       };
-      outside = outside;
-      lines = run.done;
+      outside = run.outside;
+      counted = run.counted;
+      unended = run.unended;
       given = run.given;
       store = store-since b.book.state.going entries call.store loaded call.store' asked.told asked.faults run.store_is;
       ends = ends;
     }
+
+-- where no run opened the clock was asked nothing
+pub clock-unserved : (left : Option SeenBoard) (greatest : ℕ) → IsNone left → LeavesClock left greatest greatest
+clock-unserved None greatest none = refl
+clock-unserved (Some b) greatest none = absurd none
 
 -- the front could not be bound
 is-unbound : (call : Call) (name : List ℕ) (c : Configuration) (site : SeenSite) (f f' : FrontSeen) → IsReady call name c site → KeepsFiles call

@@ -24,6 +24,7 @@ pub fn send_command<D: Store, F: Front, K: Sink>(
 ) -> Ending<()>
     ensures clients { clients_told (F.seen front.new).told ≡ clients_told (F.seen front.old).told }
     ensures comings { comings_told (F.seen front.new).told ≡ comings_told (F.seen front.old).told }
+    ensures wakes { (F.seen front.new).counts.wakes ≡ (F.seen front.old).counts.wakes }
     ensures ends { (words : List (List ℕ)) → IsSendWords words command name.now → EndsSend
         (seen_call words (D.seen store.old) (D.seen store.new)
         (K.seen out.old) (K.seen out.new) result.shown)

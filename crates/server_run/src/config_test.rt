@@ -2,11 +2,16 @@
 //! Why it is so stands in docs/DECISIONS.md: 79, What a test reads.
 ghost use Rattle.std.specs.Prelude.{◌≡◌, ◌⊎◌, ◌++◌, ℕ, List, None, option_map};
 ghost use Rattle.command_words.specs.Invocations.{IsTestWords};
+<<<<<<< f0e0bae9ba4e81f209b5ffa9de4069fbf16ad08a:crates/server_run/src/config_test.rt
 ghost use Rattle.mpm_base.specs.Count.{Rises};
 ghost use Rattle.server_run.specs.EndsInside.{EndsTest};
+=======
+ghost use Rattle.mpm_run.specs.ExitStatusesInside.{EndsTest};
+>>>>>>> 2ab3f64187a3797f889734a258fbe51c0036452d:crates/mpm_run/src/config_test.rt
 ghost use Rattle.run_opening.specs.Calls.{seen_call};
 ghost use Rattle.run_opening.specs.Refusals.{EndsSilently};
 ghost use Rattle.run_report.specs.Texts.{syntax_ok};
+ghost use Rattle.run_report.specs.Written.{LeavesUnwritten};
 
 use mpm_base::{Octets, Sink, Store};
 use restart_control::MOST_CONFIG;
@@ -39,7 +44,8 @@ fn pass<K: Sink>(told: Octets, out: &mut K) -> Ending<()>
     ensures shown { result.shown ≡ None }
     ensures written { result.status ≡ 0 → (K.seen out.new).told
         ≡ option_map (λ written. written ++ (told ++ syntax_ok)) (K.seen out.old).told }
-    ensures failed { result.status ≡ 5 → Rises (K.seen out.old).faults (K.seen out.new).faults }
+    ensures unwritten { result.status ≡ 5 →
+        LeavesUnwritten (K.seen out.old) (K.seen out.new) (told ++ syntax_ok) }
     ensures silent { result.status ≡ 6 →
         EndsSilently (K.seen out.old) (K.seen out.new) result.shown }
 {

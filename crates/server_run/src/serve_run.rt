@@ -2,11 +2,16 @@
 ghost use Rattle.std.specs.Prelude.{◌≡◌, ◌⊎◌, ℕ, List, [], None, false, IfSome, IsNone, IsSome};
 ghost use Rattle.command_words.specs.Invocations.{IsServeWords};
 ghost use Rattle.mpm_base.specs.Front.{Binds};
+<<<<<<< f0e0bae9ba4e81f209b5ffa9de4069fbf16ad08a:crates/server_run/src/serve_run.rt
 ghost use Rattle.server_run.specs.EndsInside.{EndsServe, IsOpenedStatus, LeavesUnbound, RefusesFolder};
 ghost use Rattle.listener.specs.FirstNumbers as opening;
+=======
+ghost use Rattle.mpm_run.specs.ExitStatusesInside.{EndsServe, IsOpenedStatus, LeavesUnbound, RefusesFolder};
+ghost use Rattle.listener.specs.Counted.{AsksOnce, LeavesClock};
+>>>>>>> 2ab3f64187a3797f889734a258fbe51c0036452d:crates/mpm_run/src/serve_run.rt
 ghost use Rattle.listener.specs.Generations.{head_limits_of};
 ghost use Rattle.listener.specs.OrdersInside.{opening_by};
-ghost use Rattle.listener.specs.Outside.{KeepsOutside, TellsStill};
+ghost use Rattle.listener.specs.Outside.{TellsStill};
 ghost use Rattle.listener.specs.RunsInside.{HasRunBy};
 ghost use Rattle.listener.specs.Unused.{IsUnused};
 ghost use Rattle.run_opening.specs.Calls.{seen_call};
@@ -17,7 +22,6 @@ ghost use Rattle.run_report.specs.Endings.{EndsAs};
 ghost use Rattle.run_report.specs.Texts.{front_fault};
 
 use board::Board;
-use board::laws::{ended_connections_join, generations_keep_their_editions};
 use conn_state::Nothing;
 use file_table::LoadFault;
 use listener::{LoadedEdition, NamedConfig, OpenFault, ServedRun, head_limits_of, run_server};
@@ -53,6 +57,9 @@ pub fn serve_file<R: Wait, D: Store, F: Front, C: Clock, G: Gate, K: Sink>(
         (K.seen out.old) (K.seen out.new) result.shown)
         (F.seen front.old) (F.seen front.new) (C.told clock.old) (C.told clock.new)
         result.status result.left }
+    ensures clocked { LeavesClock result.left (C.greatest clock.old) (C.greatest clock.new) }
+    ensures asked { AsksOnce (F.seen front.old).counts.wakes (F.seen front.new).counts.wakes
+        (C.asked clock.old) (C.asked clock.new) }
 {
     let answer = store.read(alloc, name, MOST_CONFIG);
     let (config, told) = match config_from(alloc, answer) {
@@ -124,11 +131,8 @@ fn serve_edition<R: Wait, D: Store, F: Front, C: Clock, G: Gate, K: Sink>(
     requires unasked { IfSome (C.told clock.old) (λ calls. calls ≡ []) }
     ensures run { IfSome result.left (λ b.
         HasRunBy (opening_by config.entry edition (D.seen store.old) (F.seen front.old))
-        (D.seen store.new) (F.seen front.new) b) }
+        (D.seen store.new) (F.seen front.new) (C.told clock.new) b) }
     ensures store { IsNone result.left → D.seen store.new ≡ D.seen store.old }
-    ensures outside { IfSome result.left
-        (KeepsOutside (opening.numbers_of config.entry.config.now)
-        (F.seen front.old) (F.seen front.new) (C.told clock.new)) }
     ensures ends { IfSome result.left (λ b.
         EndsAs (K.seen out.old) (K.seen out.new) (warnings_of config.entry.config.now) b
         result.status) }
@@ -144,6 +148,9 @@ fn serve_edition<R: Wait, D: Store, F: Front, C: Clock, G: Gate, K: Sink>(
     ensures front { IsNone result.left →
         LeavesUnbound (F.seen front.old) (F.seen front.new) config.entry.config.now result.status }
     ensures clock { IsNone result.left → C.told clock.new ≡ C.told clock.old }
+    ensures clocked { LeavesClock result.left (C.greatest clock.old) (C.greatest clock.new) }
+    ensures asked { AsksOnce (F.seen front.old).counts.wakes (F.seen front.new).counts.wakes
+        (C.asked clock.old) (C.asked clock.new) }
     ensures silent { result.status ≡ 6 → IsNone result.left →
         EndsSilently (K.seen out.old) (K.seen out.new) result.shown }
 {
@@ -159,8 +166,6 @@ fn serve_edition<R: Wait, D: Store, F: Front, C: Clock, G: Gate, K: Sink>(
         out,
         told.as_slice(),
     );
-    generations_keep_their_editions();
-    ended_connections_join();
     match answer {
         Ok(served) => {
             let ServedRun { board, written } = served;

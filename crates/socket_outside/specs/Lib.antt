@@ -8,3 +8,4 @@ pub mod Events
 pub mod EventsInside
 pub mod GivingWay
 pub mod Moments
+pub mod SeenClock

@@ -1,7 +1,8 @@
 //! The clock of the system.
-ghost use Rattle.std.specs.Prelude.{◌≡◌, ◌≤◌, None, true, is_some, IfSome};
+ghost use Rattle.std.specs.Prelude.{◌≡◌, ◌≤◌, None, true, is_some, IfSome, max};
 ghost use Rattle.std.specs.Duration.{as_nanos};
 ghost use Rattle.mpm_base.specs.Clock.{Answers};
+ghost use Rattle.mpm_base.specs.Count.{RisesByOne};
 ghost use Rattle.mpm_base.specs.Moment.{greatest_moment};
 ghost use Rattle.std.specs.Time.{instant_nanos, system_time_nanos};
 ghost use Rattle.socket_outside.specs.Moments.{moment_behind, moment_since, clock_answer};
@@ -18,20 +19,21 @@ pub struct Start {
 }
 
 /// The system's time when it began, and the time that passed since by the clock that never goes back. Copies of it go on from
-/// the same start. It tells nothing.
+/// the same start. It tells nothing but how often it was asked; as it never goes back, its last answer is its greatest.
 #[derive(Drop)]
 pub struct SystemClock<'a, T: time::Clock> {
     time: &'a T,
     start: Option<Start>,
     last: Moment,
+    asked: u64,
 }
 
 impl<'a, T: time::Clock> Model for SystemClock<'a, T> {
-    ghost use Rattle.std.specs.Prelude.{ℕ};
+    ghost use Rattle.socket_outside.specs.SeenClock.{SeenClock};
 
-    ghost Value = { ℕ };
+    ghost Value = { SeenClock };
 
-    ghost view = { λ c. c.last };
+    ghost view = { λ c. record { last = c.last; asked = c.asked } };
 }
 
 impl<'a, T: time::Clock> SystemClock<'a, T> {
@@ -41,6 +43,7 @@ impl<'a, T: time::Clock> SystemClock<'a, T> {
             time,
             start: start_of(time),
             last: 0,
+            asked: 0,
         }
     }
 
@@ -52,12 +55,13 @@ impl<'a, T: time::Clock> SystemClock<'a, T> {
             time: self.time,
             start: self.start,
             last: self.last,
+            asked: self.asked,
         }
     }
 
     /// The moment that it answered last, or 0.
     pub fn last(&self) -> Moment
-        ensures { result ≡ self.now }
+        ensures { result ≡ self.now.last }
     {
         self.last
     }
@@ -121,11 +125,18 @@ pub fn clock_answer(last: Moment, at: Moment, reading: Option<Moment>) -> Moment
 impl<'a, T: time::Clock> Clock for SystemClock<'a, T> {
     ghost told = { λ c. None };
 
+    ghost greatest = { λ c. c.last };
+
+    ghost asked = { λ c. c.asked };
+
     fn now(&mut self, at: Moment) -> Moment
         ensures clock { Answers None None at result }
-        ensures never_back { self.old ≤ result }
-        ensures last { self.new ≡ result }
+        ensures most { self.new.last ≡ max self.old.last result }
+        ensures asked { RisesByOne self.old.asked self.new.asked }
+        ensures never_back { self.old.last ≤ result }
+        ensures last { self.new.last ≡ result }
     {
+        self.asked = self.asked.saturating_add(1);
         self.last = clock_answer(self.last, at, self.read());
         self.last
     }

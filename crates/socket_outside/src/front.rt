@@ -125,7 +125,7 @@ impl<'a, R: Net + time::Clock + Eprint> Front for SocketFront<'a, R> {
         let pressed = self.pressed || self.sockets.asks_control();
         let woke = self.wait_until(until, pressed, ready);
         self.pressed = false;
-        self.counters.test(woke);
+        self.counters.wait(woke);
         if woke {
             let last = self.clock.last();
             Woke::Woke(self.clock.now(last))
@@ -152,9 +152,8 @@ impl<'a, R: Net + time::Clock + Eprint> Front for SocketFront<'a, R> {
         }
         self.sockets.restock();
         let arrival = self.sockets.accept();
-        let failed = has_failed(&arrival);
-        self.pressed = self.pressed || failed || owes;
-        self.counters.accept(failed);
+        self.pressed = self.pressed || has_failed(&arrival) || owes;
+        self.counters.accept(&arrival);
         arrival
     }
 
@@ -174,7 +173,7 @@ impl<'a, R: Net + time::Clock + Eprint> Front for SocketFront<'a, R> {
 
     fn command(&mut self) -> Option<Line> {
         let line = self.sockets.take_line();
-        self.counters.command(line.is_some());
+        self.counters.command(&line);
         line
     }
 

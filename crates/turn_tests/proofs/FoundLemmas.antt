@@ -6,6 +6,7 @@ use Rattle.atomic_table.specs.Table.{Me}
 use Rattle.mpm_base.specs.declared.conn.ConnName.{ConnName}
 use Rattle.mpm_base.specs.declared.conn.Cause.{Cause}
 use Rattle.mpm_base.specs.declared.conn.Cause.TheVariants as cause
+use Rattle.mpm_base.specs.declared.conn.Kind.{Kind}
 use Rattle.mpm_base.specs.declared.conn.Tail.TheVariants.{Direct}
 use Rattle.http_read.specs.declared.request.Limits.{Limits}
 use Rattle.file_table.specs.Site.{SeenSite}
@@ -29,6 +30,7 @@ use Rattle.table_rule.specs.Histories.{IsPermitted, threads_of}
 use Rattle.board_lock.specs.Passes.{TookTurn}
 use Rattle.board.specs.declared.faults.BoardFault.{BoardFault}
 use Rattle.board.specs.declared.faults.BoardFault.TheVariants as fault
+use Rattle.board.specs.Backed.{BacksWait}
 use Rattle.board.specs.Board.{SeenBoard}
 use Rattle.board.specs.Book.{row_in}
 use Rattle.board.specs.Editions.{IsOfGeneration, UsedHaveEditions}
@@ -186,6 +188,7 @@ closable_on s t why c same halts may = record {
   generation = may.generation;
   notes = may.notes;
   rank = may.rank;
+  backed = may.backed;
   shown = may.shown;
 }
 
@@ -203,6 +206,10 @@ lingerable_on s t c same may =
       shows = may.shows;
     }
 
+-- what backs a wait still does, where its row stays
+backs_on : (s t : State) (kind : Kind) (c : SeenConn) → live_row t.rows c.name ≡ live_row s.rows c.name → BacksWait kind s c → BacksWait kind t c
+backs_on s t kind c same backs = record { row = backs.row; found = same ∙ backs.found; backed = backs.backed }
+
 -- what lasts of a refusal
 lasts_on : (s t : State) (f : BoardFault) → (is_halted s.going ≡ true → is_halted t.going ≡ true) → Lasts f s → Lasts f t
 lasts_on s t fault.Halted halts lasts = halts lasts
@@ -211,7 +218,7 @@ lasts_on s t fault.NoMemory halts lasts = tt
 -- a connection that could be left so can be left so still
 pub may_go_on : (s t : State) (c : SeenConn) (way : Exit) → live_row t.rows c.name ≡ live_row s.rows c.name → (is_halted s.going ≡ true → is_halted t.going ≡ true)
     → MayGo s c way → MayGo t c way
-may_go_on s t c (exit.Park kind) same halts may = (served_on s t c same may.0, may.1, may.2)
+may_go_on s t c (exit.Park kind) same halts may = (served_on s t c same may.0, may.1, may.2, backs_on s t kind c same may.3)
 may_go_on s t c (exit.Linger why) same halts may = (may.0, lingerable_on s t c same may.1)
 may_go_on s t c (exit.Close why how) same halts may = (may.0, closable_on s t why c same halts may.1)
 may_go_on s t c (exit.GiveUp f) same halts may = (served_on s t c same may.0, lasts_on s t f halts may.1)

@@ -1,7 +1,7 @@
 -- What a worker may do at its next turn with the connection that it serves.
 use Rattle.std.proofs.Common.{◌≡◌, ◌==◌, inl, inr, ℕ, ◌<◌, Bool, true, false, ◌&&◌, ◌||◌, not, [], length, Option, Some, None, if◌then◌else◌, is_some, refl, sym, ap, subst, ◌∙◌, arith}
 use Rattle.std.proofs.lemmas.Bool.Decides.{nat_tests}
-use Rattle.std.specs.Prelude.{Result, OnOk, IfErr, OnErr, IfSome, option_map}
+use Rattle.std.specs.Prelude.{Result, OnOk, IfErr, OnErr}
 use Rattle.std.specs.declared.result.Result.TheVariants.{Ok, Err}
 use Rattle.atomic_table.specs.Table.{Me}
 use Rattle.mpm_base.specs.Notes.{says_last}
@@ -18,7 +18,7 @@ use Rattle.mpm_base.specs.declared.note.Snapshot.{Snapshot}
 use Rattle.conn_machine.specs.declared.event.Event.TheVariants as event
 use Rattle.conn_machine.specs.declared.row.Row.{Row}
 use Rattle.conn_machine.specs.declared.state.State.{State}
-use Rattle.conn_machine.specs.Rows.{is_held, is_working, live_row}
+use Rattle.conn_machine.specs.Rows.{is_held, is_working}
 use Rattle.conn_machine.specs.Runs.{after}
 use Rattle.conn_machine.specs.Shown.{snapshot_of}
 use Rattle.conn_machine.specs.Sound.{IsSound}
@@ -31,7 +31,6 @@ use Rattle.conn_state.specs.declared.turn.ReadTurn.TheVariants as read
 use Rattle.conn_state.specs.declared.turn.WriteTurn.{WriteTurn}
 use Rattle.conn_state.specs.declared.turn.WriteTurn.TheVariants as write
 use Rattle.conn_state.specs.Answered.{IsEndOf, SeenEnded}
-use Rattle.mpm_base.specs.Link.{LinkTold, after_close}
 use Rattle.conn_state.specs.Conn.{IsConn, SeenConn, is_usable}
 use Rattle.conn_state.specs.Known.{KnownOutside}
 use Rattle.conn_state.specs.Reader.{keeps_none}
@@ -41,13 +40,15 @@ use Rattle.table_rule.specs.declared.view.View.{View}
 use Rattle.board_lock.specs.Passes.{GaveBack, TookTurn}
 use Rattle.board.specs.declared.faults.BoardFault.{BoardFault}
 use Rattle.board.specs.declared.faults.BoardFault.TheVariants as fault
+use Rattle.board.specs.Backed.{BacksWait}
 use Rattle.board.specs.Board.{SeenBoard}
+use Rattle.board.specs.BoardLaws.{WaitsAreBackedByCalls}
 use Rattle.board.specs.Book.{AddsOnly, SeenBook}
 use Rattle.board.specs.Editions.{IsOfGeneration}
 use Rattle.board.specs.Events.{IsAdded, IsDecided}
 use Rattle.board.specs.Faults.{IsRefusedFor}
 use Rattle.board.specs.Finds.{cause_of}
-use Rattle.board.specs.Fits.{IsClosing, IsOf, IsSettled, NotesEnd}
+use Rattle.board.specs.Fits.{IsClosing, IsOf, IsSettled}
 use Rattle.board.specs.Ledger.{ledger_of}
 use Rattle.worker_group.specs.declared.service.Exit.{Exit}
 use Rattle.worker_group.specs.declared.service.Exit.TheVariants as exit
@@ -55,9 +56,11 @@ use Rattle.worker_group.specs.InHand.{IsClosable}
 use Rattle.worker_group.specs.InHandInside.{IsServed}
 use Rattle.worker_group.specs.Service.{given_up_cause}
 use Rattle.worker_group.proofs.AnswerLemmas.{asked-open, closes-unanswered, may-answer, served-answered}
+use Rattle.worker_group.proofs.BackedLemmas.{backs-read, backs-write}
 use Rattle.worker_group.proofs.EditionLemmas.{edition-answered, edition-shut, edition-written}
+use Rattle.worker_group.proofs.ExitLemmas.{closing-ended}
 use Rattle.worker_group.proofs.LingerLemmas.{last-lingers, last-shows, shut-failed, shut-lingers}
-use Rattle.worker_group.proofs.ServeLemmas.{cause-none, closable, closes-done, closes-failed_read, closes-failed_write, closes-unread, in-hand, may-park, rank-map, served-read, served-written, test-at}
+use Rattle.worker_group.proofs.ServeLemmas.{cause-none, closable, closes-done, closes-failed_read, closes-failed_write, closes-unread, in-hand, may-park, served-read, served-written, test-at}
 use Rattle.turn_tests.specs.Books.{book_of, state_of}
 use Rattle.turn_tests.specs.Carries.{Carries, HasPermitOnly, Lasts, LeavesBy, MayGo, Serves}
 use Rattle.turn_tests.specs.GoesOn.{MadeEvent}
@@ -105,10 +108,15 @@ written known v c c' serves writes = record {
 }
 
 -- there was no room
-pub written_late : (known : Option KnownOutside) (v : View) (c c' : SeenConn) → Serves known v c → WritesOn c c' write.NotReady → LeavesBy known v c' (exit.Park Writing)
-written_late known v c c' serves writes = record {
+pub written_late : WaitsAreBackedByCalls → (known : Option KnownOutside) (v : View) (c c' : SeenConn) → Serves known v c → WritesOn c c' write.NotReady → LeavesBy known v c' (exit.Park Writing)
+written_late law known v c c' serves writes = record {
   carries = carries_written known v c c' write.NotReady writes serves.carries;
-  may = (served-written (state_of v) c c' write.NotReady serves.served writes refl, writes.turn, tt);
+  may = (
+    served-written (state_of v) c c' write.NotReady serves.served writes refl,
+    writes.turn,
+    tt,
+    backs-write law (state_of v) c c' serves.served.row serves.served.found serves.served.fits.backed writes,
+  );
 }
 
 -- a write failed
@@ -150,17 +158,33 @@ read_on known v c c' answer serves reads usable = record {
 }
 
 -- more has to come
-pub read_more : (known : Option KnownOutside) (v : View) (c c' : SeenConn) → Serves known v c → ReadsOn c c' read.More → LeavesBy known v c' (exit.Park Reading)
-read_more known v c c' serves reads =
+pub read_more : WaitsAreBackedByCalls → (known : Option KnownOutside) (v : View) (c c' : SeenConn) → Serves known v c → ReadsOn c c' read.More → LeavesBy known v c' (exit.Park Reading)
+read_more law known v c c' serves reads =
     let on = read_on known v c c' read.More serves reads refl in
-    record { carries = on.carries; may = (on.served, inr reads.turn, tt) }
+    record {
+      carries = on.carries;
+      may = (
+        on.served,
+        inr reads.turn,
+        tt,
+        backs-read law (state_of v) c c' Reading serves.served.row refl serves.served.found serves.served.fits.backed reads,
+      );
+    }
 
 -- a further request has to come
-pub read_kept : (known : Option KnownOutside) (v : View) (c c' : SeenConn) (noted : Bool) → Serves known v c → ReadsOn c c' read.More → noted ≡ not (length c'.notes == 0)
+pub read_kept : WaitsAreBackedByCalls → (known : Option KnownOutside) (v : View) (c c' : SeenConn) (noted : Bool) → Serves known v c → ReadsOn c c' read.More → noted ≡ not (length c'.notes == 0)
     → noted ≡ true → keeps_none c'.reader ≡ true → LeavesBy known v c' (exit.Park KeepAlive)
-read_kept known v c c' noted serves reads is has empty =
+read_kept law known v c c' noted serves reads is has empty =
     let on = read_on known v c c' read.More serves reads refl in
-    record { carries = on.carries; may = (on.served, record { turn = reads.turn; none_kept = empty }, grind (arith, nat_tests, is, has)) }
+    record {
+      carries = on.carries;
+      may = (
+        on.served,
+        record { turn = reads.turn; none_kept = empty },
+        grind (arith, nat_tests, is, has),
+        backs-read law (state_of v) c c' KeepAlive serves.served.row refl serves.served.found serves.served.fits.backed reads,
+      );
+    }
 
 -- the client sends no more
 pub read_gone : (known : Option KnownOutside) (v : View) (c c' : SeenConn) → Serves known v c → says_last c.notes ≡ false → ReadsOn c c' read.Gone
@@ -294,6 +318,9 @@ module _ {K : Type 0} (known : Option KnownOutside) (v w : Me (Option K) View) (
   pub park_fits : IsOf b.book.state c
   park_fits = record { row = parks.0.row; found = parks.0.found; fits = parks.0.fits }
 
+  pub park_backed : BacksWait kind b.book.state c
+  park_backed = parks.3
+
   pub park_settled : IsConn c → IsSettled kind (cause_of b.book.state c.name) c
   park_settled is =
       subst (λ why. IsSettled kind why c) (sym (cause-none b.book.state c (in-hand b.book.state c sound parks.0)))
@@ -317,10 +344,6 @@ closes_as known v c way why how is by =
 
 -- ## The close
 
--- a link that was closed has its rank
-rank_ended : (c : SeenConn) (e : SeenEnded) (n : ℕ) → e.told ≡ option_map after_close c.told → IfSome c.told (λ t. t.rank ≡ n) → IfSome e.told (λ t. t.rank ≡ n)
-rank_ended c e n is rank = rank-map after_close c.told e.told n (λ (t : LinkTold). refl) is rank
-
 -- a connection that can be closed so can be closed as the one that ended so
 pub close_allowed : (s : State) (why : Cause) (c : SeenConn) (e : SeenEnded) → IsClosable s why Direct c → IsEndOf c why Direct e
     → is_allowed s (event.Close e.name e.cause e.tail) ≡ true
@@ -333,17 +356,7 @@ close_allowed s why c e may ends =
     ∙ test may.row may.in_hand may.end_fits)
 
 pub closing : (s : State) (why : Cause) (c : SeenConn) (e : SeenEnded) → IsClosable s why Direct c → IsEndOf c why Direct e → IsClosing s e.name e.cause e.tail e
-closing s why c e may ends = record {
-  row = may.row;
-  found = ap (live_row s.rows) ends.name ∙ may.found;
-  name_is = refl;
-  cause = refl;
-  tail = refl;
-  child = ends.child ∙ may.child;
-  generation = ends.generation ∙ may.generation;
-  notes = subst (λ w. NotesEnd w e.notes may.row.notes) (sym ends.cause) (subst (λ ns. NotesEnd why ns may.row.notes) (sym ends.notes) may.notes);
-  rank = rank_ended c e may.row.arrival ends.told may.rank;
-}
+closing s why c e may ends = closing-ended s why Direct c e may ends
 
 -- ## Behind the wait
 

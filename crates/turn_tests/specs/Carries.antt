@@ -12,6 +12,7 @@ use Rattle.conn_state.specs.Known.{KnownOutside}
 use Rattle.table_rule.specs.declared.view.View.{View}
 use Rattle.board.specs.declared.faults.BoardFault.{BoardFault}
 use Rattle.board.specs.declared.faults.BoardFault.TheVariants as fault
+use Rattle.board.specs.Backed.{BacksWait}
 use Rattle.board.specs.Editions.{IsOfGeneration}
 use Rattle.board.specs.Fits.{IsTakenUp, WaitsAs}
 use Rattle.worker_group.specs.declared.service.Exit.{Exit}
@@ -55,10 +56,10 @@ abbrev pub Lasts : BoardFault → State → Type 0
 Lasts fault.Halted s = is_halted s.going ≡ true
 Lasts fault.NoMemory s = ⊤
 
--- the worker may leave the connection so, by a turn of its own that is still to come: it may wait; it was half-closed behind its last
+-- the worker may leave the connection so, by a turn of its own that is still to come: it may wait, as its link backs; it was half-closed behind its last
 -- response, and may linger; it may be closed with its link left directly; or it may be given up
 abbrev pub MayGo : State → SeenConn → Exit → Type 0
-MayGo s c (exit.Park kind) = IsServed s c × WaitsAs kind c × MayWaitFor kind c
+MayGo s c (exit.Park kind) = IsServed s c × WaitsAs kind c × MayWaitFor kind c × BacksWait kind s c
 MayGo s c (exit.Linger why) = (why ≡ cause.LastSent) × IsLingerable s cause.LastSent c
 MayGo s c (exit.Close why how) = (how ≡ Direct) × IsClosable s why Direct c
 MayGo s c (exit.GiveUp f) = IsServed s c × Lasts f s

@@ -4,13 +4,16 @@ ghost use Rattle.mpm_base.specs.declared.conn.Kind.TheVariants.{Reading};
 ghost use Rattle.conn_machine.specs.Table.{is_allowed};
 ghost use Rattle.conn_machine.specs.declared.event.Event.TheVariants as event;
 ghost use Rattle.board.specs.Finds.{cause_of};
-ghost use Rattle.board.specs.Fits.{IsOf, IsSettled};
-ghost use Rattle.turn_tests.specs.GoesOn.{IsListener};
+ghost use Rattle.board.specs.Fits.{IsSettled};
+ghost use Rattle.turn_tests.specs.Books.{state_of};
+ghost use Rattle.turn_tests.specs.GoesOn.{IsListener, IsOfButWaits, IsUnparked};
 
 use crate::clients::link_of;
 use crate::laws::turns_rest_on_these;
 use crate::opening::ScriptBoard;
+use board::laws::waits_are_backed_by_calls;
 use board_lock::{Pass, Shared};
+use conn_machine::laws::taken_connections_start_afresh;
 use conn_machine::{Event, may};
 use conn_state::{Conn, Nothing};
 use file_table::Site;
@@ -123,11 +126,14 @@ fn accepts<R: Wait>(
     ensures own { pass.new.seat.table_id ≡ pass.old.seat.table_id }
     ensures listener { IsListener pass.new.seat.me }
     ensures row { IfSome result (λ name. pass.new.seat.me.0.row ≡ Some name) }
+    ensures unparked { IfSome result (IsUnparked (state_of pass.new.seat.me.0)) }
 {
     turns_rest_on_these();
+    taken_connections_start_afresh();
     let mut turn = shared.turn(rt, pass);
     turn.kept.show();
     let taken = turn.kept.accept(0);
+    turn.kept.show();
     shared.done(pass, turn);
     match taken {
         Ok(taken) => Some(taken.name),
@@ -144,7 +150,7 @@ fn conn_for(
     client: u32,
 ) -> Option<Conn<ScriptLink, Nothing>>
     ensures name { IfSome result (λ conn. conn.name ≡ name) }
-    ensures fits { IfSome result (IsOf board.now.book.state) }
+    ensures fits { IfSome result (IsOfButWaits board.now.book.state) }
     ensures settled { IfSome result
         (λ conn. IsSettled Reading (cause_of board.now.book.state name) conn) }
 {
@@ -179,11 +185,13 @@ fn parks_new<R: Wait>(
     requires own { pass.old.seat.table_id ≡ shared.now.table.shared.table_id }
     requires listener { IsListener pass.old.seat.me }
     requires row { pass.old.seat.me.0.row ≡ Some name }
+    requires unparked { IsUnparked (state_of pass.old.seat.me.0) name }
     ensures own { pass.new.seat.table_id ≡ pass.old.seat.table_id }
     ensures listener { IsListener pass.new.seat.me }
     ensures none { result ≡ true → pass.new.seat.me.0.row ≡ None }
 {
     turns_rest_on_these();
+    waits_are_backed_by_calls();
     let mut turn = shared.turn(rt, pass);
     turn.kept.show();
     let Some(conn) = conn_for(alloc, &turn.kept, site, name, client) else {

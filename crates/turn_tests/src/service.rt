@@ -7,6 +7,7 @@ ghost use Rattle.turn_tests.specs.Carries.{HasPermitOnly, IsCarried, LeavesBy, S
 
 use crate::folds::Folds;
 use crate::worker_turns::{answers, closes, lingers, parks, queues, starts};
+use board::laws::waits_are_backed_by_calls;
 use board::{Board, BoardFault};
 use board_lock::{Carrier, Shared};
 use conn_state::{Conn, Known, ReadTurn, WriteTurn};
@@ -111,6 +112,7 @@ fn serves_once<R: Wait, L: Link, N: Known>(
     ensures served { IfNone result (Serves N.known carrier.new.seat.me.0 conn.new) }
     ensures may { IfSome result (LeavesBy N.known carrier.new.seat.me.0 conn.new) }
 {
+    waits_are_backed_by_calls();
     match conn.write_turn() {
         WriteTurn::Done => (),
         WriteTurn::NotReady => return Some(Exit::Park(Kind::Writing)),
@@ -143,6 +145,7 @@ fn reads<R: Wait, L: Link, N: Known>(
     ensures served { IfNone result (Serves N.known carrier.new.seat.me.0 conn.new) }
     ensures may { IfSome result (LeavesBy N.known carrier.new.seat.me.0 conn.new) }
 {
+    waits_are_backed_by_calls();
     match conn.read_turn() {
         ReadTurn::Asked(ask) => answers(rt, shared, carrier, conn, ask),
         ReadTurn::Interim => None,

@@ -122,6 +122,7 @@ served-answered s s' c c' name ask note served named decided is answers =
         generation = served.fits.generation;
         notes = sym (answered-notes s c name ask note served named decided);
         rank = served.fits.rank;
+        backed = served.fits.backed;
       };
       usable = refl;
       open_side = served.open_side;
@@ -145,6 +146,7 @@ closes-unanswered s s' c c' name ask note sound served named decided is left =
       generation = served.fits.generation;
       notes = inr (note, answered-notes s c name ask note served named decided);
       rank = served.fits.rank;
+      backed = served.fits.backed;
       shown = record { shows = tt; left = ap is_half_closed served.open_side };
     }))
 

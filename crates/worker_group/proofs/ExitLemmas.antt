@@ -2,6 +2,7 @@
 use Rattle.std.proofs.Common.{◌≡◌, ◌==◌, ℕ, ◌<◌, not, true, List, [], ◌∷◌, ◌++◌, length, refl, Option, None, Some, slice_set, Result, Ok, Err, OnOk, IfErr, sym, ap, subst, ◌∙◌, inl, inr}
 use Rattle.std.proofs.lemmas.List.{get_or-set_same}
 use Rattle.std.proofs.lemmas.Option.{slice_get_within}
+use Rattle.mpm_base.specs.Link.{after_close}
 use Rattle.mpm_base.specs.declared.conn.ConnName.{ConnName}
 use Rattle.mpm_base.specs.declared.conn.Ask.{Ask}
 use Rattle.mpm_base.specs.declared.conn.Cause.{Cause}
@@ -10,8 +11,10 @@ use Rattle.mpm_base.specs.declared.conn.Kind.{Kind}
 use Rattle.mpm_base.specs.declared.conn.Kind.TheVariants.{KeepAlive}
 use Rattle.mpm_base.specs.declared.conn.Tail.{Tail}
 use Rattle.mpm_base.specs.declared.conn.Tail.TheVariants.{Direct}
+use Rattle.mpm_base.specs.declared.note.Note.{Note}
 use Rattle.conn_machine.specs.declared.event.Event.TheVariants as event
 use Rattle.conn_machine.specs.declared.row.Row.{Row}
+use Rattle.conn_machine.specs.declared.state.State.{State}
 use Rattle.conn_machine.specs.Rows.{live_row}
 use Rattle.conn_machine.specs.States.{is_halted}
 use Rattle.conn_state.specs.declared.turn.LastTurn.{LastTurn}
@@ -27,11 +30,14 @@ use Rattle.board.specs.declared.faults.BoardFault.TheVariants as fault
 use Rattle.board.specs.Book.{SeenBook, book_with_entry}
 use Rattle.board.specs.Board.{SeenBoard, Agrees, conn_at}
 use Rattle.board.specs.Faults.{IsRefusedFor}
+use Rattle.board.specs.Fits.{IsClosing, NotesEnd}
 use Rattle.worker_group.specs.declared.service.Exit.{Exit}
 use Rattle.worker_group.specs.declared.service.Exit.TheVariants as exit
 use Rattle.worker_group.specs.Acts.{Acts}
+use Rattle.worker_group.specs.InHand.{IsClosable}
 use Rattle.worker_group.specs.Service.{ExitsAfter, IsGivenUp, IsLastEnded, LeavesConn, IsThere, LeavesRest, RefusalLasts, give_up_events, kept_kind}
-use Rattle.worker_group.proofs.ServeLemmas.{alive}
+use Rattle.worker_group.proofs.BackedLemmas.{backed-on, stays-there}
+use Rattle.worker_group.proofs.ServeLemmas.{alive, rank-map}
 
 -- ## What the connection waits for
 
@@ -72,6 +78,26 @@ put-there b b' c row agrees found is =
 pub ended-last : (c : SeenConn) (why : Cause) (how : Tail) (e : SeenEnded) (before ended : List SeenEnded) → ended ≡ before ++ e ∷ []
     → IsEndOf c why how e → IsLastEnded c why how ended
 ended-last c why how e before ended is ends = record { before = before; last = e; ended_is = is; end_of = ends }
+
+-- it may be closed by the board
+pub closing-ended : (s : State) (why : Cause) (how : Tail) (c : SeenConn) (e : SeenEnded) → IsClosable s why how c → IsEndOf c why how e
+    → IsClosing s e.name e.cause e.tail e
+closing-ended s why how c e may ends = record {
+  row = may.row;
+  found = ap (live_row s.rows) ends.name ∙ may.found;
+  name_is = refl;
+  cause = refl;
+  tail = refl;
+  child = ends.child ∙ may.child;
+  generation = ends.generation ∙ may.generation;
+  notes =
+      subst (λ (w : Cause). NotesEnd w e.notes may.row.notes) (sym ends.cause)
+      (subst (λ (ns : List Note). NotesEnd why ns may.row.notes) (sym ends.notes) may.notes);
+  rank = rank-map after_close c.told e.told may.row.arrival (λ t. refl) ends.told may.rank;
+  backed =
+      backed-on may.row.waits c.counts e.counts (stays-there c.counts.late_reads e.counts.late_reads ends.counts.late_reads)
+      (stays-there c.counts.late_writes e.counts.late_writes ends.counts.late_writes) may.backed;
+}
 
 -- it was left so, by another spelling of what was to be done
 pub left-as : (who : ℕ) (out out' : Exit) (c : SeenConn) (a : SeenBook) (b : SeenBoard) → out ≡ out' → LeavesConn who out' c a b → LeavesConn who out c a b

@@ -1,5 +1,6 @@
 pub mod ActsLemmas
 pub mod AnswerLemmas
+pub mod BackedLemmas
 pub mod EditionLemmas
 pub mod EndedLemmas
 pub mod ExitLemmas

@@ -31,6 +31,7 @@ use Rattle.worker_group.specs.InHand.{IsInHand, IsClosable}
 use Rattle.worker_group.specs.InHandInside.{IsServed, IsLingerable}
 use Rattle.worker_group.specs.Service.{EndsOut, ExitsAfter, IsWayOut, left_events, IsLastEnded, IsLetLinger, IsThere}
 use Rattle.worker_group.specs.ServiceInside.{MayLeave}
+use Rattle.worker_group.proofs.BackedLemmas.{backed-on, stays-there}
 use Rattle.worker_group.proofs.ServeLemmas.{closable, rank-map, rises-some, row-decided, served-stays, test-at}
 
 -- ## The half-close
@@ -52,6 +53,9 @@ fits-shut c c' answer r shuts fits = record {
   generation = shuts.generation ∙ fits.generation;
   notes = shuts.notes ∙ fits.notes;
   rank = rank-map (after_shut answer) c.told c'.told r.arrival (shut-rank answer) shuts.told fits.rank;
+  backed =
+      backed-on r.waits c.counts c'.counts (stays-there c.counts.late_reads c'.counts.late_reads shuts.counts.late_reads)
+      (stays-there c.counts.late_writes c'.counts.late_writes shuts.counts.late_writes) fits.backed;
 }
 
 -- its row is found by its name still

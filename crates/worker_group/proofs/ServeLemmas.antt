@@ -30,12 +30,14 @@ use Rattle.conn_state.specs.declared.turn.ReadTurn.{ReadTurn}
 use Rattle.conn_state.specs.declared.turn.ReadTurn.TheVariants as read
 use Rattle.conn_state.specs.Conn.{SeenConn, is_half_closed, is_usable, TurnFits, IsConn}
 use Rattle.conn_state.specs.Answered.{ShowsAtOnce}
-use Rattle.conn_state.specs.Turns.{WritesOn, ReadsOn, after_writing, after_reading}
+use Rattle.conn_state.specs.Turns.{WritesOn, ReadsOn, after_writing, after_reading, is_more}
+use Rattle.conn_state.specs.Writing.{is_not_ready}
 use Rattle.board.specs.Finds.{cause_of}
 use Rattle.board.specs.Fits.{Fits, FoundNoMore, WaitsAs, NotesEnd}
 use Rattle.worker_group.specs.InHand.{IsInHand, IsClosable}
 use Rattle.worker_group.specs.InHandInside.{IsServed}
 use Rattle.worker_group.specs.ServiceInside.{MayWaitFor}
+use Rattle.worker_group.proofs.BackedLemmas.{backed-on, never-falls, stays-there}
 
 -- ## The row of a name
 
@@ -134,6 +136,9 @@ fits-written c c' answer r writes fits = record {
   generation = writes.generation ∙ fits.generation;
   notes = writes.notes ∙ fits.notes;
   rank = rank-map _ c.told c'.told r.arrival (λ t. refl) writes.told fits.rank;
+  backed =
+      backed-on r.waits c.counts c'.counts (stays-there c.counts.late_reads c'.counts.late_reads writes.late_reads)
+      (never-falls (is_not_ready answer) c.counts.late_writes c'.counts.late_writes writes.late_writes) fits.backed;
 }
 
 -- and so does a turn of reading
@@ -143,6 +148,9 @@ fits-read c c' answer r reads fits = record {
   generation = reads.generation ∙ fits.generation;
   notes = reads.notes ∙ fits.notes;
   rank = rank-map _ c.told c'.told r.arrival (λ t. refl) reads.told fits.rank;
+  backed =
+      backed-on r.waits c.counts c'.counts (never-falls (is_more answer) c.counts.late_reads c'.counts.late_reads reads.late_reads)
+      (stays-there c.counts.late_writes c'.counts.late_writes reads.late_writes) fits.backed;
 }
 
 -- the connection that was written on is served on
@@ -188,6 +196,7 @@ closable s why c hand cause_fits shows notes = record {
   generation = hand.fits.generation;
   notes = notes;
   rank = hand.fits.rank;
+  backed = hand.fits.backed;
   shown = record { shows = shows; left = hand.open_side };
 }
 

@@ -8,6 +8,7 @@ use Rattle.conn_machine.specs.Rows.{is_held, is_working, is_lingering, live_row}
 use Rattle.conn_machine.specs.Table.{end_fits}
 use Rattle.conn_state.specs.Conn.{SeenConn, is_half_closed}
 use Rattle.conn_state.specs.Answered.{IsShown}
+use Rattle.board.specs.Backed.{AreBacked}
 use Rattle.board.specs.Fits.{Fits, NotesEnd}
 
 -- a worker or the listener has the connection, whose link wasn't half-closed; it is the one of its row, which doesn't linger
@@ -29,4 +30,5 @@ pub record IsClosable (s : State) (why : Cause) (how : Tail) (c : SeenConn) : Ty
   pub generation : c.generation ≡ row.generation
   pub notes : NotesEnd why c.notes row.notes
   pub rank : IfSome c.told (λ t. t.rank ≡ row.arrival)
+  pub backed : AreBacked row.waits c.counts
   pub shown : IsShown why how c

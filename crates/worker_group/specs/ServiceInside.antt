@@ -3,6 +3,7 @@ use Rattle.std.specs.Prelude.{◌<◌, length, ⊤}
 use Rattle.mpm_base.specs.declared.conn.Kind.{Kind}
 use Rattle.mpm_base.specs.declared.conn.Kind.TheVariants.{Reading, KeepAlive, Writing, Linger, ShortLinger}
 use Rattle.conn_state.specs.Conn.{SeenConn}
+use Rattle.board.specs.Backed.{BacksWait}
 use Rattle.board.specs.Book.{SeenBook}
 use Rattle.board.specs.Faults.{IsRefusedFor}
 use Rattle.board.specs.Fits.{WaitsAs}
@@ -21,7 +22,7 @@ MayWaitFor ShortLinger c = ⊥
 
 -- the worker may leave the connection so
 abbrev pub MayLeave : SeenBook → SeenConn → Exit → Type 0
-MayLeave b c (exit.Park kind) = IsServed b.state c × WaitsAs kind c × MayWaitFor kind c
+MayLeave b c (exit.Park kind) = IsServed b.state c × WaitsAs kind c × MayWaitFor kind c × BacksWait kind b.state c
 MayLeave b c (exit.Linger why) = IsLingerable b.state why c
 MayLeave b c (exit.Close why how) = IsClosable b.state why how c
 MayLeave b c (exit.GiveUp fault) = IsServed b.state c × IsRefusedFor fault b

@@ -11,6 +11,7 @@ ghost use Rattle.conn_state.specs.declared.turn.LastLinger.TheVariants as linger
 ghost use Rattle.conn_state.specs.Answered.{MayLinger};
 ghost use Rattle.conn_state.specs.Conn.{is_half_closed, is_usable};
 ghost use Rattle.conn_state.specs.Turns.{ShutsOn};
+ghost use Rattle.board.specs.Backed.{BacksWait};
 ghost use Rattle.board.specs.Book.{book_with_entry, row_in};
 ghost use Rattle.board.specs.Editions.{IsOfGeneration};
 ghost use Rattle.board.specs.Faults.{IsRefusedFor};
@@ -22,7 +23,7 @@ ghost use Rattle.worker_group.specs.Service.{EndsOut, ExitsAfter, HasServed, IsM
 ghost use Rattle.worker_group.specs.ServiceInside.{MayLeave};
 
 use crate::hands::Hands;
-use board::laws::generations_keep_their_editions;
+use board::laws::{generations_keep_their_editions, waits_are_backed_by_calls};
 use board::{Board, BoardFault};
 use conn_state::{Conn, Known, ReadTurn, WriteTurn};
 use mpm_base::{Ask, Bell, Cause, ConnName, Gate, Kind, Link, NoMemory, Tail};
@@ -118,6 +119,7 @@ fn serve_once<L: Link, N: Known>(
     ensures fewer { IfNone result
         (sends_left board.new.book.state conn.new < sends_left board.old.book.state conn.old) }
 {
+    waits_are_backed_by_calls();
     board.show();
     match conn.write_turn() {
         WriteTurn::Done => (),
@@ -227,6 +229,7 @@ pub fn park<L: Link, N: Known>(
         conn.site }
     requires settled { IsSettled kind None conn }
     requires turned { FoundNoMore kind conn }
+    requires backed { BacksWait kind board.old.book.state conn }
     ensures parked { OnOk result
         (Acts who (event.Park conn.name kind ∷ []) None board.old.book board.new.book) }
     ensures given_up { IfErr result

@@ -1,21 +1,20 @@
-use Rattle.std.proofs.Common.{◌≡◌, ◌⊎◌, refl, ap, sym, subst, rules}
-use Rattle.conn_machine.specs.declared.state.State.{State}
-use Rattle.board.specs.Board.{SeenBoard}
+use Rattle.std.proofs.Common.{◌≡◌, Option, refl, ap, sym, subst, ◌∙◌, rules}
+use Rattle.conn_state.specs.Known.{KnownOutside}
+use Rattle.board.specs.Board.{AreOfOutside, EndedOfOutside, SeenBoard}
 use Rattle.board.specs.Book.{SeenBook}
-use Rattle.listener.specs.FirstNumbers.{opened_by}
-use Rattle.listener.specs.Listen.{HasClosedAll}
-use Rattle.rounds.specs.TableInside.{IsOpening, asked_children}
 use Rattle.listener.specs.ListenInside.{clients_known}
 use Rattle.listener.specs.OrdersInside.{opening_by}
-use Rattle.listener.specs.Outside.{KeepsOutside}
-use Rattle.rounds.specs.Started.{BeginsWithStarts}
-use Rattle.listener.specs.Times.{waits_of}
-use Rattle.listener.specs.declared.run_numbers.RunNumbers.{RunNumbers}
-use Rattle.listener.proofs.StartedFirstLemmas.{started-first}
+use Rattle.listener.specs.Served.{whole_book}
+use Rattle.listener.specs.TurnsInside.{HasStood, IsBegun, listener_of}
+use Rattle.listener.specs.Counted.{KeepsClock}
+use Rattle.listener.specs.CountedInside.{CountsSo}
+use Rattle.listener.proofs.CountedEndLemmas.{asks-since, clock-opened, counts-opened}
+use Rattle.listener.proofs.CountedLemmas.{alike-same, counts-alike, same-words}
 use Rattle.listener.proofs.FrontLemmas.{follows-trans, named-follows}
 use Rattle.listener.proofs.FrontCallLemmas.{follows-bind}
-use Rattle.listener.proofs.OpeningLemmas.{known-front, knows-coming, serves-first, stands-opened, stood-behind}
-use Rattle.listener.proofs.StartedLemmas.{are-watched, asked-opened, binds-true, heeded-opened, idle-bound, informed-opened, keeps-front, nothing-bound, opened-hushed, opens, starts-opened, step-opened, stopped-before, time-opened, unwaited, watching-opened}
+use Rattle.listener.proofs.LeftLemmas.{LeavesRun, has-run-by}
+use Rattle.listener.proofs.OpeningLemmas.{begun-opened, known-front, knows-coming, serves-first}
+use Rattle.listener.proofs.StartedLemmas.{binds-true, children-opened, heeded-opened, idle-bound, keeps-front, opened-hushed, step-opened, stopped-before, time-opened, timely-opened}
 use Rattle.listener.proofs.server.run_server.Goals as goal
 
 pub listen-requires-clause-named : goal.listen-requires-clause-named
@@ -28,115 +27,107 @@ listen-requires-clause-named g c κs within =
 
 pub listen-requires-clause-may : goal.listen-requires-clause-may
 listen-requires-clause-may g c κs within =
+    let n = c.numbers_of-numbers.result in
+    let old = g.F.Front.seen c.args.front.now in
+    let front = g.F.Front.seen c.bind.new.self in
+    let calls = g.C.Clock.told c.args.clock.now in
+    let b = c.in-Ok-open_board.board.book in
+    let opened = c.in-Ok-open_board.ensures.book in
+    let binds = binds-true n old (g.F.Front.seen c.bell.new.self) front c.bind.result c.bell.ensures.same c.if-not-bind.false c.bind.ensures.binds in
+    let idle = idle-bound n old front calls binds c.requires.unused c.requires.unasked in
     record {
-      passes =
-          search rules;
+      passes = search rules;
       knows =
-          knows-coming g.N.Known.known c.args.config c.args.edition (g.D.Store.seen c.args.store.now) (g.F.Front.seen c.args.front.now) c.numbers_of-numbers.result
-          c.in-Ok-open_board.board.book c.requires.named c.in-Ok-open_board.ensures.book;
+          knows-coming g.N.Known.known c.args.config c.args.edition (g.D.Store.seen c.args.store.now) old n b c.requires.named opened;
       serves =
-          serves-first g.N.Known.known c.args.config c.args.edition (g.D.Store.seen c.args.store.now) (g.F.Front.seen c.args.front.now) c.numbers_of-numbers.result
-          c.in-Ok-open_board.board.book c.requires.named c.in-Ok-open_board.ensures.book c.requires.limits;
-      free =
-          search rules;
-      going =
-          search rules;
-      step =
-          let n = c.numbers_of-numbers.result in
-          let binds = binds-true n (g.F.Front.seen c.args.front.now) (g.F.Front.seen c.bell.new.self) (g.F.Front.seen c.bind.new.self) c.bind.result c.bell.ensures.same c.if-not-bind.false c.bind.ensures.binds in
-          let idle = idle-bound n (g.F.Front.seen c.args.front.now) (g.F.Front.seen c.bind.new.self) (g.C.Clock.told c.args.clock.now) binds c.requires.unused c.requires.unasked in
-          step-opened n (g.F.Front.seen c.bind.new.self).told (g.C.Clock.told c.args.clock.now) c.in-Ok-open_board.board.book c.in-Ok-open_board.ensures.book idle;
-      heeded =
-          let n = c.numbers_of-numbers.result in
-          let binds = binds-true n (g.F.Front.seen c.args.front.now) (g.F.Front.seen c.bell.new.self) (g.F.Front.seen c.bind.new.self) c.bind.result c.bell.ensures.same c.if-not-bind.false c.bind.ensures.binds in
-          let idle = idle-bound n (g.F.Front.seen c.args.front.now) (g.F.Front.seen c.bind.new.self) (g.C.Clock.told c.args.clock.now) binds c.requires.unused c.requires.unasked in
-          heeded-opened (g.F.Front.seen c.bind.new.self).told (g.C.Clock.told c.args.clock.now) idle;
-      informed =
-          let n = c.numbers_of-numbers.result in
-          let binds = binds-true n (g.F.Front.seen c.args.front.now) (g.F.Front.seen c.bell.new.self) (g.F.Front.seen c.bind.new.self) c.bind.result c.bell.ensures.same c.if-not-bind.false c.bind.ensures.binds in
-          let idle = idle-bound n (g.F.Front.seen c.args.front.now) (g.F.Front.seen c.bind.new.self) (g.C.Clock.told c.args.clock.now) binds c.requires.unused c.requires.unasked in
-          informed-opened n (g.F.Front.seen c.bind.new.self).told (g.C.Clock.told c.args.clock.now) c.in-Ok-open_board.board.book c.in-Ok-open_board.ensures.book idle;
+          serves-first g.N.Known.known c.args.config c.args.edition (g.D.Store.seen c.args.store.now) old n b c.requires.named opened c.requires.limits;
+      free = search rules;
+      going = ap (λ (x : SeenBook). x.state.going) opened;
+      children = children-opened n b c.numbers_of-numbers.ensures.allowed opened;
+      step = step-opened n front.told calls b opened idle;
+      heeded = heeded-opened front.told calls idle;
     }
 
-pub show_run-requires-clause-folded : goal.show_run-requires-clause-folded
-show_run-requires-clause-folded g c =
+pub show_run-requires-clause-passes : goal.show_run-requires-clause-passes
+show_run-requires-clause-passes g c =
+    c.listen.ensures.listened.passes ∙ ap (λ (x : SeenBook). x.passes) c.in-Ok-open_board.ensures.book
+
+pub show_run-requires-clause-timely : goal.show_run-requires-clause-timely
+show_run-requires-clause-timely g c =
+    c.listen.ensures.listened.timely (timely-opened c.numbers_of-numbers.result c.in-Ok-open_board.board.book c.in-Ok-open_board.ensures.book)
+
+pub returns-clause-run : goal.returns-clause-run
+returns-clause-run g c =
     let n = c.numbers_of-numbers.result in
+    let known = g.N.Known.known in
+    let config = c.args.config in
+    let edition = c.args.edition in
     let old = g.F.Front.seen c.args.front.now in
     let front = g.F.Front.seen c.bind.new.self in
+    let new = g.F.Front.seen c.listen.new.front in
     let store = g.D.Store.seen c.args.store.now in
-    let b = c.in-Ok-open_board.board.book in
+    let calls = g.C.Clock.told c.args.clock.now in
+    let book = c.in-Ok-open_board.ensures.book in
+    let o = opening_by config edition store old in
     let binds = binds-true n old (g.F.Front.seen c.bell.new.self) front c.bind.result c.bell.ensures.same c.if-not-bind.false c.bind.ensures.binds in
-    let idle = idle-bound n old front (g.C.Clock.told c.args.clock.now) binds c.requires.unused c.requires.unasked in
-    let stood = c.listen.ensures.stands (opening_by c.args.config c.args.edition store old) n (record { name = refl; config = refl }) (asked-opened n b c.in-Ok-open_board.ensures.book)
-    (stands-opened c.folds_join.ensures g.N.Known.known c.args.config c.args.edition store old front (g.C.Clock.told c.args.clock.now) n b c.in-Ok-open_board.ensures.book
-    c.requires.timeout binds.commands idle) in
-    record { passes = stood.passes; folded = stood.folded; outside = stood.outside }
-
-pub show_run-requires-clause-asked : goal.show_run-requires-clause-asked
-show_run-requires-clause-asked g c =
-    c.listen.ensures.asked (asked-opened c.numbers_of-numbers.result c.in-Ok-open_board.board.book c.in-Ok-open_board.ensures.book)
-
-pub returns-clause-stood : goal.returns-clause-stood
-returns-clause-stood g c =
-    let n = c.numbers_of-numbers.result in
-    let old = g.F.Front.seen c.args.front.now in
-    let front = g.F.Front.seen c.bind.new.self in
-    let store = g.D.Store.seen c.args.store.now in
-    let b = c.in-Ok-open_board.board.book in
-    let o = opening_by c.args.config c.args.edition store old in
-    let binds = binds-true n old (g.F.Front.seen c.bell.new.self) front c.bind.result c.bell.ensures.same c.if-not-bind.false c.bind.ensures.binds in
-    let idle = idle-bound n old front (g.C.Clock.told c.args.clock.now) binds c.requires.unused c.requires.unasked in
-    let stood = c.listen.ensures.stands o n (record { name = refl; config = refl }) (asked-opened n b c.in-Ok-open_board.ensures.book)
-    (stands-opened c.folds_join.ensures g.N.Known.known c.args.config c.args.edition store old front (g.C.Clock.told c.args.clock.now) n b c.in-Ok-open_board.ensures.book
-    c.requires.timeout binds.commands idle) in
-    stood-behind g.N.Known.known o n _ c.listen.new.self.edition.stop_ms (g.D.Store.seen c.listen.new.store) (g.F.Front.seen c.listen.new.front)
-    c.listen.new.self.board.book c.forget.result.book c.numbers_of-numbers.ensures.value (ap (λ (x : SeenBoard). x.book) c.forget.ensures.same) stood
-
-pub returns-clause-outside : goal.returns-clause-outside
-returns-clause-outside g c =
-    let n = c.numbers_of-numbers.result in
-    let o = opening_by c.args.config c.args.edition (g.D.Store.seen c.args.store.now) (g.F.Front.seen c.args.front.now) in
-    let binds = binds-true n (g.F.Front.seen c.args.front.now) (g.F.Front.seen c.bell.new.self) (g.F.Front.seen c.bind.new.self) c.bind.result c.bell.ensures.same c.if-not-bind.false c.bind.ensures.binds in
-    let idle = idle-bound n (g.F.Front.seen c.args.front.now) (g.F.Front.seen c.bind.new.self) (g.C.Clock.told c.args.clock.now) binds c.requires.unused c.requires.unasked in
-    let opening : IsOpening c.in-Ok-open_board.board.book =
+    let idle = idle-bound n old front calls binds c.requires.unused c.requires.unasked in
+    let first = listener_of c.in-Ok-open_board.board front calls c.in-Ok.ready edition store config in
+    let last =
+    listener_of c.listen.new.self.board new (g.C.Clock.told c.listen.new.clock) c.listen.new.self.ready c.listen.new.self.edition
+    (g.D.Store.seen c.listen.new.store) c.listen.new.self.config in
+    let begun : IsBegun known o n first =
+    begun-opened c.folds_join.ensures known store old n first c.numbers_of-numbers.ensures.allowed book refl c.requires.timeout binds idle in
+    let stood : HasStood known o n first last = c.listen.ensures.listened.stood o n (record { name = refl; config = refl }) begun in
+    let stopped = stopped-before old front new c.listen.new.self.board.book.state (follows-bind _ _ _ _ _ binds) c.listen.ensures.listened.stopped in
+    let named =
+    named-follows known old new (follows-trans _ _ _ (follows-bind _ _ _ _ _ binds) c.listen.ensures.listened.follows) (known-front known o c.requires.named) in
+    let known_stood : HasStood _ o n first last = subst (λ (k : Option KnownOutside). HasStood k o n first last) c.requires.named stood in
+    let so : CountsSo 0 old.counts front.counts c.in-Ok-open_board.board.book =
+    counts-alike old.counts front.counts c.in-Ok-open_board.board.book c.in-Ok-open_board.board.book (same-words old.counts front.counts binds.words binds.handed)
+    (alike-same c.in-Ok-open_board.board.book c.in-Ok-open_board.board.book refl) old.counts
+    (counts-opened n old.counts c.in-Ok-open_board.board.book book) in
+    let leaves : LeavesRun o n last =
     record {
-      opened = opens n c.in-Ok-open_board.board.book c.numbers_of-numbers.ensures.allowed c.in-Ok-open_board.ensures.book;
-      none = ap (λ (b : SeenBook). b.history) c.in-Ok-open_board.ensures.book;
-    } in
-    let base : c.in-Ok-open_board.board.book.base ≡ opened_by n = ap (λ (b : SeenBook). b.base) c.in-Ok-open_board.ensures.book in
-    let started = subst (λ (s : State). c.listen.new.self.board.book.folded.entries ≡ 0 → (waits_of (g.F.Front.seen c.listen.new.front).told ≡ waits_of (g.F.Front.seen c.bind.new.self).told) ⊎ BeginsWithStarts (asked_children s) c.listen.new.self.board.book.history) base
-    (c.listen.ensures.started opening) in
-    let stopped = stopped-before (g.F.Front.seen c.args.front.now) (g.F.Front.seen c.bind.new.self) (g.F.Front.seen c.listen.new.front) c.listen.new.self.board.book.state (follows-bind _ _ _ _ _ binds) c.listen.ensures.stopped in
-    let named = named-follows g.N.Known.known (g.F.Front.seen c.args.front.now) (g.F.Front.seen c.listen.new.front) (follows-trans _ _ _ (follows-bind _ _ _ _ _ binds) c.listen.ensures.follows)
-    (known-front g.N.Known.known o c.requires.named) in
-    subst (λ (m : RunNumbers). KeepsOutside m (g.F.Front.seen c.args.front.now) (g.F.Front.seen c.listen.new.front) (g.C.Clock.told c.listen.new.clock) c.forget.result) c.numbers_of-numbers.ensures.value
-    (subst (KeepsOutside n (g.F.Front.seen c.args.front.now) (g.F.Front.seen c.listen.new.front) (g.C.Clock.told c.listen.new.clock)) (sym c.forget.ensures.same)
-    (record {
+      run = c.show_run.ensures.run stood.folded;
+      first = first;
+      stood = known_stood;
+      closed = c.show_run.ensures.closed stood.folded stopped.down;
+      outside = subst (λ (k : Option KnownOutside). AreOfOutside k last.board) c.requires.named c.show_run.ensures.outside;
       front =
-          keeps-front n c.listen.new.self.board (clients_known g.N.Known.known) (g.F.Front.seen c.listen.new.front).told named
-          (opened-hushed n (g.F.Front.seen c.args.front.now) (g.F.Front.seen c.bind.new.self) (g.F.Front.seen c.listen.new.front) binds c.requires.unused c.listen.ensures.contacts c.listen.ensures.hushed)
-          (started-first n (g.F.Front.seen c.bind.new.self).told (g.F.Front.seen c.listen.new.front).told c.listen.new.self.board.book (unwaited (g.F.Front.seen c.bind.new.self).told (g.C.Clock.told c.args.clock.now) idle) started)
-          (are-watched (g.F.Front.seen c.listen.new.front).told c.listen.new.self.board.book
-          (c.listen.ensures.watched (watching-opened n (g.F.Front.seen c.bind.new.self).told (g.C.Clock.told c.args.clock.now) c.in-Ok-open_board.board.book c.in-Ok-open_board.ensures.book idle)))
-          c.listen.ensures.links (λ clients knows. c.show_run.ensures.links clients knows stopped.down)
-          (λ clients knows. c.show_run.ensures.receive clients knows) c.listen.ensures.heeded;
-      time = c.listen.ensures.time (time-opened (g.F.Front.seen c.bind.new.self).told (g.C.Clock.told c.args.clock.now) idle);
-      informed = c.listen.ensures.informed;
-      patient =
-          λ none. c.listen.ensures.patient
-          (starts-opened n (g.F.Front.seen c.bind.new.self).told (g.C.Clock.told c.args.clock.now) c.in-Ok-open_board.board.book c.in-Ok-open_board.ensures.book idle
-          (nothing-bound n (g.F.Front.seen c.args.front.now) (g.F.Front.seen c.bind.new.self) binds none));
+          keeps-front n last.board.book.state _ _ (clients_known known) new.told named
+          (opened-hushed n old front new binds c.requires.unused c.listen.ensures.listened.contacts c.listen.ensures.listened.hushed) known_stood.keeps.started
+          known_stood.keeps.watched c.listen.ensures.listened.links
+          (λ clients knows. c.show_run.ensures.links clients known_stood.folded
+          (subst (λ (k : Option KnownOutside). EndedOfOutside k (whole_book n known_stood.folded.entries) known_stood.folded.ended) (sym c.requires.named) known_stood.outside)
+          knows stopped.down)
+          (λ clients knows. c.show_run.ensures.receive clients known_stood.folded
+          (subst (λ (k : Option KnownOutside). EndedOfOutside k (whole_book n known_stood.folded.entries) known_stood.folded.ended) (sym c.requires.named) known_stood.outside)
+          knows)
+          c.listen.ensures.listened.heeded known_stood.each;
+      time = c.listen.ensures.listened.time (time-opened front.told calls idle);
       stopped = stopped.cause;
-    }))
-
-pub returns-clause-closed : goal.returns-clause-closed
-returns-clause-closed g c =
-    let n = c.numbers_of-numbers.result in
-    let binds = binds-true n (g.F.Front.seen c.args.front.now) (g.F.Front.seen c.bell.new.self) (g.F.Front.seen c.bind.new.self) c.bind.result c.bell.ensures.same c.if-not-bind.false c.bind.ensures.binds in
-    let stopped = stopped-before (g.F.Front.seen c.args.front.now) (g.F.Front.seen c.bind.new.self) (g.F.Front.seen c.listen.new.front) c.listen.new.self.board.book.state (follows-bind _ _ _ _ _ binds) c.listen.ensures.stopped in
-    subst HasClosedAll (sym c.forget.ensures.same) (c.show_run.ensures.closed stopped.down)
+      backed = c.show_run.ensures.backed;
+      counted = c.listen.ensures.counts old.counts so;
+      unended = known_stood.unended old.counts so;
+    } in
+    has-run-by c.generations_keep_their_editions.ensures c.folds_join.ensures.outside c.folds_join.ensures.outside_stays o n last
+    c.forget.result c.numbers_of-numbers.ensures.value c.forget.ensures.same leaves
 
 pub returns-clause-follows : goal.returns-clause-follows
 returns-clause-follows g c =
     let binds = binds-true c.numbers_of-numbers.result (g.F.Front.seen c.args.front.now) (g.F.Front.seen c.bell.new.self) (g.F.Front.seen c.bind.new.self) c.bind.result c.bell.ensures.same c.if-not-bind.false c.bind.ensures.binds in
-    follows-trans (g.F.Front.seen c.args.front.now) (g.F.Front.seen c.bind.new.self) (g.F.Front.seen c.listen.new.front) (follows-bind _ _ _ _ _ binds) c.listen.ensures.follows
+    follows-trans (g.F.Front.seen c.args.front.now) (g.F.Front.seen c.bind.new.self) (g.F.Front.seen c.listen.new.front) (follows-bind _ _ _ _ _ binds) c.listen.ensures.listened.follows
+
+pub returns-clause-clocked : goal.returns-clause-clocked
+returns-clause-clocked g c =
+    let n = c.numbers_of-numbers.result in
+    let first = g.C.Clock.greatest c.args.clock.now in
+    subst (λ (x : SeenBoard). KeepsClock x.book.state first (g.C.Clock.greatest c.listen.new.clock)) (sym c.forget.ensures.same)
+    (c.listen.ensures.clock first (clock-opened n first c.in-Ok-open_board.board.book c.in-Ok-open_board.ensures.book))
+
+pub returns-clause-asked : goal.returns-clause-asked
+returns-clause-asked g c =
+    let binds = binds-true c.numbers_of-numbers.result (g.F.Front.seen c.args.front.now) (g.F.Front.seen c.bell.new.self) (g.F.Front.seen c.bind.new.self) c.bind.result c.bell.ensures.same c.if-not-bind.false c.bind.ensures.binds in
+    asks-since (g.F.Front.seen c.args.front.now).counts.wakes (g.F.Front.seen c.bind.new.self).counts.wakes
+    (g.F.Front.seen c.listen.new.front).counts.wakes (g.C.Clock.asked c.args.clock.now) (g.C.Clock.asked c.listen.new.clock) binds.wakes
+    c.listen.ensures.asked

@@ -1,4 +1,4 @@
-use Rattle.std.proofs.Common.{◌≡◌, ℕ, List, Option, IfSome, sym, subst}
+use Rattle.std.proofs.Common.{◌≡◌, ℕ, List, Option, IfSome, refl, sym, subst}
 use Rattle.std.specs.String.{string_bytes}
 use Rattle.mpm_base.specs.Front.{FrontSeen}
 use Rattle.mpm_base.specs.Sink.{SinkSeen}
@@ -7,10 +7,12 @@ use Rattle.board.specs.Board.{SeenBoard}
 use Rattle.command_words.specs.Invocations.{IsInvocation, IsLoadWords, IsScriptWords, IsSendWords, IsServeWords, IsTestWords}
 use Rattle.command_words.specs.declared.invocation.Invocation.{Invocation}
 use Rattle.run_opening.specs.Calls.{seen_call}
+use Rattle.listener.specs.Counted.{LeavesClock}
 use Rattle.mpm_run.specs.ExitStatuses.{Causes, LeavesAll}
 use Rattle.script_run.specs.Played.{IsLeftOfRun}
 use Rattle.mpm_run.specs.declared.outcome.Outcome.{Outcome}
 use Rattle.script_run.specs.declared.scripted.Scripted.{Scripted}
+use Rattle.listener.proofs.CountedEndLemmas.{asks-as, asks-none}
 use Rattle.mpm_run.proofs.FormLemmas.{script-causes, script-leaves, send-causes, send-leaves, serve-causes, serve-leaves, test-causes, test-leaves}
 use Rattle.mpm_run.proofs.top_call.run.Goals as goal
 
@@ -30,14 +32,6 @@ returns-in-Ok-Script-clause-ends g c =
     subst (λ (o : Outcome _). Said c.args.words.now (g.D.Store.seen c.args.store.now) (g.D.Store.seen c.run_script.new.store) (g.K.Sink.seen c.args.out.now) (g.K.Sink.seen c.run_script.new.out) (g.F.Front.seen c.args.front.now) (g.F.Front.seen c.args.front.now) (g.C.Clock.told c.args.clock.now) (g.C.Clock.told c.args.clock.now) o.status o.shown o.scripted o.board)
     (sym c.scripted_outcome.ensures) (script-leaves _ (g.F.Front.seen c.args.front.now) (g.C.Clock.told c.args.clock.now) c.run_script.result.status c.run_script.result.left ended, script-causes _ (g.F.Front.seen c.args.front.now) c.run_script.result.status c.run_script.result.left ended)
 
-pub returns-in-Ok-Script-clause-left : goal.returns-in-Ok-Script-clause-left
-returns-in-Ok-Script-clause-left g c =
-    let named : c.deref.result.now ≡ string_bytes c.in-Ok-Script.name = c.deref.ensures in
-    let command : IsScriptWords c.args.words.now c.deref.result.now =
-    subst (λ (name : List ℕ). IsScriptWords c.args.words.now name) (sym named)
-    (subst (λ (i : Invocation). IsInvocation c.args.words.now i) c.in-Ok-Script.field-0-is c.in-Ok-Script.ensures.form) in
-    subst (λ (o : Outcome _). IfSome o.scripted IsLeftOfRun) (sym c.scripted_outcome.ensures) (c.run_script.ensures c.args.words.now command).left_of_run
-
 pub returns-in-Ok-Load-clause-ends : goal.returns-in-Ok-Load-clause-ends
 returns-in-Ok-Load-clause-ends g c =
     let command : IsLoadWords c.args.words.now c.in-Ok-Load.count =
@@ -45,12 +39,6 @@ returns-in-Ok-Load-clause-ends g c =
     let ended = c.run_load.ensures c.args.words.now (g.D.Store.seen c.args.store.now) command in
     subst (λ (o : Outcome _). Said c.args.words.now (g.D.Store.seen c.args.store.now) (g.D.Store.seen c.args.store.now) (g.K.Sink.seen c.args.out.now) (g.K.Sink.seen c.run_load.new.out) (g.F.Front.seen c.args.front.now) (g.F.Front.seen c.args.front.now) (g.C.Clock.told c.args.clock.now) (g.C.Clock.told c.args.clock.now) o.status o.shown o.scripted o.board)
     (sym c.scripted_outcome-in-Ok-Load.ensures) (script-leaves _ (g.F.Front.seen c.args.front.now) (g.C.Clock.told c.args.clock.now) c.run_load.result.status c.run_load.result.left ended, script-causes _ (g.F.Front.seen c.args.front.now) c.run_load.result.status c.run_load.result.left ended)
-
-pub returns-in-Ok-Load-clause-left : goal.returns-in-Ok-Load-clause-left
-returns-in-Ok-Load-clause-left g c =
-    let command : IsLoadWords c.args.words.now c.in-Ok-Load.count =
-    subst (λ (i : Invocation). IsInvocation c.args.words.now i) c.in-Ok-Load.field-0-is c.in-Ok-Load.ensures.form in
-    subst (λ (o : Outcome _). IfSome o.scripted IsLeftOfRun) (sym c.scripted_outcome-in-Ok-Load.ensures) (c.run_load.ensures c.args.words.now (g.D.Store.seen c.args.store.now) command).left_of_run
 
 pub returns-in-Ok-Serve-clause-ends : goal.returns-in-Ok-Serve-clause-ends
 returns-in-Ok-Serve-clause-ends g c =
@@ -81,3 +69,33 @@ returns-in-Ok-Send-clause-ends g c =
     let ended = c.send_command.ensures.ends c.args.words.now command in
     subst (λ (o : Outcome _). Said c.args.words.now (g.D.Store.seen c.args.store.now) (g.D.Store.seen c.send_command.new.store) (g.K.Sink.seen c.args.out.now) (g.K.Sink.seen c.send_command.new.out) (g.F.Front.seen c.args.front.now) (g.F.Front.seen c.send_command.new.front) (g.C.Clock.told c.args.clock.now) (g.C.Clock.told c.args.clock.now) o.status o.shown o.scripted o.board)
     (sym c.closed_outcome-in-Ok-Send.ensures) (send-leaves _ (g.F.Front.seen c.args.front.now) (g.F.Front.seen c.send_command.new.front) (g.C.Clock.told c.args.clock.now) c.send_command.result.status ended, send-causes _ (g.F.Front.seen c.args.front.now) (g.F.Front.seen c.send_command.new.front) c.send_command.result.status ended)
+
+pub returns-in-Ok-Serve-clause-clocked : goal.returns-in-Ok-Serve-clause-clocked
+returns-in-Ok-Serve-clause-clocked g c =
+    subst (λ (o : Outcome _). LeavesClock o.board (g.C.Clock.greatest c.args.clock.now) (g.C.Clock.greatest c.serve_file.new.clock))
+    (sym c.served_outcome.ensures) c.serve_file.ensures.clocked
+
+pub returns-in-Ok-Script-clause-clocked : goal.returns-in-Ok-Script-clause-clocked
+returns-in-Ok-Script-clause-clocked g c =
+    subst (λ (o : Outcome _). LeavesClock o.board (g.C.Clock.greatest c.args.clock.now) (g.C.Clock.greatest c.args.clock.now))
+    (sym c.scripted_outcome.ensures) refl
+
+pub returns-in-Ok-Load-clause-clocked : goal.returns-in-Ok-Load-clause-clocked
+returns-in-Ok-Load-clause-clocked g c =
+    subst (λ (o : Outcome _). LeavesClock o.board (g.C.Clock.greatest c.args.clock.now) (g.C.Clock.greatest c.args.clock.now))
+    (sym c.scripted_outcome-in-Ok-Load.ensures) refl
+
+pub returns-in-Ok-Script-clause-asked : goal.returns-in-Ok-Script-clause-asked
+returns-in-Ok-Script-clause-asked g c = asks-none (g.F.Front.seen c.args.front.now).counts.wakes (g.C.Clock.asked c.args.clock.now)
+
+pub returns-in-Ok-Load-clause-asked : goal.returns-in-Ok-Load-clause-asked
+returns-in-Ok-Load-clause-asked g c = asks-none (g.F.Front.seen c.args.front.now).counts.wakes (g.C.Clock.asked c.args.clock.now)
+
+pub returns-in-Ok-Test-clause-asked : goal.returns-in-Ok-Test-clause-asked
+returns-in-Ok-Test-clause-asked g c = asks-none (g.F.Front.seen c.args.front.now).counts.wakes (g.C.Clock.asked c.args.clock.now)
+
+pub returns-in-Ok-Send-clause-asked : goal.returns-in-Ok-Send-clause-asked
+returns-in-Ok-Send-clause-asked g c =
+    asks-as (g.F.Front.seen c.args.front.now).counts.wakes (g.F.Front.seen c.args.front.now).counts.wakes
+    (g.F.Front.seen c.send_command.new.front).counts.wakes (g.C.Clock.asked c.args.clock.now) (g.C.Clock.asked c.args.clock.now)
+    c.send_command.ensures.wakes (asks-none (g.F.Front.seen c.args.front.now).counts.wakes (g.C.Clock.asked c.args.clock.now))

@@ -12,15 +12,24 @@ use Rattle.board.specs.Faults.{IsRefusedFor}
 use Rattle.board.specs.Finds.{has_to_be_drained}
 use Rattle.worker_group.specs.declared.service.Exit.TheVariants as exit
 use Rattle.worker_group.specs.Acts.{Acts}
-use Rattle.rounds.specs.ClosingInside.{GivesUpDrained, IsDrainedWay, lingering_give_up_events}
+use Rattle.conn_state.specs.declared.turn.LingerTurn.{LingerTurn}
+use Rattle.conn_state.specs.declared.turn.LingerTurn.TheVariants as left
+use Rattle.rounds.specs.ClosingInside.{GivesUpDrained, IsDrainedWay, lingering_give_up_events, tail_of}
 use Rattle.rounds.proofs.ClosingLemmas.{held-acts, let-go, refused-wait}
 use Rattle.rounds.proofs.SameEditionLemmas.{edition-same}
-use Rattle.rounds.proofs.HeldLemmas.{closes-turned, held-lingering, holding, lingers-by, lingers-turned, may-wait_on, waited-for, was-at}
+use Rattle.rounds.proofs.HeldLemmas.{backs-turned, closes-turned, held-lingering, holding, lingers-by, lingers-turned, may-wait_on, waited-for, was-at}
 use Rattle.rounds.proofs.LeavingLemmas.{row-cause, to-drain}
 use Rattle.rounds.proofs.MeasureLemmas.{deadline-later, drained-closed, drained-parked, later-than, none-after_close, none-after_park}
 use Rattle.rounds.proofs.ActLemmas.{if-err-both}
 use Rattle.rounds.proofs.FoundLemmas.{lives}
 use Rattle.rounds.proofs.closing.drain.Goals as goal
+
+-- a turn behind which a connection isn't closed found nothing yet
+not-ready : (answer : LingerTurn) → tail_of answer ≡ None → answer ≡ left.NotReady
+not-ready left.Drained none = absurd (cc)
+not-ready left.Sated none = absurd (cc)
+not-ready left.NotReady none = refl
+not-ready left.LinkFailed none = absurd (cc)
 
 pub close-requires-clause-may : goal.close-requires-clause-may
 close-requires-clause-may g c =
@@ -34,7 +43,7 @@ close-requires-clause-may g c =
     let some = row-cause s c.args.name _ (Some why) is.found (sym c.cause.ensures ∙ c.in-Some-Some.is-0) in
     let lingering = held-lingering s s' c.args.name _ c.hold-conn.result why holds some in
     let turned =
-    lingers-turned s' why c.hold-conn.result conn' c.linger_turn.result lingering c.linger_turn.ensures
+    lingers-turned c.waits_are_backed_by_calls.ensures s' why c.hold-conn.result conn' c.linger_turn.result lingering c.linger_turn.ensures
     (c.lingering_connections_keep_their_cause.ensures.linger_turn c.hold-conn.result conn' c.linger_turn.result why c.linger_turn.ensures lingering.shows) in
     closes-turned s' why c.hold-conn.result conn' c.linger_turn.result c.in-Some.tail turned c.linger_turn.ensures (sym c.tail_of.ensures ∙ c.in-Some.is)
 
@@ -62,9 +71,24 @@ linger_on-requires-clause-lingers g c =
     let some = row-cause s c.args.name _ (Some why) is.found (sym c.cause.ensures ∙ c.in-Some-Some.is-0) in
     let lingering = held-lingering s s' c.args.name _ c.hold-conn.result why holds some in
     let turned =
-    lingers-turned s' why c.hold-conn.result conn' c.linger_turn.result lingering c.linger_turn.ensures
+    lingers-turned c.waits_are_backed_by_calls.ensures s' why c.hold-conn.result conn' c.linger_turn.result lingering c.linger_turn.ensures
     (c.lingering_connections_keep_their_cause.ensures.linger_turn c.hold-conn.result conn' c.linger_turn.result why c.linger_turn.ensures lingering.shows) in
     turned
+
+pub linger_on-requires-clause-backed : goal.linger_on-requires-clause-backed
+linger_on-requires-clause-backed g c =
+    let s = c.args.board.now.book.state in
+    let s' = c.hold-conn.new.self.book.state in
+    let conn' = c.linger_turn.new.self in
+    let is = to-drain s c.args.name c.requires.lingers in
+    let held = ap (λ (b : SeenBoard). b.book.state) c.hold-conn.ensures.is in
+    let holds = holding c.rows_change_one_at_a_time.ensures.there s s' c.args.name _ c.hold-conn.result is.found held c.hold-conn.ensures.name c.hold-conn.ensures.handed c.hold-conn.ensures.way in
+    let why = c.in-Some-Some.cause in
+    let some = row-cause s c.args.name _ (Some why) is.found (sym c.cause.ensures ∙ c.in-Some-Some.is-0) in
+    let lingering = held-lingering s s' c.args.name _ c.hold-conn.result why holds some in
+    let waits = waited-for s c.args.name _ c.in-Some-Some.kind c.show.ensures.sound is.found (sym c.kind.ensures ∙ c.in-Some-Some.is-1) in
+    backs-turned c.waits_are_backed_by_calls.ensures s' why c.hold-conn.result conn' c.linger_turn.result c.in-Some-Some.kind lingering c.linger_turn.ensures
+    (not-ready c.linger_turn.result (sym c.tail_of.ensures ∙ c.in-None.is)) (lingers-by c.in-Some-Some.kind _ why waits some)
 
 pub linger_on-requires-clause-kind : goal.linger_on-requires-clause-kind
 linger_on-requires-clause-kind g c =

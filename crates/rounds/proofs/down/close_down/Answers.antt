@@ -1,9 +1,10 @@
-use Rattle.std.proofs.Common.{ap, sym, subst, ◌∙◌}
+use Rattle.std.proofs.Common.{None, ap, sym, subst, ◌∙◌}
 use Rattle.conn_machine.specs.States.{is_halted}
 use Rattle.rounds.specs.EndsInside.{HaltsAs}
 use Rattle.rounds.proofs.DownLemmas.{down-gone}
 use Rattle.rounds.proofs.ActLemmas.{none-has}
 use Rattle.rounds.proofs.HaltLemmas.{has-halted}
+use Rattle.rounds.proofs.TimelyLemmas.{halts-timely, not-at_end_halted, plain-gone, stays-plain}
 use Rattle.rounds.proofs.down.close_down.Goals as goal
 
 pub returns-then-is_at_end : goal.returns-then-is_at_end
@@ -33,4 +34,9 @@ returns g c =
       accepted = c.retire_all.ensures.rest.accepted ∙ c.close_all.ensures.rest.accepted ∙ c.halt.ensures.taken;
       going = subst (HaltsAs turns old.state.going) (sym (c.retire_all.ensures.going ∙ c.close_all.ensures.going)) c.halt.ensures.stopped;
       down = c.retire_all.ensures.down (ap is_halted c.close_all.ensures.going ∙ stops) (c.close_all.ensures.live free);
+      timely =
+          λ before. c.retire_all.ensures.retires.timely
+          (stays-plain 0 _ None halted closed c.close_all.ensures.gone.acts c.show_state-2.ensures.after (plain-gone c.close_all.ensures.gone.gone)
+          (not-at_end_halted halted.state stops)
+          (halts-timely turns old halted c.halt.ensures.acts c.show_state.ensures.after (c.requires.end ∙ sym c.is_at_end.ensures ∙ c.if-is_at_end.false) before));
     }

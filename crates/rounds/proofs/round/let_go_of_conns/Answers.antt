@@ -3,6 +3,7 @@ use Rattle.board.specs.declared.faults.BoardFault.{BoardFault}
 use Rattle.rounds.specs.ClosingInside.{DrainsSome, DrainsUntil}
 use Rattle.rounds.specs.PartsInside.{LetsGoUntil}
 use Rattle.rounds.proofs.ActLemmas.{if-err, lets-go-conns, lets-go-until}
+use Rattle.rounds.proofs.TimelyLemmas.{drained-in_time}
 use Rattle.rounds.proofs.round.let_go_of_conns.Goals as goal
 
 pub returns-clause-gone : goal.returns-clause-gone
@@ -26,3 +27,19 @@ returns-clause-rest g c =
     c.passes_act_in_steps.ensures.rest c.args.board.now.book c.let_go_late.new.board.book c.drain_all.new.board.book
     (c.passes_act_in_steps.ensures.rest c.args.board.now.book c.let_go_retiring.new.board.book c.let_go_late.new.board.book c.let_go_retiring.ensures.rest c.let_go_late.ensures.rest)
     c.drain_all.ensures.rest
+
+pub returns-clause-timely : goal.returns-clause-timely
+returns-clause-timely g c before =
+    let did =
+    drained-in_time c.histories_join.ensures.state c.passes_act_in_steps.ensures.acts c.drain_all.result c.args.board.now.book c.let_go_retiring.new.board.book
+    c.let_go_late.new.board.book c.drain_all.new.board.book c.let_go_retiring.ensures.gone c.let_go_late.ensures.gone.lets c.drain_all.ensures.drains
+    c.drain_all.ensures.until c.show_state.ensures.after c.show_state-2.ensures.after c.requires.staffed in
+    did.timely before
+
+pub returns-clause-staffed : goal.returns-clause-staffed
+returns-clause-staffed g c =
+    let did =
+    drained-in_time c.histories_join.ensures.state c.passes_act_in_steps.ensures.acts c.drain_all.result c.args.board.now.book c.let_go_retiring.new.board.book
+    c.let_go_late.new.board.book c.drain_all.new.board.book c.let_go_retiring.ensures.gone c.let_go_late.ensures.gone.lets c.drain_all.ensures.drains
+    c.drain_all.ensures.until c.show_state.ensures.after c.show_state-2.ensures.after c.requires.staffed in
+    did.staffed

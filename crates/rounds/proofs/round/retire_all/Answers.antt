@@ -6,6 +6,7 @@ use Rattle.conn_machine.specs.declared.event.Event.TheVariants as event
 use Rattle.board.specs.Board.{SeenBoard}
 use Rattle.rounds.proofs.ListenLemmas.{fewer-stopping, all-gone}
 use Rattle.rounds.proofs.ActLemmas.{acts-added, rest_retire, rest_same, retires-more, retires-none}
+use Rattle.rounds.proofs.TimelyLemmas.{timely-retire}
 use Rattle.rounds.proofs.round.retire_all.Goals as goal
 
 pub loop-child-init : goal.loop-child-init
@@ -19,11 +20,13 @@ loop-child-smaller g c =
 
 pub loop-child-preserved : goal.loop-child-preserved
 loop-child-preserved g c =
+    let one =
+    acts-added c.passes_act_in_steps.ensures.acts (event.Retire c.in-Some.child) None c.loop-child.board c.retire.new.self c.retire.ensures.is c.retire.ensures.entries
+    (c.retire.ensures.row ∙ c.loop-child.invariant.retires.acts.row) in
     record {
       retires =
           retires-more c.passes_act_in_steps.ensures.acts c.in-Some.child c.args.board.now.book c.loop-child.board.book c.retire.new.self.book c.loop-child.invariant.retires
-          (acts-added c.passes_act_in_steps.ensures.acts (event.Retire c.in-Some.child) None c.loop-child.board c.retire.new.self c.retire.ensures.is c.retire.ensures.entries
-          (c.retire.ensures.row ∙ c.loop-child.invariant.retires.acts.row));
+          one (timely-retire c.in-Some.child c.loop-child.board.book c.retire.new.self.book one c.show_state.ensures.after c.in-Some.ensures);
       rest =
           c.passes_act_in_steps.ensures.rest c.args.board.now.book c.loop-child.board.book c.retire.new.self.book c.loop-child.invariant.rest
           (rest_retire c.in-Some.child c.loop-child.board c.retire.new.self c.retire.ensures.is);

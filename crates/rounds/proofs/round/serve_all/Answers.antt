@@ -1,8 +1,10 @@
-use Rattle.std.proofs.Common.{◌≡◌, ℕ, ◌<◌, [], None, refl, sym, subst, rules}
+use Rattle.std.proofs.Common.{◌≡◌, ℕ, ◌<◌, [], None, true, refl, sym, subst, rules}
 use Rattle.board.specs.Board.{SeenBoard}
 use Rattle.board.specs.Faults.{IsRefusedFor}
 use Rattle.worker_group.specs.Service.{LeavesRest}
-use Rattle.rounds.specs.PartsInside.{ServesSome}
+use Rattle.rounds.specs.PartsInside.{ServesSome, StaysTimely}
+use Rattle.rounds.specs.Timely.{is_staffed}
+use Rattle.rounds.proofs.DueLemmas.{serves-in_time}
 use Rattle.rounds.proofs.PassLemmas.{due-none, fewer-asking, serves-acts, serves-more, serves-rest, service-acts}
 use Rattle.rounds.proofs.round.serve_all.Goals as goal
 
@@ -17,6 +19,9 @@ loop-name-init g c = record {
       };
   still = λ none. none;
   state = c.show_state.ensures.after;
+  timely = λ before. before;
+  soon = c.requires.in_time;
+  staffed = c.requires.staffed;
 }
 
 pub serve-requires-clause-who : goal.serve-requires-clause-who
@@ -39,13 +44,28 @@ pub loop-name-preserved : goal.loop-name-preserved
 loop-name-preserved g c =
     let still = c.loop-name.invariant.still in
     let found = c.in-Some.ensures in
+    let in_time =
+    serves-in_time c.histories_join.ensures.state c.passes_act_in_steps.ensures.acts c.rows_change_one_at_a_time.ensures.others 1 c.in-Some.name
+    c.loop-name.board c.serve.new.board c.in_ok-serve.ensures.served c.loop-name.invariant.state c.show.ensures.state found c.loop-name.invariant.soon
+    c.loop-name.invariant.staffed in
     record {
       serves =
           serves-more c.passes_act_in_steps.ensures.acts c.in-Some.name c.args.board.now c.loop-name.board c.serve.new.board c.loop-name.invariant.serves
           (λ none. due-none c.loop-name.board.book.state c.in-Some.name found (still none)) c.in_ok-serve.ensures.served;
       still = λ none. absurd (due-none c.loop-name.board.book.state c.in-Some.name found (still none));
       state = c.show.ensures.state;
+      timely = λ before. in_time.timely (c.loop-name.invariant.timely before);
+      soon = in_time.soon;
+      staffed = in_time.staffed;
     }
+
+pub returns-in_err-serve-clause-timely : goal.returns-in_err-serve-clause-timely
+returns-in_err-serve-clause-timely g c =
+    subst (λ (b : SeenBoard). StaysTimely c.args.board.now.book b.book) (sym c.in_err-serve.ensures.err) c.loop-name.invariant.timely
+
+pub returns-in_err-serve-clause-staffed : goal.returns-in_err-serve-clause-staffed
+returns-in_err-serve-clause-staffed g c =
+    subst (λ (b : SeenBoard). is_staffed b.book.state ≡ true) (sym c.in_err-serve.ensures.err) c.loop-name.invariant.staffed
 
 pub returns-in_err-serve-clause-serves : goal.returns-in_err-serve-clause-serves
 returns-in_err-serve-clause-serves g c =

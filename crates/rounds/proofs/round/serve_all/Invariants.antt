@@ -1,8 +1,10 @@
-use Rattle.std.proofs.Common.{◌≡◌}
+use Rattle.std.proofs.Common.{◌≡◌, true}
 use Rattle.conn_machine.specs.Passes.{asking_count}
 use Rattle.conn_machine.specs.Runs.{after}
 use Rattle.rounds.specs.AtRest.{NoneDue}
-use Rattle.rounds.specs.PartsInside.{ServesSome}
+use Rattle.rounds.specs.PartsInside.{ServesSome, StaysTimely}
+use Rattle.rounds.specs.TableInside.{NoneDueLate}
+use Rattle.rounds.specs.Timely.{is_staffed}
 use Rattle.rounds.proofs.round.serve_all.Given as goal
 
 -- the pass that serves did something, nothing where no connection was due, and has no connection
@@ -12,6 +14,9 @@ invariant-loop-name g l =
       serves : ServesSome l.fn.board l.board;
       still : NoneDue l.fn.board.book.state → NoneDue l.board.book.state;
       state : after l.board.book.base l.board.book.history ≡ l.board.book.state;
+      timely : StaysTimely l.fn.board.book l.board.book;
+      soon : NoneDueLate l.board.book.state;
+      staffed : is_staffed l.board.book.state ≡ true;
     }
 
 -- how many slots ask for service

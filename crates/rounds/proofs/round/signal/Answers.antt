@@ -5,6 +5,7 @@ use Rattle.conn_machine.specs.declared.state.State.{State}
 use Rattle.board.specs.Events.{IsAdded}
 use Rattle.rounds.proofs.PassLemmas.{rows-kept}
 use Rattle.rounds.proofs.ActLemmas.{acts-added, acts-spelled, is-below, known-none, known-one, not-below}
+use Rattle.rounds.proofs.TimelyLemmas.{ready-children, ready-rows, ready-timely}
 use Rattle.rounds.proofs.round.signal.Goals as goal
 
 pub returns-then-slot-len-clause-signals : goal.returns-then-slot-len-clause-signals
@@ -27,3 +28,14 @@ returns-clause-signals g c =
     (acts-added c.passes_act_in_steps.ensures.acts (event.Ready c.args.slot) None b c.ready.new.self added.new_is c.ready.ensures.entries
     (c.ready.ensures.row ∙ c.requires.free))
     (sym (known-one c.args.slot b.book within))) c.ready.ensures.ok
+
+pub returns-clause-timely : goal.returns-clause-timely
+returns-clause-timely g c =
+    ready-timely c.passes_act_in_steps.ensures.acts c.args.slot c.args.board.now c.ready.new.self c.ready.result c.ready.ensures.ok c.ready.ensures.err
+    c.ready.ensures.entries (c.ready.ensures.row ∙ c.requires.free) c.show.ensures.state c.requires.within c.requires.staffed
+
+pub returns-clause-rows : goal.returns-clause-rows
+returns-clause-rows g c = ready-rows c.args.slot c.args.board.now c.ready.new.self c.ready.result c.ready.ensures.ok c.ready.ensures.err
+
+pub returns-clause-children : goal.returns-clause-children
+returns-clause-children g c = ready-children c.args.slot c.args.board.now c.ready.new.self c.ready.result c.ready.ensures.ok c.ready.ensures.err

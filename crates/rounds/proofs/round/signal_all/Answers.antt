@@ -1,4 +1,7 @@
-use Rattle.std.proofs.Common.{◌≡◌, ◌+◌, take, drop, slice_index, [], ◌∷◌, ◌++◌, sym, ap, subst, rules}
+use Rattle.std.proofs.Common.{◌≡◌, ◌+◌, not, take, drop, slice_index, [], ◌∷◌, ◌++◌, sym, ap, subst, rules, ◌∙◌}
+use Rattle.std.specs.List.{list_any}
+use Rattle.conn_machine.specs.Children.{is_empty}
+use Rattle.conn_machine.specs.declared.child.Child.{Child}
 use Rattle.std.proofs.lemmas.List.{take_more, take-append-drop}
 use Rattle.board.specs.Board.{SeenBoard}
 use Rattle.board.specs.Faults.{IsRefusedFor}
@@ -30,4 +33,18 @@ loop-slot-preserved g c =
           (signals-more c.passes_act_in_steps.ensures.acts (take i slots) (slice_index slots i) c.args.board.now.book c.loop-slot.board.book c.signal.new.board.book
           c.loop-slot.invariant.acts c.in_ok-signal.ensures.signals) (ap (signal_events c.args.board.now.book) (sym more));
       rest = c.passes_act_in_steps.ensures.rest c.args.board.now.book c.loop-slot.board.book c.signal.new.board.book c.loop-slot.invariant.rest c.signal.ensures.rest;
+      timely = λ before. c.signal.ensures.timely (c.loop-slot.invariant.timely before);
+      rows = c.signal.ensures.rows ∙ c.loop-slot.invariant.rows;
+      children = c.signal.ensures.children ∙ c.loop-slot.invariant.children;
     }
+
+pub signal-requires-clause-within : goal.signal-requires-clause-within
+signal-requires-clause-within g c =
+    rw (c.loop-slot.invariant.rest.moment, c.loop-slot.invariant.rest.going) c.requires.within
+
+pub signal-requires-clause-staffed : goal.signal-requires-clause-staffed
+signal-requires-clause-staffed g c =
+    ap (list_any (λ (c : Child). not (is_empty c.phase))) c.loop-slot.invariant.children ∙ c.requires.staffed
+
+pub returns-in_err-signal-clause-timely : goal.returns-in_err-signal-clause-timely
+returns-in_err-signal-clause-timely g c before = c.signal.ensures.timely (c.loop-slot.invariant.timely before)

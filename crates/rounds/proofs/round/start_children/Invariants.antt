@@ -1,8 +1,9 @@
-use Rattle.std.proofs.Common.{◌≡◌, count_by}
+use Rattle.std.proofs.Common.{◌≡◌, count_by, length, true}
 use Rattle.conn_machine.specs.Children.{is_empty}
 use Rattle.worker_group.specs.Service.{LeavesRest}
 use Rattle.rounds.specs.TableInside.{IsOpening}
 use Rattle.rounds.specs.PartsInside.{StartsSome}
+use Rattle.rounds.specs.Timely.{is_staffed}
 use Rattle.rounds.proofs.ChildrenLemmas.{StartsInOrder}
 use Rattle.rounds.proofs.round.start_children.Given as goal
 
@@ -14,6 +15,8 @@ invariant-loop-child g l =
       first : IsOpening l.fn.board.book → StartsInOrder l.fn.board.book.base l.board.book;
       rest : LeavesRest l.fn.board.book l.board.book;
       going : l.board.book.state.going ≡ l.fn.board.book.state.going;
+      staffed : is_staffed l.fn.board.book.state ≡ true → is_staffed l.board.book.state ≡ true;
+      children : length l.board.book.state.children ≡ length l.fn.board.book.state.children;
     }
 
 -- how many children are gone

@@ -1,5 +1,5 @@
 use Rattle.std.proofs.Common.{rules}
-use Rattle.run_report.proofs.ExitStatusLemmas.{told_puts}
+use Rattle.run_report.proofs.ExitStatusLemmas.{failed-write, told_puts}
 use Rattle.run_report.proofs.writing.write_all.Goals as goal
 
 pub loop-from-preserved : goal.loop-from-preserved
@@ -9,3 +9,8 @@ loop-from-preserved g c =
       told = told_puts c.args.bytes.now c.loop-from.from c.in-Put.count _ _ _ _ _ _ c.loop-from.invariant.told c.write.ensures c.in-Put.is;
       faults = search rules;
     }
+
+pub returns-in-Failed-clause-all : goal.returns-in-Failed-clause-all
+returns-in-Failed-clause-all g c =
+    failed-write c.args.bytes.now c.loop-from.from _ _ _ _ _ c.loop-from-test.true c.loop-from.invariant.told c.loop-from.invariant.faults c.write.ensures
+    c.in-Failed.is

@@ -2,12 +2,12 @@ use Rattle.run_opening.specs.Configured.{warnings_of}
 use Rattle.std.proofs.Common.{◌≡◌, ◌∙◌, ℕ, List, Some, refl, ap, sym, subst}
 use Rattle.mpm_base.specs.declared.script_line.ScriptLine.{ScriptLine}
 use Rattle.mpm_script.specs.Clients.{clients_of}
-use Rattle.script_front.specs.ScriptFront.{SeenFront, comings_of, front_seen}
+use Rattle.script_front.specs.ScriptFront.{SeenFront, front_seen}
 use Rattle.run_report.specs.EndingsInside.{WritesAll}
 use Rattle.listener.specs.Patient.{HasNothingCome}
 use Rattle.run_report.proofs.EndingLemmas.{ends-as}
 use Rattle.listener.proofs.LeftLemmas.{never-failed, stopped-end}
-use Rattle.script_run.proofs.PlayedLemmas.{has-end, keeps-time, patience-of, played-status, has-run_script}
+use Rattle.script_run.proofs.PlayedLemmas.{has-end, played-status, has-run_script}
 use Rattle.script_run.proofs.playing.serve_script.Goals as goal
 
 pub returns-in-Ok-answer-clause-kept : goal.returns-in-Ok-answer-clause-kept
@@ -15,34 +15,16 @@ returns-in-Ok-answer-clause-kept g c =
     let b = c.in-Ok-answer.served.board in
     let f = c.run_server-answer.new.front in
     let kept = c.in-Ok-answer.ensures in
+    let old = front_seen c.in-Ok.front in
+    let stopped = kept.run.outside.stopped in
     let script : f.script ≡ c.args.script = cc (kept.follows.script ∙ ap (λ (x : SeenFront). Some x.script) c.in-Ok.ensures) in
-    let ended = has-end (front_seen c.in-Ok.front) (front_seen f) b f kept.outside.stopped refl c.show.ensures.is (ap (λ (x : SeenFront). x.ends) c.in-Ok.ensures) refl in
-    has-run_script c.generations_keep_their_editions.ensures c.ended_connections_join.ensures.outside c.ended_connections_join.ensures.outside_stays c.args.script
-    c.args.config c.args.edition.site.value c.args.store.told c.args.store.counts c.in-Ok.front f b c.run_server-answer.new.store c.requires.store c.requires.faults
-    (ap (λ (x : SeenFront). x.told.clients) c.in-Ok.ensures) (c.show.ensures.is.clients ∙ ap (λ (lines : List ScriptLine). clients_of lines) script)
-    (λ going. (ended going).taken) kept.run kept.stood kept.closed kept.edition
-
-pub returns-in-Ok-answer-clause-left : goal.returns-in-Ok-answer-clause-left
-returns-in-Ok-answer-clause-left g c =
-    let b = c.in-Ok-answer.served.board in
-    let f = c.run_server-answer.new.front in
-    let kept = c.in-Ok-answer.ensures in
-    let front = kept.outside.front in
     let nothing : HasNothingCome c.in-Ok.front.told =
     subst (λ (x : SeenFront). HasNothingCome x.told) (sym c.in-Ok.ensures) (record { arrived = refl; lines = refl; stands = λ patient. refl }) in
-    record {
-      front = front.opened;
-      started = front.started;
-      watched = front.watched;
-      links = front.links;
-      time = keeps-time b f c.run_server-answer.new.clock c.show-2.ensures kept.outside.time kept.outside.informed;
-      patient = patience-of (comings_of f.script) f.told c.run_server-answer.new.clock b.book c.show.ensures.is.comings c.show-2.ensures (kept.outside.patient nothing);
-      heeded = front.heeded;
-      ended =
-          has-end (front_seen c.in-Ok.front) (front_seen f) b f kept.outside.stopped refl c.show.ensures.is (ap (λ (x : SeenFront). x.ends) c.in-Ok.ensures)
-          refl;
-      unfailed = never-failed (front_seen c.in-Ok.front) (front_seen f) b.book.state kept.outside.stopped refl;
-    }
+    has-run_script c.args.script c.args.config c.args.edition.site.value c.args.store.told c.args.store.counts c.in-Ok.front f b c.run_server-answer.new.clock
+    c.run_server-answer.new.store c.requires.store c.requires.faults nothing
+    (c.show.ensures.is.clients ∙ ap (λ (lines : List ScriptLine). clients_of lines) script) c.show.ensures.is.comings c.show-2.ensures
+    (has-end old (front_seen f) b f stopped refl c.show.ensures.is (ap (λ (x : SeenFront). x.ends) c.in-Ok.ensures) refl)
+    (never-failed old (front_seen f) b.book.state stopped refl) kept.run
 
 pub returns-in-Ok-answer-clause-ends : goal.returns-in-Ok-answer-clause-ends
 returns-in-Ok-answer-clause-ends g c =
@@ -52,17 +34,17 @@ returns-in-Ok-answer-clause-ends g c =
     let kept = c.in-Ok-answer.ensures in
     ends-as old mid (g.K.Sink.seen c.report_run-status.new.out) (warnings_of c.args.config) served.board served.written c.report_run-status.result
     (subst (λ (text : List ℕ). WritesAll old mid text served.written) (c.as_slice.ensures ∙ c.requires.told) kept.written) kept.faults
-    (stopped-end (front_seen c.in-Ok.front) (front_seen c.run_server-answer.new.front) served.board.book.state kept.outside.stopped)
+    (stopped-end (front_seen c.in-Ok.front) (front_seen c.run_server-answer.new.front) served.board.book.state kept.run.outside.stopped)
     c.report_run-status.ensures.stopped c.report_run-status.ensures.report c.report_run-status.ensures.lacking
 
 pub report_run-status-requires : goal.report_run-status-requires
 report_run-status-requires g c =
-    record { stopped = stopped-end (front_seen c.in-Ok.front) (front_seen c.run_server-answer.new.front) c.in-Ok-answer.served.board.book.state c.in-Ok-answer.ensures.outside.stopped }
+    record { stopped = stopped-end (front_seen c.in-Ok.front) (front_seen c.run_server-answer.new.front) c.in-Ok-answer.served.board.book.state c.in-Ok-answer.ensures.run.outside.stopped }
 
 pub returns-in-Ok-answer-clause-known : goal.returns-in-Ok-answer-clause-known
 returns-in-Ok-answer-clause-known g c =
     let old = front_seen c.in-Ok.front in
     let new = front_seen c.run_server-answer.new.front in
     let s = c.in-Ok-answer.served.board.book.state in
-    let stopped = c.in-Ok-answer.ensures.outside.stopped in
+    let stopped = c.in-Ok-answer.ensures.run.outside.stopped in
     played-status s.going c.report_run-status.result (stopped-end old new s stopped) (never-failed old new s stopped refl) c.report_run-status.ensures.stopped

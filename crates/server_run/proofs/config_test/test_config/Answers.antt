@@ -16,7 +16,7 @@ returns-in-Ok g c words command =
       unread = λ three. absurd (omega (arith, known, three));
       unwritten =
           λ five. ends-test-unwritten _ c.args.name.now c.read-answer.result (c.in-Ok.field-0-0, c.in-Ok.told) command c.read-answer.ensures c.in-Ok.ensures
-          c.pass.ensures.shown (c.pass.ensures.failed five);
+          c.pass.ensures.shown (c.pass.ensures.unwritten five);
       silent = c.pass.ensures.silent;
     }
 

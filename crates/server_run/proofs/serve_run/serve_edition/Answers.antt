@@ -1,19 +1,16 @@
 use Rattle.run_opening.specs.Configured.{warnings_of}
 use Rattle.std.proofs.Common.{◌∙◌, ℕ, List, subst}
 use Rattle.run_report.specs.EndingsInside.{WritesAll}
-use Rattle.listener.specs.OrdersInside.{opening_by}
 use Rattle.run_report.proofs.EndingLemmas.{ends-as}
 use Rattle.listener.proofs.LeftLemmas.{stopped-end}
+<<<<<<< f0e0bae9ba4e81f209b5ffa9de4069fbf16ad08a:crates/server_run/proofs/serve_run/serve_edition/Answers.antt
 use Rattle.server_run.proofs.ServeLemmas.{opened-status}
 use Rattle.listener.proofs.LeftLemmas.{has-run-by}
 use Rattle.server_run.proofs.serve_run.serve_edition.Goals as goal
-
-pub returns-in-Ok-clause-run : goal.returns-in-Ok-clause-run
-returns-in-Ok-clause-run g c =
-    let kept = c.in-Ok.ensures in
-    has-run-by c.generations_keep_their_editions.ensures c.ended_connections_join.ensures.outside c.ended_connections_join.ensures.outside_stays
-    (opening_by c.args.config c.args.edition (g.D.Store.seen c.args.store.now) (g.F.Front.seen c.args.front.now)) (g.D.Store.seen c.run_server-answer.new.store)
-    (g.F.Front.seen c.run_server-answer.new.front) c.in-Ok.served.board kept.run kept.stood kept.closed kept.edition
+=======
+use Rattle.mpm_run.proofs.ServeLemmas.{opened-status}
+use Rattle.mpm_run.proofs.serve_run.serve_edition.Goals as goal
+>>>>>>> 2ab3f64187a3797f889734a258fbe51c0036452d:crates/mpm_run/proofs/serve_run/serve_edition/Answers.antt
 
 pub returns-in-Ok-clause-ends : goal.returns-in-Ok-clause-ends
 returns-in-Ok-clause-ends g c =
@@ -23,15 +20,18 @@ returns-in-Ok-clause-ends g c =
     let kept = c.in-Ok.ensures in
     ends-as old mid (g.K.Sink.seen c.report_run-status.new.out) (warnings_of c.args.config.config.now) served.board served.written c.report_run-status.result
     (subst (λ (text : List ℕ). WritesAll old mid text served.written) (c.as_slice.ensures ∙ c.requires.told) kept.written) kept.faults
-    (stopped-end (g.F.Front.seen c.args.front.now) (g.F.Front.seen c.run_server-answer.new.front) served.board.book.state kept.outside.stopped)
+    (stopped-end (g.F.Front.seen c.args.front.now) (g.F.Front.seen c.run_server-answer.new.front) served.board.book.state kept.run.outside.stopped)
     c.report_run-status.ensures.stopped c.report_run-status.ensures.report c.report_run-status.ensures.lacking
 
 pub report_run-status-requires : goal.report_run-status-requires
 report_run-status-requires g c =
-    record { stopped = stopped-end (g.F.Front.seen c.args.front.now) (g.F.Front.seen c.run_server-answer.new.front) c.in-Ok.served.board.book.state c.in-Ok.ensures.outside.stopped }
+    record { stopped = stopped-end (g.F.Front.seen c.args.front.now) (g.F.Front.seen c.run_server-answer.new.front) c.in-Ok.served.board.book.state c.in-Ok.ensures.run.outside.stopped }
 
 pub returns-in-Ok-clause-known : goal.returns-in-Ok-clause-known
 returns-in-Ok-clause-known g c =
     opened-status c.in-Ok.served.board.book.state.going c.report_run-status.result
-    (stopped-end (g.F.Front.seen c.args.front.now) (g.F.Front.seen c.run_server-answer.new.front) c.in-Ok.served.board.book.state c.in-Ok.ensures.outside.stopped)
+    (stopped-end (g.F.Front.seen c.args.front.now) (g.F.Front.seen c.run_server-answer.new.front) c.in-Ok.served.board.book.state c.in-Ok.ensures.run.outside.stopped)
     c.report_run-status.ensures.stopped
+
+pub returns-in-Ok-clause-clocked : goal.returns-in-Ok-clause-clocked
+returns-in-Ok-clause-clocked g c = c.in-Ok.ensures.clocked

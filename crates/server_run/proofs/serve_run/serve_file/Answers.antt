@@ -3,10 +3,18 @@ use Rattle.mpm_base.specs.Store.{StoreSeen}
 use Rattle.file_table.specs.Site.{SeenSite}
 use Rattle.run_opening.proofs.ConfigLemmas.{had-accepted, has-accepted}
 use Rattle.listener.specs.RunsInside.{HasRunBy}
+<<<<<<< f0e0bae9ba4e81f209b5ffa9de4069fbf16ad08a:crates/server_run/proofs/serve_run/serve_file/Answers.antt
 use Rattle.server_run.proofs.ConfigLemmas.{config-refused, config-unread}
 use Rattle.server_run.proofs.InvocationLemmas.{serve-config}
 use Rattle.server_run.proofs.ServeLemmas.{asked-only, folder-refused, folder-unread, is-ready, leaves-front, serves, unbound, unserved}
 use Rattle.server_run.proofs.serve_run.serve_file.Goals as goal
+=======
+use Rattle.listener.proofs.CountedEndLemmas.{asks-none}
+use Rattle.mpm_run.proofs.ConfigLemmas.{config-refused, config-unread}
+use Rattle.mpm_run.proofs.InvocationLemmas.{serve-config}
+use Rattle.mpm_run.proofs.ServeLemmas.{asked-only, clock-unserved, folder-refused, folder-unread, is-ready, leaves-front, serves, unbound, unserved}
+use Rattle.mpm_run.proofs.serve_run.serve_file.Goals as goal
+>>>>>>> 2ab3f64187a3797f889734a258fbe51c0036452d:crates/mpm_run/proofs/serve_run/serve_file/Answers.antt
 
 pub returns-in-Err-clause-ends : goal.returns-in-Err-clause-ends
 returns-in-Err-clause-ends g c words command =
@@ -54,8 +62,8 @@ returns-clause-ends g c words command =
           serves c.serve_edition.result.left _ c.args.name.now c.in-Ok.read.0 c.in-Ok-load_site.site asked front front'
           (g.C.Clock.told c.serve_edition.new.clock) status ready
           (asked-only old read asked c.args.name.now c.read-answer.result c.in-Ok-load_site.site c.read-answer.ensures loaded.leaves) ended.shown
-          (subst (λ (site : SeenSite). IfSome c.serve_edition.result.left (HasRunBy (record { name = c.args.name.now; config = c.in-Ok.read.0; site = site; store = asked; front = front }) (g.D.Store.seen c.serve_edition.new.store) front')) c.in-Ok-new.ensures.ok ended.run)
-          ended.outside ended.ends;
+          (subst (λ (site : SeenSite). IfSome c.serve_edition.result.left (HasRunBy (record { name = c.args.name.now; config = c.in-Ok.read.0; site = site; store = asked; front = front }) (g.D.Store.seen c.serve_edition.new.store) front' (g.C.Clock.told c.serve_edition.new.clock))) c.in-Ok-new.ensures.ok ended.run)
+          ended.ends;
       opened = ended.opened;
       unopened = λ none. record {
         front =
@@ -71,3 +79,17 @@ returns-clause-ends g c words command =
       silent = ended.silent;
       site_refused = λ nine. absurd (omega (arith, ended.known, nine));
     }
+
+pub returns-in-Err-clause-clocked : goal.returns-in-Err-clause-clocked
+returns-in-Err-clause-clocked g c =
+    clock-unserved c.refuse_config_of.result.left (g.C.Clock.greatest c.args.clock.now) c.refuse_config_of.ensures.left
+
+pub returns-in-Err-load_site-clause-clocked : goal.returns-in-Err-load_site-clause-clocked
+returns-in-Err-load_site-clause-clocked g c =
+    clock-unserved c.refuse_folder.result.left (g.C.Clock.greatest c.args.clock.now) c.refuse_folder.ensures.left
+
+pub returns-in-Err-clause-asked : goal.returns-in-Err-clause-asked
+returns-in-Err-clause-asked g c = asks-none (g.F.Front.seen c.args.front.now).counts.wakes (g.C.Clock.asked c.args.clock.now)
+
+pub returns-in-Err-load_site-clause-asked : goal.returns-in-Err-load_site-clause-asked
+returns-in-Err-load_site-clause-asked g c = asks-none (g.F.Front.seen c.args.front.now).counts.wakes (g.C.Clock.asked c.args.clock.now)

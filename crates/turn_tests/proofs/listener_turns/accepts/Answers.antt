@@ -1,7 +1,7 @@
 use Rattle.std.proofs.Common.{sym}
 use Rattle.turn_tests.proofs.FoundLemmas.{pass_as, row_as}
 use Rattle.turn_tests.proofs.GoesOnLemmas.{made_added, may_accept}
-use Rattle.turn_tests.proofs.ListenerLemmas.{accepted_row}
+use Rattle.turn_tests.proofs.ListenerLemmas.{accepted_row, unparked_then}
 use Rattle.turn_tests.proofs.ThenLemmas.{listener_then}
 use Rattle.turn_tests.proofs.listener_turns.accepts.Goals as goal
 
@@ -30,3 +30,10 @@ returns-in-Ok-clause-row g c =
     accepted_row _ _ _ c.turn-turn.result.kept q.new.self c.in-Ok.taken.name c.in-Ok.taken.child c.in-Ok.taken.generation c.turns_rest_on_these.ensures
     c.turn-turn.ensures.turn c.done.ensures.given c.requires.listener.number
     (made_added 0 _ c.turn-turn.result.kept q.new.self q.new.self.conns c.in-Ok.ensures.ok q.ensures.entries) c.in-Ok.ensures.taken
+
+pub returns-in-Ok-clause-unparked : goal.returns-in-Ok-clause-unparked
+returns-in-Ok-clause-unparked g c =
+    let q = c.accept-taken in
+    unparked_then _ _ _ c.turn-turn.result.kept q.new.self c.in-Ok.taken.name c.taken_connections_start_afresh.ensures c.turns_rest_on_these.ensures
+    c.turn-turn.ensures.turn c.done.ensures.given c.requires.listener.number
+    (made_added 0 _ c.turn-turn.result.kept q.new.self q.new.self.conns c.in-Ok.ensures.ok q.ensures.entries) c.show.ensures.state c.show-2.ensures.run

@@ -5,7 +5,7 @@ use Rattle.conn_machine.specs.declared.event.Event.TheVariants as event
 use Rattle.table_rule.specs.declared.view.View.{View}
 use Rattle.turn_tests.proofs.FoundLemmas.{pass_as, row_as}
 use Rattle.turn_tests.proofs.GoesOnLemmas.{changed, may_change, may_stay}
-use Rattle.turn_tests.proofs.ListenerLemmas.{parked_row}
+use Rattle.turn_tests.proofs.ListenerLemmas.{backs_first, is_of_new, parked_row, unparked_here}
 use Rattle.turn_tests.proofs.ThenLemmas.{listener_then}
 use Rattle.turn_tests.proofs.listener_turns.parks_new.Goals as goal
 
@@ -14,6 +14,18 @@ done-requires-clause-left g c = may_stay _ _ (ap (λ (q : View). q.turn) c.turn-
 
 pub done-requires-then-not-may_make-clause-left : goal.done-requires-then-not-may_make-clause-left
 done-requires-then-not-may_make-clause-left g c = may_stay _ _ (ap (λ (q : View). q.turn) c.turn-turn.ensures.turn.view)
+
+pub park-parked-requires-clause-fits : goal.park-parked-requires-clause-fits
+park-parked-requires-clause-fits g c =
+    let b = c.turn-turn.result.kept in
+    is_of_new c.waits_are_backed_by_calls.ensures b.book.state c.in-Some.conn _ c.in-Some.ensures.name c.in-Some.ensures.fits
+    (unparked_here _ _ b _ c.turns_rest_on_these.ensures c.turn-turn.ensures.turn c.show.ensures.state c.requires.row c.requires.unparked)
+
+pub park-parked-requires-clause-backed : goal.park-parked-requires-clause-backed
+park-parked-requires-clause-backed g c =
+    let b = c.turn-turn.result.kept in
+    backs_first c.waits_are_backed_by_calls.ensures b.book.state c.in-Some.conn _ c.in-Some.ensures.name c.in-Some.ensures.fits
+    (unparked_here _ _ b _ c.turns_rest_on_these.ensures c.turn-turn.ensures.turn c.show.ensures.state c.requires.row c.requires.unparked)
 
 pub park-parked-requires-clause-who : goal.park-parked-requires-clause-who
 park-parked-requires-clause-who g c = pass_as _ _ c.turn-turn.result.kept 0 c.turn-turn.ensures.turn (sym c.requires.listener.number)

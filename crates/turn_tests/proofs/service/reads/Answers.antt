@@ -13,11 +13,11 @@ returns-in-Interim-clause-served g c =
 
 pub returns-in-More-clause-may : goal.returns-in-More-clause-may
 returns-in-More-clause-may g c =
-    read_kept g.N.Known.known _ c.args.conn.now c.read_turn.new.self _ c.requires.served c.in-More.ensures.reads c.noted.ensures c.if-noted.true
+    read_kept c.waits_are_backed_by_calls.ensures g.N.Known.known _ c.args.conn.now c.read_turn.new.self _ c.requires.served c.in-More.ensures.reads c.noted.ensures c.if-noted.true
     (sym c.rest_empty.ensures.kept ∙ c.if-rest_empty.true)
 
 pub returns-in-More-2-clause-may : goal.returns-in-More-2-clause-may
-returns-in-More-2-clause-may g c = read_more g.N.Known.known _ c.args.conn.now c.read_turn.new.self c.requires.served c.in-More-2.ensures.reads
+returns-in-More-2-clause-may g c = read_more c.waits_are_backed_by_calls.ensures g.N.Known.known _ c.args.conn.now c.read_turn.new.self c.requires.served c.in-More-2.ensures.reads
 
 pub returns-in-Gone-clause-may : goal.returns-in-Gone-clause-may
 returns-in-Gone-clause-may g c = read_gone g.N.Known.known _ c.args.conn.now c.read_turn.new.self c.requires.served c.requires.goes_on c.in-Gone.ensures.reads

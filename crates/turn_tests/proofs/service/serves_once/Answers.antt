@@ -4,7 +4,7 @@ use Rattle.turn_tests.proofs.LeavesLemmas.{shut_failed, shut_on, written, writte
 use Rattle.turn_tests.proofs.service.serves_once.Goals as goal
 
 pub returns-in-NotReady-clause-may : goal.returns-in-NotReady-clause-may
-returns-in-NotReady-clause-may g c = written_late g.N.Known.known _ c.args.conn.now c.write_turn.new.self c.requires.served c.in-NotReady.ensures
+returns-in-NotReady-clause-may g c = written_late c.waits_are_backed_by_calls.ensures g.N.Known.known _ c.args.conn.now c.write_turn.new.self c.requires.served c.in-NotReady.ensures
 
 pub returns-in-LinkFailed-clause-may : goal.returns-in-LinkFailed-clause-may
 returns-in-LinkFailed-clause-may g c = written_failed g.N.Known.known _ c.args.conn.now c.write_turn.new.self c.requires.served c.in-LinkFailed.ensures

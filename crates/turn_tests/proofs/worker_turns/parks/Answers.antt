@@ -3,7 +3,7 @@ use Rattle.conn_machine.specs.declared.event.Event.TheVariants as event
 use Rattle.worker_group.proofs.ServeLemmas.{turned-open}
 use Rattle.turn_tests.proofs.FoundLemmas.{own_edition, pass_as, row_as}
 use Rattle.turn_tests.proofs.GoesOnLemmas.{changed, may_change}
-use Rattle.turn_tests.proofs.LeavesLemmas.{park_allowed, park_fits, park_settled, parks_left, parks_refused}
+use Rattle.turn_tests.proofs.LeavesLemmas.{park_allowed, park_backed, park_fits, park_settled, parks_left, parks_refused}
 use Rattle.turn_tests.proofs.worker_turns.parks.Goals as goal
 
 pub park-parked-requires-clause-who : goal.park-parked-requires-clause-who
@@ -30,6 +30,11 @@ park-parked-requires-clause-settled g c =
 
 pub park-parked-requires-clause-turned : goal.park-parked-requires-clause-turned
 park-parked-requires-clause-turned g c = turned-open c.args.kind c.args.conn c.requires.may.may.2
+
+pub park-parked-requires-clause-backed : goal.park-parked-requires-clause-backed
+park-parked-requires-clause-backed g c =
+    park_backed g.N.Known.known _ _ c.turn-turn.result.kept c.args.conn c.args.kind c.turns_rest_on_these.ensures c.turn-turn.ensures.turn
+    c.show-2.ensures.state c.show-2.ensures.sound c.requires.may
 
 pub park-parked-requires-clause-edition : goal.park-parked-requires-clause-edition
 park-parked-requires-clause-edition g c =

@@ -3,11 +3,15 @@ use Rattle.mpm_base.specs.declared.conn.ConnName.{ConnName}
 use Rattle.conn_machine.specs.declared.event.Event.TheVariants as event
 use Rattle.board.specs.Board.{SeenBoard}
 use Rattle.worker_group.proofs.ActsLemmas.{acts_one}
-use Rattle.worker_group.proofs.ExitLemmas.{ended-last}
+use Rattle.worker_group.proofs.ExitLemmas.{closing-ended, ended-last}
 use Rattle.worker_group.proofs.service.close.Goals as goal
 
 pub close-requires-clause-row : goal.close-requires-clause-row
 close-requires-clause-row g c = c.requires.row ∙ ap (λ (n : ConnName). Some n) (sym c.end.ensures.ends.name)
+
+pub close-requires-clause-fits : goal.close-requires-clause-fits
+close-requires-clause-fits g c =
+    closing-ended c.args.board.now.book.state c.args.cause c.args.tail c.args.conn c.end.result c.requires.may c.end.ensures.ends
 
 pub close-requires-clause-edition : goal.close-requires-clause-edition
 close-requires-clause-edition g c = rw (c.end.ensures.ends.generation, c.end.ensures.ends.limits, c.end.ensures.ends.site) c.requires.edition

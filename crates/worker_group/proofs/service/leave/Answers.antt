@@ -24,6 +24,11 @@ park-requires-clause-turned g c =
     let may = subst (λ (e : Exit). MayLeave c.args.board.now.book c.args.conn e) c.in-Park.is c.requires.may in
     turned-open c.in-Park.kind c.args.conn may.2
 
+pub park-requires-clause-backed : goal.park-requires-clause-backed
+park-requires-clause-backed g c =
+    let may = subst (λ (e : Exit). MayLeave c.args.board.now.book c.args.conn e) c.in-Park.is c.requires.may in
+    may.3
+
 pub give_up-requires-clause-hand : goal.give_up-requires-clause-hand
 give_up-requires-clause-hand g c =
     let may = subst (λ (e : Exit). MayLeave c.args.board.now.book c.args.conn e) c.in-GiveUp.is c.requires.may in

@@ -1,6 +1,7 @@
-use Rattle.std.proofs.Common.{◌≡◌, ℕ, ◌<◌, Bool, true, false, ◌||◌, IfNone, refl, ap, ◌∙◌, sym, subst, arith}
+use Rattle.std.proofs.Common.{◌≡◌, ℕ, ◌<◌, Bool, true, false, ◌||◌, IfNone, inr, refl, ap, ◌∙◌, sym, subst, arith}
 use Rattle.std.proofs.lemmas.Bool.Decides.{nat_tests}
 use Rattle.mpm_base.specs.declared.conn.Cause.TheVariants as cause
+use Rattle.mpm_base.specs.declared.conn.Kind.TheVariants.{KeepAlive, Reading}
 use Rattle.conn_state.specs.declared.turn.WriteTurn.TheVariants as write
 use Rattle.conn_state.specs.declared.turn.ReadTurn.TheVariants as read
 use Rattle.conn_state.specs.Reader.{SeenReader}
@@ -8,6 +9,7 @@ use Rattle.conn_state.specs.Rest.{is_awaited}
 use Rattle.worker_group.specs.declared.service.Exit.TheVariants as exit
 use Rattle.worker_group.specs.InHandInside.{sends_left}
 use Rattle.worker_group.proofs.LingerLemmas.{exits-out, last-lingers, last-shows, leaves-out}
+use Rattle.worker_group.proofs.BackedLemmas.{backs-read, backs-write}
 use Rattle.worker_group.proofs.ServeLemmas.{in-hand, served-written, served-read, closes-failed_write, closes-done, closes-failed_read, closes-unread}
 use Rattle.worker_group.proofs.AnswerLemmas.{answers_none, fewer-told, sends-same}
 use Rattle.worker_group.proofs.EditionLemmas.{edition-read, edition-shut, edition-written}
@@ -77,6 +79,27 @@ returns-in-More-clause-may g c =
         none_kept = sym c.rest_empty.ensures.kept ∙ c.if-rest_empty.true;
       },
       grind (arith, nat_tests, c.noted.ensures, c.if-noted.true),
+      backs-read c.waits_are_backed_by_calls.ensures c.args.board.now.book.state c.write_turn.new.self c.read_turn.new.self KeepAlive served.row refl served.found served.fits.backed
+          c.in-More.ensures.reads,
+    )
+
+pub returns-in-More-2-clause-may : goal.returns-in-More-2-clause-may
+returns-in-More-2-clause-may g c =
+    let served = served-written c.args.board.now.book.state c.args.conn.now c.write_turn.new.self write.Done c.requires.served c.in-Done.ensures refl in (
+      served-read c.args.board.now.book.state c.write_turn.new.self c.read_turn.new.self read.More served c.in-More-2.ensures.reads refl,
+      inr c.in-More-2.ensures.reads.turn,
+      tt,
+      backs-read c.waits_are_backed_by_calls.ensures c.args.board.now.book.state c.write_turn.new.self c.read_turn.new.self Reading served.row refl served.found served.fits.backed
+          c.in-More-2.ensures.reads,
+    )
+
+pub returns-in-NotReady-clause-may : goal.returns-in-NotReady-clause-may
+returns-in-NotReady-clause-may g c =
+    let served = c.requires.served in (
+      served-written c.args.board.now.book.state c.args.conn.now c.write_turn.new.self write.NotReady served c.in-NotReady.ensures refl,
+      c.in-NotReady.ensures.turn,
+      tt,
+      backs-write c.waits_are_backed_by_calls.ensures c.args.board.now.book.state c.args.conn.now c.write_turn.new.self served.row served.found served.fits.backed c.in-NotReady.ensures,
     )
 
 pub returns-in-More-clause-acts : goal.returns-in-More-clause-acts

@@ -15,6 +15,7 @@ use Rattle.board.specs.Layout.{conns_in}
 use Rattle.board.specs.QueuesInside.{waits_in, waits_under}
 use Rattle.board.specs.BoardInside.{AreParts}
 use Rattle.board.specs.BoardParts.{seen_board}
+use Rattle.board.proofs.BackedLemmas.{backs-row}
 use Rattle.board.proofs.BoardLemmas.{may_while, there_of}
 use Rattle.board.proofs.ClientLemmas.{clients_put}
 use Rattle.board.proofs.ClosedLemmas.{board_on}
@@ -72,7 +73,8 @@ invariant_of-self-2 g c =
     rw (ok.new_is, c.put_back.ensures, queued)
     (board_on _ inside.book slots _ _ ended inside.queues _ room room c.args.who e invariant ok.keeps (λ s. refl)
     (park-there c.rows_change_one_at_a_time.ensures inside.book.state name c.args.kind conns inside.queues c.args.conn c.requires.fits.row (length ended) room may
-    (there_of _ inside.book slots ended inside.queues room invariant) found (sym c.name-name.ensures) c.requires.fits.fits settled)
+    (there_of _ inside.book slots ended inside.queues room invariant) found (sym c.name-name.ensures) c.requires.fits.fits settled
+    (backs-row c.args.kind c.args.self.now.book.state c.args.conn c.requires.fits.row c.requires.fits.found c.requires.backed))
     (clients_put _ inside.book conns name.slot c.args.conn c.show.ensures.client
     (subst (λ (v : SeenBoard). IsOfGeneration g.N.Known.known v.book c.args.conn.generation c.args.conn.reader.limits c.args.conn.site) (sym view_is) c.requires.edition)
     invariant.outside.conns) (conns-with slots name (Some c.args.conn))

@@ -1,5 +1,6 @@
 use Rattle.std.proofs.Common.{◌≡◌, IfSome}
 use Rattle.worker_group.specs.Service.{IsUp}
+use Rattle.listener.specs.CountedInside.{CountsOn}
 use Rattle.listener.specs.ListenInside.{HasNoneToHeed, IsInStep}
 use Rattle.listener.specs.OrdersInside.{KnowsComing, ServesNewest}
 use Rattle.listener.proofs.HeedLemmas.{HasHeeded}
@@ -11,6 +12,8 @@ invariant-loop g l =
     record {
       heeded : HasHeeded g.N.Known.known l.fn.self.config l.fn.self.edition.stop_ms l.self.edition.stop_ms (g.D.Store.seen l.fn.store)
           (g.D.Store.seen l.store) (g.F.Front.seen l.fn.front) (g.F.Front.seen l.front) l.fn.self.board.book l.self.board.book;
+      counts : CountsOn 0 (g.F.Front.seen l.fn.front).counts (g.F.Front.seen l.front).counts l.fn.self.board.book l.self.board.book;
+      wakes : (g.F.Front.seen l.front).counts.wakes ≡ (g.F.Front.seen l.fn.front).counts.wakes;
       knows : KnowsComing g.N.Known.known l.self.board.book l.self.config (g.D.Store.seen l.store).told;
       serves : ServesNewest g.N.Known.known l.self.board.book l.self.edition;
       up : IsUp l.self.board.book.state.going;

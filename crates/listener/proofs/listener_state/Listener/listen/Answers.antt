@@ -1,80 +1,80 @@
-use Rattle.std.proofs.Common.{inl, inr, None, Option, List, ap, sym, subst, ◌∙◌}
-use Rattle.mpm_base.specs.Front.{FrontSeen, WaitTold}
-use Rattle.conn_machine.specs.declared.folded.Folded.{Folded}
-use Rattle.listener.specs.Times.{WasInformed}
-use Rattle.listener.proofs.StartlessLemmas.{asked-silent, startless-gone, startless-halts, startless-retires}
-use Rattle.listener.proofs.StartedFirstLemmas.{begins-down}
+use Rattle.std.proofs.Common.{◌∙◌, refl, ap, sym, subst}
+use Rattle.mpm_base.specs.Front.{FrontCounts, FrontSeen}
+use Rattle.listener.specs.TurnsInside.{listener_of}
+use Rattle.listener.specs.CountedInside.{CountsToEnd}
 use Rattle.listener.proofs.CommandLemmas.{heeds-hushed}
+use Rattle.listener.proofs.CountedEndLemmas.{asks-as, clock-down, counts-end}
 use Rattle.listener.proofs.FrontLemmas.{follows-trans, time-kept}
 use Rattle.listener.proofs.FrontCallLemmas.{contacts-hushed, follows-hushed, is-hushed, waits-hushed}
 use Rattle.listener.proofs.LinkLemmas.{handed-out}
-use Rattle.listener.proofs.PaceLemmas.{patience-down}
 use Rattle.listener.proofs.StoodLemmas.{stood-down}
-use Rattle.listener.proofs.StopLemmas.{has-stopped, must-halt, was-informed}
-use Rattle.listener.proofs.WatchLemmas.{nobody-down, watched-as, watched-hushed}
+use Rattle.listener.proofs.StopLemmas.{has-stopped, must-halt}
 use Rattle.listener.proofs.listener_state.Listener.listen.Goals as goal
 
 pub close_down-requires-clause-must : goal.close_down-requires-clause-must
 close_down-requires-clause-must g c =
-    let ends = c.take_turns-turns.ensures.ends in
+    let ends = c.take_turns-turns.ensures.over.ends in
     must-halt c.take_turns-turns.result (g.F.Front.seen c.args.front.now) (g.F.Front.seen c.take_turns-turns.new.front) c.take_turns-turns.new.self.board.book ends
 
-pub returns : goal.returns
-returns g c =
+pub close_down-requires-clause-end : goal.close_down-requires-clause-end
+close_down-requires-clause-end g c = c.take_turns-turns.ensures.over.end
+
+pub returns-clause-listened : goal.returns-clause-listened
+returns-clause-listened g c =
+    let turns = c.take_turns-turns.result in
+    let front = g.F.Front.seen c.args.front.now in
+    let mid = g.F.Front.seen c.take_turns-turns.new.front in
+    let hushed = g.F.Front.seen c.hush.new.front in
+    let b = c.take_turns-turns.new.self.board.book in
+    let d = c.close_down.new.board.book in
+    let over = c.take_turns-turns.ensures.over in
+    let first =
+    listener_of c.args.self.now.board front (g.C.Clock.told c.args.clock.now) c.args.self.now.ready c.args.self.now.edition
+    (g.D.Store.seen c.args.store.now) c.args.self.now.config in
+    let now =
+    listener_of c.take_turns-turns.new.self.board mid (g.C.Clock.told c.take_turns-turns.new.clock) c.take_turns-turns.new.self.ready
+    c.take_turns-turns.new.self.edition (g.D.Store.seen c.take_turns-turns.new.store) c.take_turns-turns.new.self.config in
+    let last =
+    listener_of c.close_down.new.board hushed (g.C.Clock.told c.take_turns-turns.new.clock) c.take_turns-turns.new.self.ready
+    c.take_turns-turns.new.self.edition (g.D.Store.seen c.take_turns-turns.new.store) c.take_turns-turns.new.self.config in
     record {
-      stands =
-          let ends = c.take_turns-turns.ensures.ends in
-          stood-down g.N.Known.known c.args.self.now.config c.take_turns-turns.result c.args.self.now.edition.stop_ms c.take_turns-turns.new.self.edition.stop_ms (g.D.Store.seen c.args.store.now)
-          (g.D.Store.seen c.take_turns-turns.new.store) (g.F.Front.seen c.args.front.now) (g.F.Front.seen c.take_turns-turns.new.front) (g.F.Front.seen c.hush.new.front) c.args.self.now.board.book c.take_turns-turns.new.self.board.book
-          c.close_down.new.board.book c.take_turns-turns.ensures.stands ends c.take_turns-turns.ensures.up c.close_down.ensures c.hush.ensures;
+      stood =
+          λ o n opened begun. stood-down g.N.Known.known o n turns front now last (over.turned o n opened begun) over.ends over.up c.close_down.ensures
+          c.hush.ensures refl refl first c.take_turns-turns.ensures.counts;
+      timely = λ before. c.close_down.ensures.timely (over.timely before);
       passes =
-          let acts = c.close_down.ensures.retires.acts.passes ∙ c.close_down.ensures.closes.acts.passes ∙ c.close_down.ensures.halts.passes in
-          acts ∙ c.take_turns-turns.ensures.passes;
-      asked =
-          λ began. let asked = c.take_turns-turns.ensures.asked in
-          asked-silent 0 _ None c.close_down.ensures.closed c.close_down.new.board.book c.close_down.ensures.retires.acts (startless-retires c.close_down.ensures.retires.children)
-          (asked-silent 0 _ None c.close_down.ensures.halted c.close_down.ensures.closed c.close_down.ensures.closes.acts (startless-gone c.close_down.ensures.closes.gone)
-          (asked-silent 0 _ None c.take_turns-turns.new.self.board.book c.close_down.ensures.halted c.close_down.ensures.halts (startless-halts c.take_turns-turns.result) (asked began)));
-      stopped =
-          let ends = c.take_turns-turns.ensures.ends in
-          has-stopped c.take_turns-turns.result (g.F.Front.seen c.args.front.now) (g.F.Front.seen c.take_turns-turns.new.front) (g.F.Front.seen c.hush.new.front) c.take_turns-turns.new.self.board.book c.close_down.new.board.book ends c.close_down.ensures c.hush.ensures;
-      follows =
-          let follows = c.take_turns-turns.ensures.follows in
-          follows-trans _ _ _ follows (follows-hushed _ _ c.hush.ensures);
-      contacts =
-          contacts-hushed (g.F.Front.seen c.take_turns-turns.new.front) (g.F.Front.seen c.hush.new.front) c.hush.ensures ∙ c.take_turns-turns.ensures.contacts;
-      hushed =
-          is-hushed (g.F.Front.seen c.take_turns-turns.new.front).told (g.F.Front.seen c.hush.new.front).told (ap (λ (f : FrontSeen). f.told) c.hush.ensures);
+          c.close_down.ensures.retires.acts.passes ∙ c.close_down.ensures.closes.acts.passes ∙ c.close_down.ensures.halts.passes ∙ over.passes;
+      stopped = has-stopped turns front mid hushed b d over.ends c.close_down.ensures c.hush.ensures;
+      follows = follows-trans _ _ _ over.follows (follows-hushed _ _ c.hush.ensures);
+      contacts = contacts-hushed mid hushed c.hush.ensures ∙ over.contacts;
+      hushed = is-hushed mid.told hushed.told (ap (λ (f : FrontSeen). f.told) c.hush.ensures);
       heeded =
-          let heeded = c.take_turns-turns.ensures.heeded in
-          heeds-hushed c.take_turns-turns.result (g.F.Front.seen c.take_turns-turns.new.front).told (g.F.Front.seen c.hush.new.front).told c.take_turns-turns.new.self.board.book.state.going c.close_down.new.board.book.state.going (ap (λ (f : FrontSeen). f.told) c.hush.ensures) c.take_turns-turns.ensures.up c.close_down.ensures.going heeded;
-      started =
-          λ opening none. let started = c.take_turns-turns.ensures.started in
-          let acts = c.close_down.ensures.retires.acts.folded ∙ c.close_down.ensures.closes.acts.folded ∙ c.close_down.ensures.halts.folded in
-          elim (started opening (ap (λ (f : Folded). f.entries) (sym acts) ∙ none)) [
-            | inl same ↦ inl (waits-hushed _ _ c.hush.ensures ∙ same)
-            | inr begins ↦
-                inr (begins-down _ c.take_turns-turns.result c.take_turns-turns.new.self.board.book c.close_down.ensures.halted c.close_down.ensures.closed c.close_down.new.board.book c.close_down.ensures.halts c.close_down.ensures.closes c.close_down.ensures.retires begins)
-          ];
-      watched =
-          λ began. let watched = c.take_turns-turns.ensures.watched in
-          watched-hushed (g.F.Front.seen c.take_turns-turns.new.front).told (g.F.Front.seen c.hush.new.front).told c.close_down.new.board.book (ap (λ (f : FrontSeen). f.told) c.hush.ensures)
-          (watched-as (g.F.Front.seen c.take_turns-turns.new.front).told c.take_turns-turns.new.self.board.book c.close_down.new.board.book
-          (nobody-down c.take_turns-turns.result c.take_turns-turns.new.self.board.book c.close_down.ensures.halted c.close_down.ensures.closed c.close_down.new.board.book c.close_down.ensures.halts c.close_down.ensures.closes c.close_down.ensures.retires) c.close_down.ensures.accepted (watched began));
+          heeds-hushed turns mid.told hushed.told b.state.going d.state.going (ap (λ (f : FrontSeen). f.told) c.hush.ensures) over.up c.close_down.ensures.going
+          over.heeded;
       links =
-          let step = c.take_turns-turns.ensures.step in
-          let links = c.take_turns-turns.ensures.links in
-          handed-out c.take_turns-turns.result (g.F.Front.seen c.take_turns-turns.new.front).told (g.F.Front.seen c.hush.new.front).told c.take_turns-turns.new.self.board.book.state c.close_down.new.board.book.state c.close_down.ensures.going c.close_down.ensures.accepted (ap (λ (f : FrontSeen). f.told) c.hush.ensures) step links;
-      clock =
-          c.take_turns-turns.ensures.clock;
-      time =
-          λ before. let time = c.take_turns-turns.ensures.time in
-          time-kept _ _ (g.C.Clock.told c.take_turns-turns.new.clock) (waits-hushed _ _ c.hush.ensures) (time before);
-      patient =
-          λ start. let patient = c.take_turns-turns.ensures.patient in
-          patience-down c.take_turns-turns.result (g.F.Front.seen c.take_turns-turns.new.front) (g.F.Front.seen c.hush.new.front) (g.C.Clock.told c.take_turns-turns.new.clock) c.take_turns-turns.new.self.board.book c.close_down.new.board.book c.close_down.ensures c.hush.ensures (patient start);
-      informed =
-          let informed = c.take_turns-turns.ensures.informed in
-          subst (λ (o : Option (List WaitTold)). WasInformed o (g.C.Clock.told c.take_turns-turns.new.clock) c.close_down.new.board.book) (sym (waits-hushed _ _ c.hush.ensures))
-          (was-informed c.take_turns-turns.result _ _ c.take_turns-turns.new.self.board.book c.close_down.new.board.book c.close_down.ensures informed);
+          handed-out turns mid.told hushed.told b.state d.state c.close_down.ensures.going c.close_down.ensures.accepted
+          (ap (λ (f : FrontSeen). f.told) c.hush.ensures) over.step over.links;
+      clock = over.clock;
+      time = λ before. time-kept _ _ (g.C.Clock.told c.take_turns-turns.new.clock) (waits-hushed _ _ c.hush.ensures) (over.time before);
     }
+
+pub returns-clause-counts : goal.returns-clause-counts
+returns-clause-counts g c =
+    let old = g.F.Front.seen c.args.front.now in
+    let now = g.F.Front.seen c.take_turns-turns.new.front in
+    let ends = c.take_turns-turns.ensures.over.ends in
+    subst (λ (x : FrontCounts). CountsToEnd old.counts x c.args.self.now.board.book c.close_down.new.board.book)
+    (sym (ap (λ (f : FrontSeen). f.counts) c.hush.ensures))
+    (counts-end c.take_turns-turns.result old.counts now.counts old now c.args.self.now.board.book c.take_turns-turns.new.self.board.book
+    c.close_down.new.board.book c.take_turns-turns.ensures.counts ends c.close_down.ensures)
+
+pub returns-clause-clock : goal.returns-clause-clock
+returns-clause-clock g c =
+    clock-down c.take_turns-turns.result (g.C.Clock.greatest c.args.clock.now) (g.C.Clock.greatest c.take_turns-turns.new.clock)
+    c.args.self.now.board.book c.take_turns-turns.new.self.board.book c.close_down.new.board.book c.take_turns-turns.ensures.clock c.close_down.ensures
+
+pub returns-clause-asked : goal.returns-clause-asked
+returns-clause-asked g c =
+    asks-as (g.F.Front.seen c.args.front.now).counts.wakes (g.F.Front.seen c.take_turns-turns.new.front).counts.wakes
+    (g.F.Front.seen c.hush.new.front).counts.wakes (g.C.Clock.asked c.args.clock.now) (g.C.Clock.asked c.take_turns-turns.new.clock)
+    (ap (λ (f : FrontSeen). f.counts.wakes) c.hush.ensures) c.take_turns-turns.ensures.asked

@@ -2,7 +2,7 @@ use Rattle.std.proofs.Common.{sym, ap, ◌∙◌}
 use Rattle.std.proofs.lemmas.Result.{on_err_weaker, on_ok_weaker}
 use Rattle.conn_machine.specs.declared.event.Refusal.TheVariants as refusal
 use Rattle.listener.specs.StandingInside.{standing}
-use Rattle.listener.proofs.RestartLemmas.{behind-as, breaks-as, carried-stands, cause-as, does-carried, does-refused, knows-as, knows-carried, knows-refused, late-stands, serves-either}
+use Rattle.listener.proofs.RestartLemmas.{behind-as, breaks-as, carried-stands, cause-as, does-carried, does-refused, in_time-carried, in_time-either, in_time-refused, knows-as, knows-carried, knows-refused, late-stands, makes-carried, makes-refused, orders-carried, orders-refused, serves-either}
 use Rattle.listener.proofs.listener_state.Listener.restart.Goals as goal
 
 pub returns-then-not-may_begin-clause-does : goal.returns-then-not-may_begin-clause-does
@@ -120,4 +120,82 @@ returns-in-Err-clause-knows g c =
     c.refuse-in-Err.new.self.board.book (ap (λ (l : _). l.config) c.refuse-in-Err.ensures.others)
     (knows-refused c.reason_for.result g.N.Known.known c.args.self.now.config (g.D.Store.seen c.args.store.now) (g.D.Store.seen c.reload.new.store)
     c.args.self.now.board.book c.refuse-in-Err.new.self.board.book refuses c.in-Err.ensures.store c.requires.knows))
+    c.refuse-in-Err.ensures.refuses
+
+pub returns-then-not-may_begin-clause-makes : goal.returns-then-not-may_begin-clause-makes
+returns-then-not-may_begin-clause-makes g c =
+    on_ok_weaker c.refuse.result (makes-refused refusal.Late c.args.self.now.board.book c.refuse.new.self.board.book) c.refuse.ensures.refuses
+
+pub returns-then-not-may_begin-clause-timely : goal.returns-then-not-may_begin-clause-timely
+returns-then-not-may_begin-clause-timely g c before =
+    let did =
+    in_time-either c.refuse.result c.args.self.now.board.book c.refuse.new.self.board.book c.refuse.ensures.refuses
+    (λ refuses. in_time-refused refusal.Late c.args.self.now.board.book c.refuse.new.self.board.book refuses c.show.ensures.after c.requires.in_time)
+    (on_err_weaker c.refuse.result (λ same. ap (λ (l : _). l.board.book) same) c.refuse.ensures.same) c.requires.in_time in
+    did.timely before
+
+pub returns-then-not-may_begin-clause-in_time : goal.returns-then-not-may_begin-clause-in_time
+returns-then-not-may_begin-clause-in_time g c =
+    let did =
+    in_time-either c.refuse.result c.args.self.now.board.book c.refuse.new.self.board.book c.refuse.ensures.refuses
+    (λ refuses. in_time-refused refusal.Late c.args.self.now.board.book c.refuse.new.self.board.book refuses c.show.ensures.after c.requires.in_time)
+    (on_err_weaker c.refuse.result (λ same. ap (λ (l : _). l.board.book) same) c.refuse.ensures.same) c.requires.in_time in
+    did.in_time
+
+pub returns-in-Ok-clause-makes : goal.returns-in-Ok-clause-makes
+returns-in-Ok-clause-makes g c =
+    on_ok_weaker c.begin.result
+    (makes-carried c.in-Ok.plan c.args.self.now.board.book c.begin.new.self.board.book c.args.self.now.edition c.begin.new.self.edition)
+    c.begin.ensures.carries
+
+pub returns-in-Ok-clause-timely : goal.returns-in-Ok-clause-timely
+returns-in-Ok-clause-timely g c before =
+    let did =
+    in_time-either c.begin.result c.args.self.now.board.book c.begin.new.self.board.book c.begin.ensures.carries
+    (λ carries. in_time-carried c.in-Ok.plan c.args.self.now.board.book c.begin.new.self.board.book c.args.self.now.edition c.begin.new.self.edition carries c.show.ensures.after c.requires.in_time)
+    (on_err_weaker c.begin.result (λ same. ap (λ (l : _). l.board.book) same) c.begin.ensures.same) c.requires.in_time in
+    did.timely before
+
+pub returns-in-Ok-clause-in_time : goal.returns-in-Ok-clause-in_time
+returns-in-Ok-clause-in_time g c =
+    let did =
+    in_time-either c.begin.result c.args.self.now.board.book c.begin.new.self.board.book c.begin.ensures.carries
+    (λ carries. in_time-carried c.in-Ok.plan c.args.self.now.board.book c.begin.new.self.board.book c.args.self.now.edition c.begin.new.self.edition carries c.show.ensures.after c.requires.in_time)
+    (on_err_weaker c.begin.result (λ same. ap (λ (l : _). l.board.book) same) c.begin.ensures.same) c.requires.in_time in
+    did.in_time
+
+pub returns-in-Err-clause-makes : goal.returns-in-Err-clause-makes
+returns-in-Err-clause-makes g c =
+    on_ok_weaker c.refuse-in-Err.result (makes-refused c.reason_for.result c.args.self.now.board.book c.refuse-in-Err.new.self.board.book)
+    c.refuse-in-Err.ensures.refuses
+
+pub returns-in-Err-clause-timely : goal.returns-in-Err-clause-timely
+returns-in-Err-clause-timely g c before =
+    let did =
+    in_time-either c.refuse-in-Err.result c.args.self.now.board.book c.refuse-in-Err.new.self.board.book c.refuse-in-Err.ensures.refuses
+    (λ refuses. in_time-refused c.reason_for.result c.args.self.now.board.book c.refuse-in-Err.new.self.board.book refuses c.show.ensures.after c.requires.in_time)
+    (on_err_weaker c.refuse-in-Err.result (λ same. ap (λ (l : _). l.board.book) same) c.refuse-in-Err.ensures.same) c.requires.in_time in
+    did.timely before
+
+pub returns-in-Err-clause-in_time : goal.returns-in-Err-clause-in_time
+returns-in-Err-clause-in_time g c =
+    let did =
+    in_time-either c.refuse-in-Err.result c.args.self.now.board.book c.refuse-in-Err.new.self.board.book c.refuse-in-Err.ensures.refuses
+    (λ refuses. in_time-refused c.reason_for.result c.args.self.now.board.book c.refuse-in-Err.new.self.board.book refuses c.show.ensures.after c.requires.in_time)
+    (on_err_weaker c.refuse-in-Err.result (λ same. ap (λ (l : _). l.board.book) same) c.refuse-in-Err.ensures.same) c.requires.in_time in
+    did.in_time
+
+pub returns-then-not-may_begin-clause-orders : goal.returns-then-not-may_begin-clause-orders
+returns-then-not-may_begin-clause-orders g c =
+    on_ok_weaker c.refuse.result (orders-refused refusal.Late c.args.self.now.board.book c.refuse.new.self.board.book) c.refuse.ensures.refuses
+
+pub returns-in-Ok-clause-orders : goal.returns-in-Ok-clause-orders
+returns-in-Ok-clause-orders g c =
+    on_ok_weaker c.begin.result
+    (orders-carried c.in-Ok.plan c.args.self.now.board.book c.begin.new.self.board.book c.args.self.now.edition c.begin.new.self.edition)
+    c.begin.ensures.carries
+
+pub returns-in-Err-clause-orders : goal.returns-in-Err-clause-orders
+returns-in-Err-clause-orders g c =
+    on_ok_weaker c.refuse-in-Err.result (orders-refused c.reason_for.result c.args.self.now.board.book c.refuse-in-Err.new.self.board.book)
     c.refuse-in-Err.ensures.refuses

@@ -1,15 +1,20 @@
 use Rattle.std.proofs.Common.{ℕ, ◌<◌, refl, sym, ap, subst, ◌∙◌, rules}
+use Rattle.mpm_base.specs.Front.{FrontCounts}
 use Rattle.conn_machine.specs.States.{is_halted}
+use Rattle.listener.specs.CountedInside.{CountsUntil}
 use Rattle.listener.specs.OrdersInside.{ServesNewest}
 use Rattle.listener.specs.RoundInside.{TakesUntil}
 use Rattle.rounds.specs.PartsInside.{way_of}
+use Rattle.listener.proofs.CountedLemmas.{alike-same, counts-alike, counts-lacking, counts-more, counts-same, counts-taken, counts-unbroken, counts-until, same-unhanded}
 use Rattle.listener.proofs.EditionLemmas.{newest-acts}
 use Rattle.listener.proofs.FrontLemmas.{alike-mapped, arrives-next, follows-accept, follows-same, follows-trans, handed-known, handed-tells, named-follows, step-none, step-taken, takes-accept, takes-same, takes-trans}
 use Rattle.listener.proofs.LinkLemmas.{hands-ended}
 use Rattle.rounds.proofs.ActLemmas.{on-err}
 use Rattle.listener.proofs.RoundLemmas.{takes-more, takes-none}
 use Rattle.listener.proofs.TakenLemmas.{took-none}
-use Rattle.listener.proofs.WatchLemmas.{watched-accept}
+use Rattle.listener.proofs.HandedLemmas.{counts-link, counts-none, handed-cut, handed-more, handed-start, handed-still}
+use Rattle.listener.proofs.WatchLemmas.{watched-accept, watched-both}
+use Rattle.rounds.proofs.TimelyLemmas.{stays-none}
 use Rattle.listener.proofs.listener_state.Listener.take_all.Goals as goal
 
 pub loop-init : goal.loop-init
@@ -20,9 +25,15 @@ loop-init g c =
       newest = refl;
       moment = refl;
       step = c.requires.step;
+      counts = counts-same (g.F.Front.seen c.args.front.now).counts c.args.self.now.board.book;
+      wakes = refl;
       follows = follows-same _;
       front = takes-same _;
-      watched = λ before. before;
+      watched = λ past before. before;
+      handed = handed-start _ c.args.self.now.board.book;
+      timely = stays-none c.args.self.now.board.book;
+      children = refl;
+      in_time = λ soon. soon;
       edition = refl;
       ready = refl;
       config = refl;
@@ -83,6 +94,13 @@ loop-preserved g c =
           c.in_ok-take-in-Some-accept.ensures.step
           (step-taken c.in-Some-accept.link (g.F.Front.seen c.loop.front).told (g.F.Front.seen c.accept.new.self).told c.loop.self.board.book.state
           c.take.new.self.board.book.state c.in-Some-accept.ensures.accepts.told_is c.in_ok-take-in-Some-accept.ensures.taken c.take.ensures.going before.step);
+      counts =
+          counts-more 0 (g.F.Front.seen c.args.front.now).counts (g.F.Front.seen c.loop.front).counts (g.F.Front.seen c.take.new.front).counts c.args.self.now.board.book c.loop.self.board.book
+          c.take.new.self.board.book before.counts
+          (counts-taken g.L.Link.seen (g.F.Front.seen c.loop.front) (g.F.Front.seen c.accept.new.self) c.in-Some-accept.link
+          c.in-Some-accept.ensures.accepts c.loop.self.board.book c.take.new.self.board.book (g.F.Front.seen c.take.new.front).counts c.take.ensures.counts c.take.ensures.orders
+          c.take.ensures.going c.in_ok-take-in-Some-accept.ensures.taken);
+      wakes = ap (λ (x : FrontCounts). x.wakes) c.take.ensures.counts ∙ c.in-Some-accept.ensures.accepts.wakes ∙ before.wakes;
       follows =
           follows-trans _ _ _ before.follows
           (follows-trans _ _ _ (follows-accept g.L.Link.seen _ _ _ c.accept.ensures.accepts)
@@ -91,7 +109,15 @@ loop-preserved g c =
           takes-trans _ _ _ before.front
           (takes-trans _ _ _ (takes-accept _ _ _ c.accept.ensures.accepts.told_is) c.take.ensures.front);
       watched =
-          λ first. c.take.ensures.watched (watched-accept _ _ _ _ c.accept.ensures.accepts.told_is (before.watched first));
+          watched-both _ _ _ c.args.self.now.board.book c.loop.self.board.book c.take.new.self.board.book before.watched
+          (watched-both _ _ _ c.loop.self.board.book c.loop.self.board.book c.take.new.self.board.book
+          (watched-accept _ _ _ c.loop.self.board.book c.accept.ensures.accepts.told_is) c.take.ensures.watched);
+      handed =
+          handed-more _ _ _ _ c.args.self.now.board.book c.loop.self.board.book c.take.new.self.board.book before.handed
+          (counts-link c.in-Some-accept.link _ _ c.accept.ensures.accepts.told_is) c.take.ensures.handed c.in_ok-take-in-Some-accept.ensures.makes;
+      timely = λ first. c.take.ensures.timely (before.timely first);
+      children = c.take.ensures.children ∙ before.children;
+      in_time = λ soon. c.take.ensures.in_time (before.in_time soon);
       edition = c.take.ensures.edition ∙ before.edition;
       ready = c.take.ensures.ready ∙ before.ready;
       config = c.take.ensures.config ∙ before.config;
@@ -162,11 +188,27 @@ returns-in-None-accept g c =
       taken =
           took-none g.L.Link.seen (g.F.Front.seen c.loop.front) (g.F.Front.seen c.accept.new.self) c.accept.result
           c.loop.self.board.book.state c.in-None-accept.is c.accept.ensures.accepts;
+      counts =
+          counts-more 0 (g.F.Front.seen c.args.front.now).counts (g.F.Front.seen c.loop.front).counts (g.F.Front.seen c.accept.new.self).counts c.args.self.now.board.book c.loop.self.board.book c.loop.self.board.book
+          before.counts
+          (counts-alike (g.F.Front.seen c.loop.front).counts (g.F.Front.seen c.accept.new.self).counts c.loop.self.board.book c.loop.self.board.book
+          (same-unhanded g.L.Link.seen (g.F.Front.seen c.loop.front) (g.F.Front.seen c.accept.new.self) c.accept.result c.in-None-accept.is
+          c.accept.ensures.accepts) (alike-same c.loop.self.board.book c.loop.self.board.book refl));
+      wakes = c.accept.ensures.accepts.wakes ∙ before.wakes;
       follows =
           follows-trans _ _ _ before.follows
           (follows-accept g.L.Link.seen _ _ _ c.accept.ensures.accepts);
       front = takes-trans _ _ _ before.front (takes-accept _ _ _ c.accept.ensures.accepts.told_is);
-      watched = λ first. watched-accept _ _ _ _ c.accept.ensures.accepts.told_is (before.watched first);
+      watched =
+          watched-both _ _ _ c.args.self.now.board.book c.loop.self.board.book c.loop.self.board.book before.watched
+          (watched-accept _ _ _ c.loop.self.board.book c.accept.ensures.accepts.told_is);
+      handed =
+          handed-still 0 _ _ _ c.args.self.now.board.book c.loop.self.board.book before.handed
+          (counts-none c.accept.result _ _ c.in-None-accept.is c.accept.ensures.accepts.told_is);
+      cut = tt;
+      timely = before.timely;
+      children = before.children;
+      in_time = before.in_time;
       links = tt;
       edition = before.edition;
       ready = before.ready;
@@ -176,8 +218,24 @@ returns-in-None-accept g c =
 
 pub returns-in_err-take-in-Some-accept-clause-watched : goal.returns-in_err-take-in-Some-accept-clause-watched
 returns-in_err-take-in-Some-accept-clause-watched g c =
-    let before = c.loop.invariant.watched in
-    λ first. c.take.ensures.watched (watched-accept _ _ _ _ c.accept.ensures.accepts.told_is (before first))
+    watched-both _ _ _ c.args.self.now.board.book c.loop.self.board.book c.take.new.self.board.book c.loop.invariant.watched
+    (watched-both _ _ _ c.loop.self.board.book c.loop.self.board.book c.take.new.self.board.book
+    (watched-accept _ _ _ c.loop.self.board.book c.accept.ensures.accepts.told_is) c.take.ensures.watched)
+
+pub returns-in_err-take-in-Some-accept-clause-cut : goal.returns-in_err-take-in-Some-accept-clause-cut
+returns-in_err-take-in-Some-accept-clause-cut g c =
+    on-err c.from_residual.result _
+    (handed-cut _ _ _ _ c.args.self.now.board.book c.loop.self.board.book c.take.new.self.board.book c.loop.invariant.handed
+    (counts-link c.in-Some-accept.link _ _ c.accept.ensures.accepts.told_is) c.take.ensures.handed c.in_err-take-in-Some-accept.ensures.made)
+
+pub returns-in_err-take-in-Some-accept-clause-timely : goal.returns-in_err-take-in-Some-accept-clause-timely
+returns-in_err-take-in-Some-accept-clause-timely g c first = c.take.ensures.timely (c.loop.invariant.timely first)
+
+pub returns-in_err-take-in-Some-accept-clause-children : goal.returns-in_err-take-in-Some-accept-clause-children
+returns-in_err-take-in-Some-accept-clause-children g c = c.take.ensures.children ∙ c.loop.invariant.children
+
+pub returns-in_err-take-in-Some-accept-clause-in_time : goal.returns-in_err-take-in-Some-accept-clause-in_time
+returns-in_err-take-in-Some-accept-clause-in_time g c soon = c.take.ensures.in_time (c.loop.invariant.in_time soon)
 
 pub returns-in_err-take-in-Some-accept-clause-links : goal.returns-in_err-take-in-Some-accept-clause-links
 returns-in_err-take-in-Some-accept-clause-links g c =
@@ -186,3 +244,21 @@ returns-in_err-take-in-Some-accept-clause-links g c =
     (hands-ended c.in-Some-accept.link (g.L.Link.seen c.in-Some-accept.link).told (g.F.Front.seen c.loop.front).told (g.F.Front.seen c.accept.new.self).told
     (g.F.Front.seen c.take.new.front).told c.loop.self.board.book.state c.loop.self.board.book.state c.take.new.self.board.book.state
     c.in-Some-accept.ensures.accepts.hands.1 step c.in-Some-accept.ensures.accepts.told_is refl c.take.ensures.going c.in_err-take-in-Some-accept.ensures.links)
+
+pub returns-in_err-take-in-Some-accept-clause-counts : goal.returns-in_err-take-in-Some-accept-clause-counts
+returns-in_err-take-in-Some-accept-clause-counts g c =
+    let until : CountsUntil (g.F.Front.seen c.args.front.now).counts (g.F.Front.seen c.take.new.front).counts c.args.self.now.board.book c.take.new.self.board.book =
+    counts-until (g.F.Front.seen c.args.front.now).counts (g.F.Front.seen c.loop.front).counts (g.F.Front.seen c.take.new.front).counts c.args.self.now.board.book c.loop.self.board.book
+    c.take.new.self.board.book c.loop.invariant.counts
+    (counts-lacking g.L.Link.seen (g.F.Front.seen c.loop.front) (g.F.Front.seen c.accept.new.self) c.in-Some-accept.link
+    c.in-Some-accept.ensures.accepts c.loop.self.board.book c.take.new.self.board.book (g.F.Front.seen c.take.new.front).counts c.take.ensures.counts c.take.ensures.orders
+    c.take.ensures.going c.in_err-take-in-Some-accept.ensures.lacks) in
+    search (rules, until)
+
+pub returns-in_default-clause-counts : goal.returns-in_default-clause-counts
+returns-in_default-clause-counts g c =
+    counts-unbroken (g.F.Front.seen c.args.front.now).counts (g.F.Front.seen c.loop.front).counts c.args.self.now.board.book c.loop.self.board.book c.loop.invariant.counts
+
+pub returns-in_err-take-in-Some-accept-clause-wakes : goal.returns-in_err-take-in-Some-accept-clause-wakes
+returns-in_err-take-in-Some-accept-clause-wakes g c =
+    ap (λ (x : FrontCounts). x.wakes) c.take.ensures.counts ∙ c.in-Some-accept.ensures.accepts.wakes ∙ c.loop.invariant.wakes

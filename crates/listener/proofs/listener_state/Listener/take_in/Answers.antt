@@ -1,20 +1,30 @@
-use Rattle.std.proofs.Common.{ℕ, ◌<◌, List, None, true, false, inl, inr, ap, refl, sym, subst, ◌∙◌, rules}
+use Rattle.std.proofs.Common.{◌≡◌, ℕ, ◌<◌, [], ◌∙◌, Bool, List, None, true, false, inl, inr, ap, refl, sym, subst, rules}
 use Rattle.conn_machine.specs.States.{is_halted}
 use Rattle.worker_group.specs.Acts.{Acts}
 use Rattle.rounds.specs.ClosingInside.{IsLateWay}
-use Rattle.listener.specs.OrdersInside.{KnowsComing, ServesNewest}
+use Rattle.listener.specs.CountedInside.{CountsOn, CountsUntil}
+use Rattle.listener.specs.OrdersInside.{KnowsComing, ServesNewest, owed_by}
 use Rattle.listener.specs.RoundInside.{BreaksOff}
-use Rattle.rounds.specs.PartsInside.{SignalsFirst, signal_events}
+use Rattle.rounds.specs.PartsInside.{SignalsFirst, StaysTimely, signal_events}
+use Rattle.rounds.specs.Timely.{is_staffed}
+use Rattle.listener.specs.ShareInside.{CutsShare, DoesAsked, stop_if}
 use Rattle.listener.specs.StandingInside.{StandsBroken, standing}
 use Rattle.rounds.specs.Moments.{moment_for}
 use Rattle.listener.specs.declared.edition.LoadedEdition.{LoadedEdition}
 use Rattle.listener.specs.declared.edition.NamedConfig.{NamedConfig}
 use Rattle.listener.proofs.CommandLemmas.{all-read, heeded-takes}
+use Rattle.listener.proofs.CountedEndLemmas.{counts-orderless, moment-passed, moment-stays}
+use Rattle.listener.proofs.CountedLemmas.{counts-more, counts-unbroken, counts-until}
 use Rattle.listener.proofs.FrontLemmas.{both-only, follows-same, follows-trans, listens-takes, named-follows, only-reads, only-takes, step-kept, step-listens, takes-same}
 use Rattle.listener.proofs.LinkLemmas.{hands-step}
 use Rattle.listener.proofs.PartLemmas.{coming-orderless, newest-orderless, orderless-before, orderless-children, orderless-first, orderless-gone, orderless-more, orderless-retires, orderless-signals, orderless-takes, orderless-takes_until, orderless-time, orderless-until}
-use Rattle.listener.proofs.RoundLemmas.{breaks-behind, breaks-early, does-none, ends-idle, goes-round, lets-go-none, signals-all, takes-none}
+use Rattle.listener.proofs.RoundLemmas.{breaks-behind, breaks-early, does-none, ends-asked, ends-gone, ends-idle, goes-round, lets-go-none, signals-all, takes-none}
+use Rattle.listener.proofs.IntakeLemmas.{end-same, staffed-same, stands-within}
+use Rattle.listener.proofs.RoundShareLemmas.{begins, cuts-asked, cuts-lets, cuts-signals, cuts-started, cuts-taken, cuts-time, hushes-still, hushes-takes, makes-asked, makes-gone, makes-overdue, makes-round}
 use Rattle.rounds.proofs.ActLemmas.{on-err, retires-none, starts-none}
+use Rattle.rounds.proofs.DueLemmas.{soon-none}
+use Rattle.rounds.proofs.StaffLemmas.{children-kept, due-kept, rows-moved}
+use Rattle.rounds.proofs.TimelyLemmas.{not-at_end, still-in_time}
 use Rattle.listener.proofs.StandingLemmas.{lines-taken, same-lines}
 use Rattle.listener.proofs.StandingPartLemmas.{broken-after, broken-orderless, broken-orders, stands-behind, stands-orderless, stands-orders}
 use Rattle.listener.proofs.WatchLemmas.{nobody-acts, nobody-before-orders, nobody-gone, nobody-let_go_until, nobody-more, nobody-passed, nobody-retired, nobody-signalled, nobody-started, none-signals, watched-as}
@@ -32,6 +42,18 @@ pub pass_time-requires-clause-up : goal.pass_time-requires-clause-up
 pass_time-requires-clause-up g c =
     c.requires.up
 
+pub pass_time-requires-clause-in_time : goal.pass_time-requires-clause-in_time
+pass_time-requires-clause-in_time g c =
+    c.requires.in_time
+
+pub signal_all-requires-clause-within : goal.signal_all-requires-clause-within
+signal_all-requires-clause-within g c =
+    sym c.is_overdue.ensures ∙ c.if-is_overdue.false
+
+pub signal_all-requires-clause-staffed : goal.signal_all-requires-clause-staffed
+signal_all-requires-clause-staffed g c =
+    c.pass_time.ensures.staffed
+
 pub signal_all-requires-clause-passes : goal.signal_all-requires-clause-passes
 signal_all-requires-clause-passes g c =
     subst (λ (n : ℕ). 0 < n) (sym (c.in_ok-pass_time.ensures.passes.acts.passes)) c.requires.passes
@@ -47,6 +69,16 @@ let_go_of_conns-requires-clause-passes g c =
 pub let_go_of_conns-requires-clause-free : goal.let_go_of_conns-requires-clause-free
 let_go_of_conns-requires-clause-free g c =
     c.in_ok-signal_all.ensures.signals.row
+
+pub let_go_of_conns-requires-clause-staffed : goal.let_go_of_conns-requires-clause-staffed
+let_go_of_conns-requires-clause-staffed g c =
+    staffed-same c.pass_time.new.board.book.state c.signal_all.new.board.book.state c.signal_all.ensures.children c.pass_time.ensures.staffed
+
+pub heed-requires-clause-in_time : goal.heed-requires-clause-in_time
+heed-requires-clause-in_time g c κs within =
+    stands-within c.pass_time.new.board.book.state c.let_go_of_conns.new.board.book.state
+    (c.let_go_of_conns.ensures.rest.moment ∙ c.signal_all.ensures.rest.moment) (c.let_go_of_conns.ensures.rest.going ∙ c.signal_all.ensures.rest.going)
+    (sym c.is_overdue.ensures ∙ c.if-is_overdue.false) c.let_go_of_conns.ensures.staffed
 
 pub heed-requires-clause-passes : goal.heed-requires-clause-passes
 heed-requires-clause-passes g c κs within =
@@ -121,28 +153,49 @@ take_all-requires-clause-step g c κs within =
 
 pub returns-in_err-pass_time : goal.returns-in_err-pass_time
 returns-in_err-pass_time g c =
+    let known = g.N.Known.known in
+    let config = c.args.self.now.config in
+    let slots = c.args.self.now.ready in
+    let now = g.F.Front.seen c.args.front.now in
+    let store = g.D.Store.seen c.args.store.now in
+    let a = c.args.self.now.board.book in
+    let b = c.pass_time.new.board.book in
     record {
       round = search rules;
       broken =
-          let broken : BreaksOff c.in_err-pass_time.field-0.0 (moment_for c.args.moment) c.args.self.now.ready c.args.self.now.board.book c.pass_time.new.board.book =
-          breaks-early c.in_err-pass_time.field-0.0 (moment_for c.args.moment) c.args.self.now.ready c.args.self.now.board.book c.pass_time.new.board.book c.in_err-pass_time.ensures.refused c.in_err-pass_time.ensures.why in
+          let broken : BreaksOff c.in_err-pass_time.field-0.0 (moment_for c.args.moment) slots a b =
+          breaks-early c.in_err-pass_time.field-0.0 (moment_for c.args.moment) slots a b c.in_err-pass_time.ensures.refused c.in_err-pass_time.ensures.why in
           search (rules, broken);
+      share =
+          let cut : CutsShare c.args.moment slots now.told now.told a b =
+          cuts-time c.args.moment slots now.told a b c.in_err-pass_time.ensures.refused in
+          search (rules, cut);
+      hushes = search rules;
+      timely = c.pass_time.ensures.timely;
+      goes_on = search rules;
+      before = on-err c.from_residual.result _ (not-at_end b.state c.pass_time.ensures.staffed);
       stands =
-          let broken : StandsBroken g.N.Known.known c.args.self.now.config (standing c.args.self.now.edition.stop_ms (g.D.Store.seen c.args.store.now) (g.F.Front.seen c.args.front.now) c.args.self.now.board.book) (standing c.args.self.now.edition.stop_ms (g.D.Store.seen c.args.store.now) (g.F.Front.seen c.args.front.now) c.pass_time.new.board.book) =
-          broken-orderless g.N.Known.known c.args.self.now.config c.args.self.now.edition.stop_ms (g.D.Store.seen c.args.store.now) (g.F.Front.seen c.args.front.now) c.args.self.now.board.book c.pass_time.new.board.book (orderless-gone c.args.self.now.board.book c.pass_time.new.board.book c.in_err-pass_time.ensures.refused) c.pass_time.ensures.going in
+          let broken : StandsBroken known config (standing c.args.self.now.edition.stop_ms store now a) (standing c.args.self.now.edition.stop_ms store now b) =
+          broken-orderless known config c.args.self.now.edition.stop_ms store now a b (orderless-gone a b c.in_err-pass_time.ensures.refused) c.pass_time.ensures.going in
           search (rules, broken);
       knows = search rules;
       serves = search rules;
       up = ap is_halted (c.pass_time.ensures.going) ∙ c.requires.up;
       moment = search rules;
+      stays = on-err c.from_residual.result _ (moment-stays c.args.self.now.board.book.state c.pass_time.new.board.book.state (moment_for c.args.moment) (c.in_err-pass_time.ensures.stays));
+      counts =
+          let until : CountsUntil now.counts now.counts a b =
+          counts-unbroken now.counts now.counts a b (counts-orderless now.counts now.counts a b refl (orderless-gone a b c.in_err-pass_time.ensures.refused) c.pass_time.ensures.going c.pass_time.ensures.taken) in
+          search (rules, until);
+      wakes = refl;
       step = search rules;
       ends = search rules;
       unheeded = on-err c.from_residual.result _ c.requires.heeded;
-      follows = follows-same (g.F.Front.seen c.args.front.now);
-      front = only-takes (g.F.Front.seen c.args.front.now).told (g.F.Front.seen c.args.front.now).told (takes-same (g.F.Front.seen c.args.front.now).told);
-      watched = λ before. watched-as (g.F.Front.seen c.args.front.now).told c.args.self.now.board.book c.pass_time.new.board.book (nobody-gone IsLateWay c.args.self.now.board.book c.pass_time.new.board.book c.in_err-pass_time.ensures.refused) c.pass_time.ensures.taken before;
-      listens = step-listens (g.F.Front.seen c.args.front.now).told c.pass_time.new.board.book.state (step-kept (g.F.Front.seen c.args.front.now).told c.args.self.now.board.book.state c.pass_time.new.board.book.state (c.pass_time.ensures.taken) (c.pass_time.ensures.going) c.requires.step);
-      links = on-err c.from_residual.result _ (hands-step (g.F.Front.seen c.args.front.now).told c.pass_time.new.board.book.state (step-kept (g.F.Front.seen c.args.front.now).told c.args.self.now.board.book.state c.pass_time.new.board.book.state (c.pass_time.ensures.taken) (c.pass_time.ensures.going) c.requires.step));
+      follows = follows-same now;
+      front = only-takes now.told now.told (takes-same now.told);
+      watched = λ past before. watched-as now.told a b (nobody-gone IsLateWay a b c.in_err-pass_time.ensures.refused) c.pass_time.ensures.taken past before;
+      listens = step-listens now.told b.state (step-kept now.told a.state b.state (c.pass_time.ensures.taken) (c.pass_time.ensures.going) c.requires.step);
+      links = on-err c.from_residual.result _ (hands-step now.told b.state (step-kept now.told a.state b.state (c.pass_time.ensures.taken) (c.pass_time.ensures.going) c.requires.step));
       ready = search rules;
       config = search rules;
       err = search rules;
@@ -150,21 +203,36 @@ returns-in_err-pass_time g c =
 
 pub returns-then-is_overdue : goal.returns-then-is_overdue
 returns-then-is_overdue g c =
+    let known = g.N.Known.known in
+    let config = c.args.self.now.config in
+    let slots = c.args.self.now.ready in
+    let now = g.F.Front.seen c.args.front.now in
+    let store = g.D.Store.seen c.args.store.now in
+    let a = c.args.self.now.board.book in
+    let b = c.pass_time.new.board.book in
     record {
       round = c.in_ok-pass_time.ensures.passes;
       broken = search rules;
-      stands = stands-orderless g.N.Known.known c.args.self.now.config c.args.self.now.edition.stop_ms (g.D.Store.seen c.args.store.now) (g.F.Front.seen c.args.front.now) c.args.self.now.board.book c.pass_time.new.board.book (orderless-time (moment_for c.args.moment) c.args.self.now.board.book c.pass_time.new.board.book c.in_ok-pass_time.ensures.passes) c.pass_time.ensures.going;
-      knows = coming-orderless g.N.Known.known c.args.self.now.board.book c.pass_time.new.board.book c.args.self.now.config (g.D.Store.seen c.args.store.now).told (orderless-time (moment_for c.args.moment) c.args.self.now.board.book c.pass_time.new.board.book c.in_ok-pass_time.ensures.passes) c.requires.knows;
-      serves = newest-orderless c.generations_keep_their_editions.ensures g.N.Known.known c.args.self.now.board.book c.pass_time.new.board.book c.args.self.now.edition (orderless-time (moment_for c.args.moment) c.args.self.now.board.book c.pass_time.new.board.book c.in_ok-pass_time.ensures.passes) c.pass_time.ensures.newest c.requires.serves;
+      share = makes-overdue c.args.moment slots now.told a b c.in_ok-pass_time.ensures.passes;
+      hushes = hushes-still now.told;
+      timely = c.pass_time.ensures.timely;
+      goes_on = not-at_end b.state c.pass_time.ensures.staffed;
+      before = search rules;
+      stands = stands-orderless known config c.args.self.now.edition.stop_ms store now a b (orderless-time (moment_for c.args.moment) a b c.in_ok-pass_time.ensures.passes) c.pass_time.ensures.going;
+      knows = coming-orderless known a b config store.told (orderless-time (moment_for c.args.moment) a b c.in_ok-pass_time.ensures.passes) c.requires.knows;
+      serves = newest-orderless c.generations_keep_their_editions.ensures known a b c.args.self.now.edition (orderless-time (moment_for c.args.moment) a b c.in_ok-pass_time.ensures.passes) c.pass_time.ensures.newest c.requires.serves;
       up = ap is_halted (c.pass_time.ensures.going) ∙ c.requires.up;
       moment = search rules;
-      step = (step-kept (g.F.Front.seen c.args.front.now).told c.args.self.now.board.book.state c.pass_time.new.board.book.state (c.pass_time.ensures.taken) (c.pass_time.ensures.going) c.requires.step);
+      stays = search rules;
+      counts = (counts-orderless now.counts now.counts a b refl (orderless-time (moment_for c.args.moment) a b c.in_ok-pass_time.ensures.passes) c.pass_time.ensures.going c.pass_time.ensures.taken);
+      wakes = refl;
+      step = (step-kept now.told a.state b.state (c.pass_time.ensures.taken) (c.pass_time.ensures.going) c.requires.step);
       ends = (sym c.is_overdue.ensures ∙ c.if-is_overdue.true, c.requires.heeded);
       unheeded = search rules;
-      follows = follows-same (g.F.Front.seen c.args.front.now);
-      front = only-takes (g.F.Front.seen c.args.front.now).told (g.F.Front.seen c.args.front.now).told (takes-same (g.F.Front.seen c.args.front.now).told);
-      watched = λ before. watched-as (g.F.Front.seen c.args.front.now).told c.args.self.now.board.book c.pass_time.new.board.book (nobody-passed (moment_for c.args.moment) c.args.self.now.board.book c.pass_time.new.board.book c.in_ok-pass_time.ensures.passes) c.pass_time.ensures.taken before;
-      listens = step-listens (g.F.Front.seen c.args.front.now).told c.pass_time.new.board.book.state (step-kept (g.F.Front.seen c.args.front.now).told c.args.self.now.board.book.state c.pass_time.new.board.book.state (c.pass_time.ensures.taken) (c.pass_time.ensures.going) c.requires.step);
+      follows = follows-same now;
+      front = only-takes now.told now.told (takes-same now.told);
+      watched = λ past before. watched-as now.told a b (nobody-passed (moment_for c.args.moment) a b c.in_ok-pass_time.ensures.passes) c.pass_time.ensures.taken past before;
+      listens = step-listens now.told b.state (step-kept now.told a.state b.state (c.pass_time.ensures.taken) (c.pass_time.ensures.going) c.requires.step);
       links = search rules;
       ready = search rules;
       config = search rules;
@@ -173,34 +241,58 @@ returns-then-is_overdue g c =
 
 pub returns-in_err-signal_all : goal.returns-in_err-signal_all
 returns-in_err-signal_all g c =
+    let known = g.N.Known.known in
+    let config = c.args.self.now.config in
+    let steps = c.passes_act_in_steps.ensures.acts in
+    let slots = c.args.self.now.ready in
+    let now = g.F.Front.seen c.args.front.now in
+    let store = g.D.Store.seen c.args.store.now in
+    let a = c.args.self.now.board.book in
+    let b = c.pass_time.new.board.book in
+    let s = c.signal_all.new.board.book in
     record {
       round = search rules;
       broken =
-          let broken : BreaksOff c.in_err-signal_all.field-0.0 (moment_for c.args.moment) c.args.self.now.ready c.args.self.now.board.book c.signal_all.new.board.book =
-          breaks-behind c.passes_act_in_steps.ensures.acts c.in_err-signal_all.field-0.0 (moment_for c.args.moment) c.args.self.now.ready c.args.self.now.board.book c.pass_time.new.board.book c.signal_all.new.board.book c.signal_all.new.board.book c.signal_all.new.board.book c.signal_all.new.board.book c.signal_all.new.board.book c.signal_all.new.board.book c.signal_all.new.board.book
-          c.in_ok-pass_time.ensures.passes (subst (λ (xs : List ℕ). SignalsFirst xs c.pass_time.new.board.book c.signal_all.new.board.book) c.slots.ensures.is c.in_err-signal_all.ensures.first)
-          (lets-go-none c.passes_act_in_steps.ensures.acts c.signal_all.new.board.book c.in_err-signal_all.ensures.first.acts.row) (does-none c.passes_act_in_steps.ensures.acts c.signal_all.new.board.book c.in_err-signal_all.ensures.first.acts.row) (retires-none c.passes_act_in_steps.ensures.acts c.signal_all.new.board.book c.in_err-signal_all.ensures.first.acts.row) (starts-none c.passes_act_in_steps.ensures.acts c.signal_all.new.board.book c.in_err-signal_all.ensures.first.acts.row) (takes-none c.passes_act_in_steps.ensures.acts c.signal_all.new.board.book c.in_err-signal_all.ensures.first.acts.row) (ends-idle c.in_err-signal_all.field-0.0 c.signal_all.new.board.book c.in_err-signal_all.ensures.why) in
+          let broken : BreaksOff c.in_err-signal_all.field-0.0 (moment_for c.args.moment) slots a s =
+          breaks-behind steps c.in_err-signal_all.field-0.0 (moment_for c.args.moment) slots a b s s s s s s s
+          c.in_ok-pass_time.ensures.passes (subst (λ (xs : List ℕ). SignalsFirst xs b s) c.slots.ensures.is c.in_err-signal_all.ensures.first)
+          (lets-go-none steps s c.in_err-signal_all.ensures.first.acts.row) (does-none steps s c.in_err-signal_all.ensures.first.acts.row) (retires-none steps s c.in_err-signal_all.ensures.first.acts.row) (starts-none steps s c.in_err-signal_all.ensures.first.acts.row) (takes-none steps s c.in_err-signal_all.ensures.first.acts.row) (ends-idle c.in_err-signal_all.field-0.0 s c.in_err-signal_all.ensures.why) in
           search (rules, broken);
+      share =
+          let cut : CutsShare c.args.moment slots now.told now.told a s =
+          cuts-signals c.args.moment slots now.told a b s c.in_ok-pass_time.ensures.passes
+          (subst (λ (xs : List ℕ). SignalsFirst xs b s) c.slots.ensures.is c.in_err-signal_all.ensures.first) in
+          search (rules, cut);
+      hushes = search rules;
+      timely = λ first. c.signal_all.ensures.timely (c.pass_time.ensures.timely first);
+      goes_on = search rules;
+      before = on-err c.from_residual-in_err-signal_all.result _ (not-at_end s.state (staffed-same b.state s.state c.signal_all.ensures.children c.pass_time.ensures.staffed));
       stands =
-          let broken : StandsBroken g.N.Known.known c.args.self.now.config (standing c.args.self.now.edition.stop_ms (g.D.Store.seen c.args.store.now) (g.F.Front.seen c.args.front.now) c.args.self.now.board.book) (standing c.args.self.now.edition.stop_ms (g.D.Store.seen c.args.store.now) (g.F.Front.seen c.args.front.now) c.signal_all.new.board.book) =
-          broken-orderless g.N.Known.known c.args.self.now.config c.args.self.now.edition.stop_ms (g.D.Store.seen c.args.store.now) (g.F.Front.seen c.args.front.now) c.args.self.now.board.book c.signal_all.new.board.book
-          (orderless-more c.passes_act_in_steps.ensures.acts c.args.self.now.board.book c.pass_time.new.board.book c.signal_all.new.board.book (orderless-time (moment_for c.args.moment) c.args.self.now.board.book c.pass_time.new.board.book c.in_ok-pass_time.ensures.passes) (orderless-first c.args.self.now.ready c.pass_time.new.board.book c.signal_all.new.board.book (subst (λ (xs : List ℕ). SignalsFirst xs c.pass_time.new.board.book c.signal_all.new.board.book) c.slots.ensures.is c.in_err-signal_all.ensures.first))) (c.signal_all.ensures.rest.going ∙ c.pass_time.ensures.going) in
+          let broken : StandsBroken known config (standing c.args.self.now.edition.stop_ms store now a) (standing c.args.self.now.edition.stop_ms store now s) =
+          broken-orderless known config c.args.self.now.edition.stop_ms store now a s
+          (orderless-more steps a b s (orderless-time (moment_for c.args.moment) a b c.in_ok-pass_time.ensures.passes) (orderless-first slots b s (subst (λ (xs : List ℕ). SignalsFirst xs b s) c.slots.ensures.is c.in_err-signal_all.ensures.first))) (c.signal_all.ensures.rest.going ∙ c.pass_time.ensures.going) in
           search (rules, broken);
       knows = search rules;
       serves = search rules;
       up = ap is_halted (c.signal_all.ensures.rest.going ∙ c.pass_time.ensures.going) ∙ c.requires.up;
       moment = search rules;
+      stays = on-err c.from_residual-in_err-signal_all.result _ (moment-passed c.args.self.now.board.book.state c.signal_all.new.board.book.state (moment_for c.args.moment) (c.signal_all.ensures.rest.moment ∙ c.in_ok-pass_time.ensures.moment));
+      counts =
+          let until : CountsUntil now.counts now.counts a s =
+          counts-unbroken now.counts now.counts a s (counts-orderless now.counts now.counts a s refl (orderless-more steps a b s (orderless-time (moment_for c.args.moment) a b c.in_ok-pass_time.ensures.passes) (orderless-first slots b s (subst (λ (xs : List ℕ). SignalsFirst xs b s) c.slots.ensures.is c.in_err-signal_all.ensures.first))) (c.signal_all.ensures.rest.going ∙ c.pass_time.ensures.going) (c.signal_all.ensures.rest.accepted ∙ c.pass_time.ensures.taken)) in
+          search (rules, until);
+      wakes = refl;
       step = search rules;
       ends = search rules;
       unheeded = on-err c.from_residual-in_err-signal_all.result _ c.requires.heeded;
-      follows = follows-same (g.F.Front.seen c.args.front.now);
-      front = only-takes (g.F.Front.seen c.args.front.now).told (g.F.Front.seen c.args.front.now).told (takes-same (g.F.Front.seen c.args.front.now).told);
+      follows = follows-same now;
+      front = only-takes now.told now.told (takes-same now.told);
       watched =
-          λ before. watched-as (g.F.Front.seen c.args.front.now).told c.args.self.now.board.book c.signal_all.new.board.book
-          (nobody-more c.args.self.now.board.book c.pass_time.new.board.book c.signal_all.new.board.book (nobody-passed (moment_for c.args.moment) c.args.self.now.board.book c.pass_time.new.board.book c.in_ok-pass_time.ensures.passes) (nobody-acts 0 _ None c.pass_time.new.board.book c.signal_all.new.board.book c.in_err-signal_all.ensures.first.acts (none-signals c.in_err-signal_all.ensures.first.first)))
-          (c.signal_all.ensures.rest.accepted ∙ c.pass_time.ensures.taken) before;
-      listens = step-listens (g.F.Front.seen c.args.front.now).told c.signal_all.new.board.book.state (step-kept (g.F.Front.seen c.args.front.now).told c.args.self.now.board.book.state c.signal_all.new.board.book.state (c.signal_all.ensures.rest.accepted ∙ c.pass_time.ensures.taken) (c.signal_all.ensures.rest.going ∙ c.pass_time.ensures.going) c.requires.step);
-      links = on-err c.from_residual-in_err-signal_all.result _ (hands-step (g.F.Front.seen c.args.front.now).told c.signal_all.new.board.book.state (step-kept (g.F.Front.seen c.args.front.now).told c.args.self.now.board.book.state c.signal_all.new.board.book.state (c.signal_all.ensures.rest.accepted ∙ c.pass_time.ensures.taken) (c.signal_all.ensures.rest.going ∙ c.pass_time.ensures.going) c.requires.step));
+          λ past before. watched-as now.told a s
+          (nobody-more a b s (nobody-passed (moment_for c.args.moment) a b c.in_ok-pass_time.ensures.passes) (nobody-acts 0 _ None b s c.in_err-signal_all.ensures.first.acts (none-signals c.in_err-signal_all.ensures.first.first)))
+          (c.signal_all.ensures.rest.accepted ∙ c.pass_time.ensures.taken) past before;
+      listens = step-listens now.told s.state (step-kept now.told a.state s.state (c.signal_all.ensures.rest.accepted ∙ c.pass_time.ensures.taken) (c.signal_all.ensures.rest.going ∙ c.pass_time.ensures.going) c.requires.step);
+      links = on-err c.from_residual-in_err-signal_all.result _ (hands-step now.told s.state (step-kept now.told a.state s.state (c.signal_all.ensures.rest.accepted ∙ c.pass_time.ensures.taken) (c.signal_all.ensures.rest.going ∙ c.pass_time.ensures.going) c.requires.step));
       ready = search rules;
       config = search rules;
       err = search rules;
@@ -208,35 +300,61 @@ returns-in_err-signal_all g c =
 
 pub returns-in_err-let_go_of_conns : goal.returns-in_err-let_go_of_conns
 returns-in_err-let_go_of_conns g c =
+    let known = g.N.Known.known in
+    let config = c.args.self.now.config in
+    let steps = c.passes_act_in_steps.ensures.acts in
+    let slots = c.args.self.now.ready in
+    let now = g.F.Front.seen c.args.front.now in
+    let store = g.D.Store.seen c.args.store.now in
+    let a = c.args.self.now.board.book in
+    let b = c.pass_time.new.board.book in
+    let s = c.signal_all.new.board.book in
+    let d = c.let_go_of_conns.new.board.book in
+    let signals = subst (λ (xs : List ℕ). Acts 0 (signal_events b xs) None b s) c.slots.ensures.is c.in_ok-signal_all.ensures.signals in
+    let timely : StaysTimely a d = λ first. c.let_go_of_conns.ensures.timely (c.signal_all.ensures.timely (c.pass_time.ensures.timely first)) in
     record {
       round = search rules;
       broken =
-          let broken : BreaksOff c.in_err-let_go_of_conns.field-0.0 (moment_for c.args.moment) c.args.self.now.ready c.args.self.now.board.book c.let_go_of_conns.new.board.book =
-          breaks-behind c.passes_act_in_steps.ensures.acts c.in_err-let_go_of_conns.field-0.0 (moment_for c.args.moment) c.args.self.now.ready c.args.self.now.board.book c.pass_time.new.board.book c.signal_all.new.board.book c.in_err-let_go_of_conns.ensures.until.book c.in_err-let_go_of_conns.ensures.until.book c.in_err-let_go_of_conns.ensures.until.book c.in_err-let_go_of_conns.ensures.until.book c.in_err-let_go_of_conns.ensures.until.book c.let_go_of_conns.new.board.book
-          c.in_ok-pass_time.ensures.passes (signals-all c.args.self.now.ready c.pass_time.new.board.book c.signal_all.new.board.book (subst (λ (xs : List ℕ). Acts 0 (signal_events c.pass_time.new.board.book xs) None c.pass_time.new.board.book c.signal_all.new.board.book) c.slots.ensures.is c.in_ok-signal_all.ensures.signals)) c.in_err-let_go_of_conns.ensures.until.lets
-          (does-none c.passes_act_in_steps.ensures.acts c.in_err-let_go_of_conns.ensures.until.book c.in_err-let_go_of_conns.ensures.until.lets.acts.row) (retires-none c.passes_act_in_steps.ensures.acts c.in_err-let_go_of_conns.ensures.until.book c.in_err-let_go_of_conns.ensures.until.lets.acts.row) (starts-none c.passes_act_in_steps.ensures.acts c.in_err-let_go_of_conns.ensures.until.book c.in_err-let_go_of_conns.ensures.until.lets.acts.row) (takes-none c.passes_act_in_steps.ensures.acts c.in_err-let_go_of_conns.ensures.until.book c.in_err-let_go_of_conns.ensures.until.lets.acts.row) (inl c.in_err-let_go_of_conns.ensures.until.last) in
+          let broken : BreaksOff c.in_err-let_go_of_conns.field-0.0 (moment_for c.args.moment) slots a d =
+          breaks-behind steps c.in_err-let_go_of_conns.field-0.0 (moment_for c.args.moment) slots a b s c.in_err-let_go_of_conns.ensures.until.book c.in_err-let_go_of_conns.ensures.until.book c.in_err-let_go_of_conns.ensures.until.book c.in_err-let_go_of_conns.ensures.until.book c.in_err-let_go_of_conns.ensures.until.book d
+          c.in_ok-pass_time.ensures.passes (signals-all slots b s signals) c.in_err-let_go_of_conns.ensures.until.lets
+          (does-none steps c.in_err-let_go_of_conns.ensures.until.book c.in_err-let_go_of_conns.ensures.until.lets.acts.row) (retires-none steps c.in_err-let_go_of_conns.ensures.until.book c.in_err-let_go_of_conns.ensures.until.lets.acts.row) (starts-none steps c.in_err-let_go_of_conns.ensures.until.book c.in_err-let_go_of_conns.ensures.until.lets.acts.row) (takes-none steps c.in_err-let_go_of_conns.ensures.until.book c.in_err-let_go_of_conns.ensures.until.lets.acts.row) (inl c.in_err-let_go_of_conns.ensures.until.last) in
           search (rules, broken);
+      share =
+          let cut : CutsShare c.args.moment slots now.told now.told a d =
+          cuts-lets c.args.moment slots now.told c.in_err-let_go_of_conns.field-0.0 a b s d c.in_ok-pass_time.ensures.passes signals c.in_err-let_go_of_conns.ensures.until in
+          search (rules, cut);
+      hushes = search rules;
+      timely = timely;
+      goes_on = search rules;
+      before = on-err c.from_residual-in_err-let_go_of_conns.result _ (not-at_end d.state c.let_go_of_conns.ensures.staffed);
       stands =
-          let broken : StandsBroken g.N.Known.known c.args.self.now.config (standing c.args.self.now.edition.stop_ms (g.D.Store.seen c.args.store.now) (g.F.Front.seen c.args.front.now) c.args.self.now.board.book) (standing c.args.self.now.edition.stop_ms (g.D.Store.seen c.args.store.now) (g.F.Front.seen c.args.front.now) c.let_go_of_conns.new.board.book) =
-          broken-orderless g.N.Known.known c.args.self.now.config c.args.self.now.edition.stop_ms (g.D.Store.seen c.args.store.now) (g.F.Front.seen c.args.front.now) c.args.self.now.board.book c.let_go_of_conns.new.board.book
-          (orderless-more c.passes_act_in_steps.ensures.acts c.args.self.now.board.book c.signal_all.new.board.book c.let_go_of_conns.new.board.book (orderless-more c.passes_act_in_steps.ensures.acts c.args.self.now.board.book c.pass_time.new.board.book c.signal_all.new.board.book (orderless-time (moment_for c.args.moment) c.args.self.now.board.book c.pass_time.new.board.book c.in_ok-pass_time.ensures.passes) (orderless-signals c.args.self.now.ready c.pass_time.new.board.book c.signal_all.new.board.book (subst (λ (xs : List ℕ). Acts 0 (signal_events c.pass_time.new.board.book xs) None c.pass_time.new.board.book c.signal_all.new.board.book) c.slots.ensures.is c.in_ok-signal_all.ensures.signals))) (orderless-until c.passes_act_in_steps.ensures.acts c.in_err-let_go_of_conns.field-0.0 c.signal_all.new.board.book c.let_go_of_conns.new.board.book c.in_err-let_go_of_conns.ensures.until)) (c.let_go_of_conns.ensures.rest.going ∙ c.signal_all.ensures.rest.going ∙ c.pass_time.ensures.going) in
+          let broken : StandsBroken known config (standing c.args.self.now.edition.stop_ms store now a) (standing c.args.self.now.edition.stop_ms store now d) =
+          broken-orderless known config c.args.self.now.edition.stop_ms store now a d
+          (orderless-more steps a s d (orderless-more steps a b s (orderless-time (moment_for c.args.moment) a b c.in_ok-pass_time.ensures.passes) (orderless-signals slots b s signals)) (orderless-until steps c.in_err-let_go_of_conns.field-0.0 s d c.in_err-let_go_of_conns.ensures.until)) (c.let_go_of_conns.ensures.rest.going ∙ c.signal_all.ensures.rest.going ∙ c.pass_time.ensures.going) in
           search (rules, broken);
       knows = search rules;
       serves = search rules;
       up = ap is_halted (c.let_go_of_conns.ensures.rest.going ∙ c.signal_all.ensures.rest.going ∙ c.pass_time.ensures.going) ∙ c.requires.up;
       moment = search rules;
+      stays = on-err c.from_residual-in_err-let_go_of_conns.result _ (moment-passed c.args.self.now.board.book.state c.let_go_of_conns.new.board.book.state (moment_for c.args.moment) (c.let_go_of_conns.ensures.rest.moment ∙ c.signal_all.ensures.rest.moment ∙ c.in_ok-pass_time.ensures.moment));
+      counts =
+          let until : CountsUntil now.counts now.counts a d =
+          counts-unbroken now.counts now.counts a d (counts-orderless now.counts now.counts a d refl (orderless-more steps a s d (orderless-more steps a b s (orderless-time (moment_for c.args.moment) a b c.in_ok-pass_time.ensures.passes) (orderless-signals slots b s signals)) (orderless-until steps c.in_err-let_go_of_conns.field-0.0 s d c.in_err-let_go_of_conns.ensures.until)) (c.let_go_of_conns.ensures.rest.going ∙ c.signal_all.ensures.rest.going ∙ c.pass_time.ensures.going) (c.let_go_of_conns.ensures.rest.accepted ∙ c.signal_all.ensures.rest.accepted ∙ c.pass_time.ensures.taken)) in
+          search (rules, until);
+      wakes = refl;
       step = search rules;
       ends = search rules;
       unheeded = on-err c.from_residual-in_err-let_go_of_conns.result _ c.requires.heeded;
-      follows = follows-same (g.F.Front.seen c.args.front.now);
-      front = only-takes (g.F.Front.seen c.args.front.now).told (g.F.Front.seen c.args.front.now).told (takes-same (g.F.Front.seen c.args.front.now).told);
+      follows = follows-same now;
+      front = only-takes now.told now.told (takes-same now.told);
       watched =
-          λ before. watched-as (g.F.Front.seen c.args.front.now).told c.args.self.now.board.book c.let_go_of_conns.new.board.book
-          (nobody-more c.args.self.now.board.book c.signal_all.new.board.book c.let_go_of_conns.new.board.book (nobody-more c.args.self.now.board.book c.pass_time.new.board.book c.signal_all.new.board.book (nobody-passed (moment_for c.args.moment) c.args.self.now.board.book c.pass_time.new.board.book c.in_ok-pass_time.ensures.passes) (nobody-signalled c.slots.result.now c.pass_time.new.board.book c.signal_all.new.board.book c.in_ok-signal_all.ensures.signals))
-          (nobody-let_go_until _ c.signal_all.new.board.book c.let_go_of_conns.new.board.book c.in_err-let_go_of_conns.ensures.until))
-          (c.let_go_of_conns.ensures.rest.accepted ∙ c.signal_all.ensures.rest.accepted ∙ c.pass_time.ensures.taken) before;
-      listens = step-listens (g.F.Front.seen c.args.front.now).told c.let_go_of_conns.new.board.book.state (step-kept (g.F.Front.seen c.args.front.now).told c.args.self.now.board.book.state c.let_go_of_conns.new.board.book.state (c.let_go_of_conns.ensures.rest.accepted ∙ c.signal_all.ensures.rest.accepted ∙ c.pass_time.ensures.taken) (c.let_go_of_conns.ensures.rest.going ∙ c.signal_all.ensures.rest.going ∙ c.pass_time.ensures.going) c.requires.step);
-      links = on-err c.from_residual-in_err-let_go_of_conns.result _ (hands-step (g.F.Front.seen c.args.front.now).told c.let_go_of_conns.new.board.book.state (step-kept (g.F.Front.seen c.args.front.now).told c.args.self.now.board.book.state c.let_go_of_conns.new.board.book.state (c.let_go_of_conns.ensures.rest.accepted ∙ c.signal_all.ensures.rest.accepted ∙ c.pass_time.ensures.taken) (c.let_go_of_conns.ensures.rest.going ∙ c.signal_all.ensures.rest.going ∙ c.pass_time.ensures.going) c.requires.step));
+          λ past before. watched-as now.told a d
+          (nobody-more a s d (nobody-more a b s (nobody-passed (moment_for c.args.moment) a b c.in_ok-pass_time.ensures.passes) (nobody-signalled c.slots.result.now b s c.in_ok-signal_all.ensures.signals))
+          (nobody-let_go_until _ s d c.in_err-let_go_of_conns.ensures.until))
+          (c.let_go_of_conns.ensures.rest.accepted ∙ c.signal_all.ensures.rest.accepted ∙ c.pass_time.ensures.taken) past before;
+      listens = step-listens now.told d.state (step-kept now.told a.state d.state (c.let_go_of_conns.ensures.rest.accepted ∙ c.signal_all.ensures.rest.accepted ∙ c.pass_time.ensures.taken) (c.let_go_of_conns.ensures.rest.going ∙ c.signal_all.ensures.rest.going ∙ c.pass_time.ensures.going) c.requires.step);
+      links = on-err c.from_residual-in_err-let_go_of_conns.result _ (hands-step now.told d.state (step-kept now.told a.state d.state (c.let_go_of_conns.ensures.rest.accepted ∙ c.signal_all.ensures.rest.accepted ∙ c.pass_time.ensures.taken) (c.let_go_of_conns.ensures.rest.going ∙ c.signal_all.ensures.rest.going ∙ c.pass_time.ensures.going) c.requires.step));
       ready = search rules;
       config = search rules;
       err = search rules;
@@ -244,33 +362,67 @@ returns-in_err-let_go_of_conns g c =
 
 pub returns-in_err-asked : goal.returns-in_err-asked
 returns-in_err-asked g c =
+    let known = g.N.Known.known in
+    let config = c.args.self.now.config in
+    let steps = c.passes_act_in_steps.ensures.acts in
+    let slots = c.args.self.now.ready in
+    let now = g.F.Front.seen c.args.front.now in
+    let read = g.F.Front.seen c.heed.new.front in
+    let store = g.D.Store.seen c.args.store.now in
+    let renewed = g.D.Store.seen c.heed.new.store in
+    let a = c.args.self.now.board.book in
+    let b = c.pass_time.new.board.book in
+    let s = c.signal_all.new.board.book in
+    let d = c.let_go_of_conns.new.board.book in
+    let e = c.heed.new.self.board.book in
+    let signals = subst (λ (xs : List ℕ). Acts 0 (signal_events b xs) None b s) c.slots.ensures.is c.in_ok-signal_all.ensures.signals in
+    let orders_off = orderless-before steps (moment_for c.args.moment) slots a b s d c.in_ok-pass_time.ensures.passes signals c.in_ok-let_go_of_conns.ensures.gone in
+    let none_taken = nobody-before-orders a b s d (moment_for c.args.moment) slots c.in_ok-pass_time.ensures.passes signals c.in_ok-let_go_of_conns.ensures.gone in
+    let timely : StaysTimely a d = λ first. c.let_go_of_conns.ensures.timely (c.signal_all.ensures.timely (c.pass_time.ensures.timely first)) in
     record {
       round = search rules;
       broken =
-          let broken : BreaksOff c.in_err-asked.field-0.0 (moment_for c.args.moment) c.args.self.now.ready c.args.self.now.board.book c.heed.new.self.board.book =
-          breaks-behind c.passes_act_in_steps.ensures.acts c.in_err-asked.field-0.0 (moment_for c.args.moment) c.args.self.now.ready c.args.self.now.board.book c.pass_time.new.board.book c.signal_all.new.board.book c.let_go_of_conns.new.board.book c.heed.new.self.board.book c.heed.new.self.board.book c.heed.new.self.board.book c.heed.new.self.board.book c.heed.new.self.board.book
-          c.in_ok-pass_time.ensures.passes (signals-all c.args.self.now.ready c.pass_time.new.board.book c.signal_all.new.board.book (subst (λ (xs : List ℕ). Acts 0 (signal_events c.pass_time.new.board.book xs) None c.pass_time.new.board.book c.signal_all.new.board.book) c.slots.ensures.is c.in_ok-signal_all.ensures.signals)) c.in_ok-let_go_of_conns.ensures.gone c.in_err-asked.ensures.until.does
-          (retires-none c.passes_act_in_steps.ensures.acts c.heed.new.self.board.book c.in_err-asked.ensures.until.does.acts.row) (starts-none c.passes_act_in_steps.ensures.acts c.heed.new.self.board.book c.in_err-asked.ensures.until.does.acts.row) (takes-none c.passes_act_in_steps.ensures.acts c.heed.new.self.board.book c.in_err-asked.ensures.until.does.acts.row) (ends-idle c.in_err-asked.field-0.0 c.heed.new.self.board.book c.in_err-asked.ensures.until.why) in
+          let broken : BreaksOff c.in_err-asked.field-0.0 (moment_for c.args.moment) slots a e =
+          breaks-behind steps c.in_err-asked.field-0.0 (moment_for c.args.moment) slots a b s d e e e e e
+          c.in_ok-pass_time.ensures.passes (signals-all slots b s signals) c.in_ok-let_go_of_conns.ensures.gone c.in_err-asked.ensures.until.does
+          (retires-none steps e c.in_err-asked.ensures.until.does.acts.row) (starts-none steps e c.in_err-asked.ensures.until.does.acts.row) (takes-none steps e c.in_err-asked.ensures.until.does.acts.row) (ends-idle c.in_err-asked.field-0.0 e c.in_err-asked.ensures.until.why) in
           search (rules, broken);
+      share =
+          let cut : CutsShare c.args.moment slots now.told read.told a e =
+          cuts-asked c.args.moment slots now.told read.told a d e
+          (begins (moment_for c.args.moment) slots a b s d c.in_ok-pass_time.ensures.passes signals c.in_ok-let_go_of_conns.ensures.gone)
+          c.in_err-asked.ensures.asks c.heed.ensures.front in
+          search (rules, cut);
+      hushes = search rules;
+      timely = λ first. c.heed.ensures.timely (timely first);
+      goes_on = search rules;
+      before = on-err c.from_residual-in_err-asked.result _ (not-at_end e.state c.heed.ensures.in_time.staffed);
       stands =
-          let broken : StandsBroken g.N.Known.known c.args.self.now.config (standing c.args.self.now.edition.stop_ms (g.D.Store.seen c.args.store.now) (g.F.Front.seen c.args.front.now) c.args.self.now.board.book) (standing c.heed.new.self.edition.stop_ms (g.D.Store.seen c.heed.new.store) (g.F.Front.seen c.heed.new.front) c.heed.new.self.board.book) =
-          broken-orders g.N.Known.known c.args.self.now.config c.args.self.now.edition.stop_ms (g.D.Store.seen c.args.store.now) (g.F.Front.seen c.args.front.now) c.args.self.now.board.book c.let_go_of_conns.new.board.book (standing c.heed.new.self.edition.stop_ms (g.D.Store.seen c.heed.new.store) (g.F.Front.seen c.heed.new.front) c.heed.new.self.board.book)
-          (orderless-before c.passes_act_in_steps.ensures.acts (moment_for c.args.moment) c.args.self.now.ready c.args.self.now.board.book c.pass_time.new.board.book c.signal_all.new.board.book c.let_go_of_conns.new.board.book c.in_ok-pass_time.ensures.passes (subst (λ (xs : List ℕ). Acts 0 (signal_events c.pass_time.new.board.book xs) None c.pass_time.new.board.book c.signal_all.new.board.book) c.slots.ensures.is c.in_ok-signal_all.ensures.signals) c.in_ok-let_go_of_conns.ensures.gone) (c.let_go_of_conns.ensures.rest.going ∙ c.signal_all.ensures.rest.going ∙ c.pass_time.ensures.going) c.in_err-asked.ensures.stands in
+          let broken : StandsBroken known config (standing c.args.self.now.edition.stop_ms store now a) (standing c.heed.new.self.edition.stop_ms renewed read e) =
+          broken-orders known config c.args.self.now.edition.stop_ms store now a d (standing c.heed.new.self.edition.stop_ms renewed read e)
+          orders_off (c.let_go_of_conns.ensures.rest.going ∙ c.signal_all.ensures.rest.going ∙ c.pass_time.ensures.going) timely c.in_err-asked.ensures.stands in
           search (rules, broken);
       knows = search rules;
       serves = search rules;
       up = c.heed.ensures.up;
       moment = search rules;
+      stays = on-err c.from_residual-in_err-asked.result _ (moment-passed c.args.self.now.board.book.state c.heed.new.self.board.book.state (moment_for c.args.moment) (c.heed.ensures.moment ∙ c.let_go_of_conns.ensures.rest.moment ∙ c.signal_all.ensures.rest.moment ∙ c.in_ok-pass_time.ensures.moment));
+      counts =
+          let until : CountsUntil now.counts read.counts a e =
+          counts-until now.counts now.counts read.counts a d e (counts-orderless now.counts now.counts a d refl orders_off (c.let_go_of_conns.ensures.rest.going ∙ c.signal_all.ensures.rest.going ∙ c.pass_time.ensures.going) (c.let_go_of_conns.ensures.rest.accepted ∙ c.signal_all.ensures.rest.accepted ∙ c.pass_time.ensures.taken))
+          c.in_err-asked.ensures.counts in
+          search (rules, until);
+      wakes = c.heed.ensures.wakes;
       step = search rules;
       ends = search rules;
       unheeded = on-err c.from_residual-in_err-asked.result _ c.in_err-asked.ensures.unheeded;
       follows = c.heed.ensures.follows;
-      front = only-reads (g.F.Front.seen c.args.front.now).told (g.F.Front.seen c.heed.new.front).told c.heed.ensures.front;
+      front = only-reads now.told read.told c.heed.ensures.front;
       watched =
-          λ before. c.heed.ensures.watched
-          (watched-as (g.F.Front.seen c.args.front.now).told c.args.self.now.board.book c.let_go_of_conns.new.board.book (nobody-before-orders c.args.self.now.board.book c.pass_time.new.board.book c.signal_all.new.board.book c.let_go_of_conns.new.board.book (moment_for c.args.moment) c.args.self.now.ready c.in_ok-pass_time.ensures.passes (subst (λ (xs : List ℕ). Acts 0 (signal_events c.pass_time.new.board.book xs) None c.pass_time.new.board.book c.signal_all.new.board.book) c.slots.ensures.is c.in_ok-signal_all.ensures.signals) c.in_ok-let_go_of_conns.ensures.gone) (c.let_go_of_conns.ensures.rest.accepted ∙ c.signal_all.ensures.rest.accepted ∙ c.pass_time.ensures.taken) before);
-      listens = step-listens (g.F.Front.seen c.heed.new.front).told c.heed.new.self.board.book.state c.heed.ensures.step;
-      links = on-err c.from_residual-in_err-asked.result _ (hands-step (g.F.Front.seen c.heed.new.front).told c.heed.new.self.board.book.state c.heed.ensures.step);
+          λ past before. c.heed.ensures.watched past
+          (watched-as now.told a d none_taken (c.let_go_of_conns.ensures.rest.accepted ∙ c.signal_all.ensures.rest.accepted ∙ c.pass_time.ensures.taken) past before);
+      listens = step-listens read.told e.state c.heed.ensures.step;
+      links = on-err c.from_residual-in_err-asked.result _ (hands-step read.told e.state c.heed.ensures.step);
       ready = ap (λ (l : _). l.ready) c.heed.ensures.others;
       config = ap (λ (l : _). l.config) c.heed.ensures.others;
       err = search rules;
@@ -278,27 +430,56 @@ returns-in_err-asked g c =
 
 pub returns-then-asked : goal.returns-then-asked
 returns-then-asked g c =
+    let known = g.N.Known.known in
+    let config = c.args.self.now.config in
+    let steps = c.passes_act_in_steps.ensures.acts in
+    let slots = c.args.self.now.ready in
+    let now = g.F.Front.seen c.args.front.now in
+    let read = g.F.Front.seen c.heed.new.front in
+    let store = g.D.Store.seen c.args.store.now in
+    let renewed = g.D.Store.seen c.heed.new.store in
+    let a = c.args.self.now.board.book in
+    let b = c.pass_time.new.board.book in
+    let s = c.signal_all.new.board.book in
+    let d = c.let_go_of_conns.new.board.book in
+    let e = c.heed.new.self.board.book in
+    let signals = subst (λ (xs : List ℕ). Acts 0 (signal_events b xs) None b s) c.slots.ensures.is c.in_ok-signal_all.ensures.signals in
+    let orders_off = orderless-before steps (moment_for c.args.moment) slots a b s d c.in_ok-pass_time.ensures.passes signals c.in_ok-let_go_of_conns.ensures.gone in
+    let none_taken = nobody-before-orders a b s d (moment_for c.args.moment) slots c.in_ok-pass_time.ensures.passes signals c.in_ok-let_go_of_conns.ensures.gone in
+    let timely : StaysTimely a d = λ first. c.let_go_of_conns.ensures.timely (c.signal_all.ensures.timely (c.pass_time.ensures.timely first)) in
     record {
       round =
-          goes-round c.passes_act_in_steps.ensures.acts (moment_for c.args.moment) c.args.self.now.ready c.args.self.now.board.book c.pass_time.new.board.book c.signal_all.new.board.book c.let_go_of_conns.new.board.book c.heed.new.self.board.book c.heed.new.self.board.book c.heed.new.self.board.book c.heed.new.self.board.book c.in_ok-pass_time.ensures.passes (subst (λ (xs : List ℕ). Acts 0 (signal_events c.pass_time.new.board.book xs) None c.pass_time.new.board.book c.signal_all.new.board.book) c.slots.ensures.is c.in_ok-signal_all.ensures.signals) c.in_ok-let_go_of_conns.ensures.gone c.in_ok-asked.ensures.does
-          (retires-none c.passes_act_in_steps.ensures.acts c.heed.new.self.board.book c.in_ok-asked.ensures.does.acts.row) (starts-none c.passes_act_in_steps.ensures.acts c.heed.new.self.board.book c.in_ok-asked.ensures.does.acts.row) (takes-none c.passes_act_in_steps.ensures.acts c.heed.new.self.board.book c.in_ok-asked.ensures.does.acts.row);
+          ends-asked steps (moment_for c.args.moment) slots a b s d e c.in_ok-pass_time.ensures.passes signals c.in_ok-let_go_of_conns.ensures.gone
+          c.in_ok-asked.ensures.does;
       broken = search rules;
+      share =
+          makes-asked c.args.moment slots now.told read.told a d e
+          (begins (moment_for c.args.moment) slots a b s d c.in_ok-pass_time.ensures.passes signals c.in_ok-let_go_of_conns.ensures.gone)
+          (subst (λ (stops : Bool). DoesAsked (stop_if stops) now.told read.told d e) c.if-asked.true c.in_ok-asked.ensures.asks) c.heed.ensures.front;
+      hushes = c.in_ok-asked.ensures.hushes;
+      timely = λ first. c.heed.ensures.timely (timely first);
+      goes_on = not-at_end e.state c.heed.ensures.in_time.staffed;
+      before = search rules;
       stands =
-          stands-orders g.N.Known.known c.args.self.now.config _ true c.args.self.now.edition.stop_ms (g.D.Store.seen c.args.store.now) (g.F.Front.seen c.args.front.now) c.args.self.now.board.book c.let_go_of_conns.new.board.book (standing c.heed.new.self.edition.stop_ms (g.D.Store.seen c.heed.new.store) (g.F.Front.seen c.heed.new.front) c.heed.new.self.board.book) c.if-asked.true
-          (orderless-before c.passes_act_in_steps.ensures.acts (moment_for c.args.moment) c.args.self.now.ready c.args.self.now.board.book c.pass_time.new.board.book c.signal_all.new.board.book c.let_go_of_conns.new.board.book c.in_ok-pass_time.ensures.passes (subst (λ (xs : List ℕ). Acts 0 (signal_events c.pass_time.new.board.book xs) None c.pass_time.new.board.book c.signal_all.new.board.book) c.slots.ensures.is c.in_ok-signal_all.ensures.signals) c.in_ok-let_go_of_conns.ensures.gone) (c.let_go_of_conns.ensures.rest.going ∙ c.signal_all.ensures.rest.going ∙ c.pass_time.ensures.going) c.in_ok-asked.ensures.stands;
+          stands-orders known config _ true c.args.self.now.edition.stop_ms store now a d (standing c.heed.new.self.edition.stop_ms renewed read e) c.if-asked.true
+          orders_off (c.let_go_of_conns.ensures.rest.going ∙ c.signal_all.ensures.rest.going ∙ c.pass_time.ensures.going) timely c.in_ok-asked.ensures.stands;
       knows = c.in_ok-asked.ensures.knows;
       serves = c.heed.ensures.serves;
       up = c.heed.ensures.up;
       moment = c.heed.ensures.moment ∙ c.let_go_of_conns.ensures.rest.moment ∙ c.signal_all.ensures.rest.moment ∙ c.in_ok-pass_time.ensures.moment;
+      stays = search rules;
+      counts = (counts-more 1 now.counts now.counts read.counts a d e (counts-orderless now.counts now.counts a d refl orders_off (c.let_go_of_conns.ensures.rest.going ∙ c.signal_all.ensures.rest.going ∙ c.pass_time.ensures.going) (c.let_go_of_conns.ensures.rest.accepted ∙ c.signal_all.ensures.rest.accepted ∙ c.pass_time.ensures.taken))
+          (subst (λ (b : Bool). CountsOn (owed_by b) now.counts read.counts d e) c.if-asked.true c.in_ok-asked.ensures.counts));
+      wakes = c.heed.ensures.wakes;
       step = c.heed.ensures.step;
       ends = (c.heed.ensures.up, (c.in_ok-asked.ensures.asked c.if-asked.true).0, (c.in_ok-asked.ensures.asked c.if-asked.true).1);
       unheeded = search rules;
       follows = c.heed.ensures.follows;
-      front = only-reads (g.F.Front.seen c.args.front.now).told (g.F.Front.seen c.heed.new.front).told c.heed.ensures.front;
+      front = only-reads now.told read.told c.heed.ensures.front;
       watched =
-          λ before. c.heed.ensures.watched
-          (watched-as (g.F.Front.seen c.args.front.now).told c.args.self.now.board.book c.let_go_of_conns.new.board.book (nobody-before-orders c.args.self.now.board.book c.pass_time.new.board.book c.signal_all.new.board.book c.let_go_of_conns.new.board.book (moment_for c.args.moment) c.args.self.now.ready c.in_ok-pass_time.ensures.passes (subst (λ (xs : List ℕ). Acts 0 (signal_events c.pass_time.new.board.book xs) None c.pass_time.new.board.book c.signal_all.new.board.book) c.slots.ensures.is c.in_ok-signal_all.ensures.signals) c.in_ok-let_go_of_conns.ensures.gone) (c.let_go_of_conns.ensures.rest.accepted ∙ c.signal_all.ensures.rest.accepted ∙ c.pass_time.ensures.taken) before);
-      listens = step-listens (g.F.Front.seen c.heed.new.front).told c.heed.new.self.board.book.state c.heed.ensures.step;
+          λ past before. c.heed.ensures.watched past
+          (watched-as now.told a d none_taken (c.let_go_of_conns.ensures.rest.accepted ∙ c.signal_all.ensures.rest.accepted ∙ c.pass_time.ensures.taken) past before);
+      listens = step-listens read.told e.state c.heed.ensures.step;
       links = search rules;
       ready = ap (λ (l : _). l.ready) c.heed.ensures.others;
       config = ap (λ (l : _). l.config) c.heed.ensures.others;
@@ -307,28 +488,62 @@ returns-then-asked g c =
 
 pub returns-then-is_gone : goal.returns-then-is_gone
 returns-then-is_gone g c =
+    let known = g.N.Known.known in
+    let config = c.args.self.now.config in
+    let steps = c.passes_act_in_steps.ensures.acts in
+    let slots = c.args.self.now.ready in
+    let now = g.F.Front.seen c.args.front.now in
+    let read = g.F.Front.seen c.heed.new.front in
+    let store = g.D.Store.seen c.args.store.now in
+    let renewed = g.D.Store.seen c.heed.new.store in
+    let a = c.args.self.now.board.book in
+    let b = c.pass_time.new.board.book in
+    let s = c.signal_all.new.board.book in
+    let d = c.let_go_of_conns.new.board.book in
+    let e = c.heed.new.self.board.book in
+    let f = c.retire_all.new.board.book in
+    let signals = subst (λ (xs : List ℕ). Acts 0 (signal_events b xs) None b s) c.slots.ensures.is c.in_ok-signal_all.ensures.signals in
+    let orders_off = orderless-before steps (moment_for c.args.moment) slots a b s d c.in_ok-pass_time.ensures.passes signals c.in_ok-let_go_of_conns.ensures.gone in
+    let none_taken = nobody-before-orders a b s d (moment_for c.args.moment) slots c.in_ok-pass_time.ensures.passes signals c.in_ok-let_go_of_conns.ensures.gone in
+    let timely : StaysTimely a d = λ first. c.let_go_of_conns.ensures.timely (c.signal_all.ensures.timely (c.pass_time.ensures.timely first)) in
+    let done : DoesAsked [] now.told read.told d e =
+    subst (λ (stops : Bool). DoesAsked (stop_if stops) now.told read.told d e) c.if-asked.false c.in_ok-asked.ensures.asks in
     record {
       round =
-          goes-round c.passes_act_in_steps.ensures.acts (moment_for c.args.moment) c.args.self.now.ready c.args.self.now.board.book c.pass_time.new.board.book c.signal_all.new.board.book c.let_go_of_conns.new.board.book c.heed.new.self.board.book c.retire_all.new.board.book c.retire_all.new.board.book c.retire_all.new.board.book c.in_ok-pass_time.ensures.passes (subst (λ (xs : List ℕ). Acts 0 (signal_events c.pass_time.new.board.book xs) None c.pass_time.new.board.book c.signal_all.new.board.book) c.slots.ensures.is c.in_ok-signal_all.ensures.signals) c.in_ok-let_go_of_conns.ensures.gone c.in_ok-asked.ensures.does c.retire_all.ensures.retires
-          (starts-none c.passes_act_in_steps.ensures.acts c.retire_all.new.board.book c.retire_all.ensures.retires.acts.row) (takes-none c.passes_act_in_steps.ensures.acts c.retire_all.new.board.book c.retire_all.ensures.retires.acts.row);
+          ends-gone steps (moment_for c.args.moment) slots a b s d e f c.in_ok-pass_time.ensures.passes signals c.in_ok-let_go_of_conns.ensures.gone
+          c.in_ok-asked.ensures.does c.retire_all.ensures.retires;
       broken = search rules;
+      share =
+          makes-gone c.args.moment slots now.told read.told a d e f
+          (begins (moment_for c.args.moment) slots a b s d c.in_ok-pass_time.ensures.passes signals c.in_ok-let_go_of_conns.ensures.gone)
+          done c.heed.ensures.front c.retire_all.ensures.retires;
+      hushes = c.in_ok-asked.ensures.hushes;
+      timely = λ first. c.retire_all.ensures.retires.timely (c.heed.ensures.timely (timely first));
+      goes_on = sym c.is_gone.ensures.end ∙ c.if-is_gone.true;
+      before = search rules;
       stands =
-          stands-behind g.N.Known.known c.args.self.now.config (standing c.args.self.now.edition.stop_ms (g.D.Store.seen c.args.store.now) (g.F.Front.seen c.args.front.now) c.args.self.now.board.book) c.heed.new.self.edition.stop_ms c.heed.new.self.edition.stop_ms (g.D.Store.seen c.heed.new.store) (g.F.Front.seen c.heed.new.front) (g.F.Front.seen c.heed.new.front) c.heed.new.self.board.book c.retire_all.new.board.book (orderless-retires c.heed.new.self.board.book c.retire_all.new.board.book c.retire_all.ensures.retires) c.retire_all.ensures.going refl (same-lines (g.F.Front.seen c.heed.new.front))
-          (stands-orders g.N.Known.known c.args.self.now.config _ false c.args.self.now.edition.stop_ms (g.D.Store.seen c.args.store.now) (g.F.Front.seen c.args.front.now) c.args.self.now.board.book c.let_go_of_conns.new.board.book (standing c.heed.new.self.edition.stop_ms (g.D.Store.seen c.heed.new.store) (g.F.Front.seen c.heed.new.front) c.heed.new.self.board.book) c.if-asked.false
-          (orderless-before c.passes_act_in_steps.ensures.acts (moment_for c.args.moment) c.args.self.now.ready c.args.self.now.board.book c.pass_time.new.board.book c.signal_all.new.board.book c.let_go_of_conns.new.board.book c.in_ok-pass_time.ensures.passes (subst (λ (xs : List ℕ). Acts 0 (signal_events c.pass_time.new.board.book xs) None c.pass_time.new.board.book c.signal_all.new.board.book) c.slots.ensures.is c.in_ok-signal_all.ensures.signals) c.in_ok-let_go_of_conns.ensures.gone) (c.let_go_of_conns.ensures.rest.going ∙ c.signal_all.ensures.rest.going ∙ c.pass_time.ensures.going) c.in_ok-asked.ensures.stands);
-      knows = coming-orderless g.N.Known.known c.heed.new.self.board.book c.retire_all.new.board.book c.heed.new.self.config (g.D.Store.seen c.heed.new.store).told (orderless-retires c.heed.new.self.board.book c.retire_all.new.board.book c.retire_all.ensures.retires) c.in_ok-asked.ensures.knows;
-      serves = newest-orderless c.generations_keep_their_editions.ensures g.N.Known.known c.heed.new.self.board.book c.retire_all.new.board.book c.heed.new.self.edition (orderless-retires c.heed.new.self.board.book c.retire_all.new.board.book c.retire_all.ensures.retires) c.retire_all.ensures.rest.newest c.heed.ensures.serves;
+          stands-behind known config (standing c.args.self.now.edition.stop_ms store now a) c.heed.new.self.edition.stop_ms c.heed.new.self.edition.stop_ms renewed read read e f (orderless-retires e f c.retire_all.ensures.retires) c.retire_all.ensures.going refl (same-lines read)
+          (stands-orders known config _ false c.args.self.now.edition.stop_ms store now a d (standing c.heed.new.self.edition.stop_ms renewed read e) c.if-asked.false
+          orders_off (c.let_go_of_conns.ensures.rest.going ∙ c.signal_all.ensures.rest.going ∙ c.pass_time.ensures.going) timely c.in_ok-asked.ensures.stands);
+      knows = coming-orderless known e f c.heed.new.self.config renewed.told (orderless-retires e f c.retire_all.ensures.retires) c.in_ok-asked.ensures.knows;
+      serves = newest-orderless c.generations_keep_their_editions.ensures known e f c.heed.new.self.edition (orderless-retires e f c.retire_all.ensures.retires) c.retire_all.ensures.rest.newest c.heed.ensures.serves;
       up = ap is_halted c.retire_all.ensures.going ∙ c.heed.ensures.up;
       moment = c.retire_all.ensures.rest.moment ∙ c.heed.ensures.moment ∙ c.let_go_of_conns.ensures.rest.moment ∙ c.signal_all.ensures.rest.moment ∙ c.in_ok-pass_time.ensures.moment;
-      step = (step-kept (g.F.Front.seen c.heed.new.front).told c.heed.new.self.board.book.state c.retire_all.new.board.book.state c.retire_all.ensures.rest.accepted c.retire_all.ensures.going c.heed.ensures.step);
-      ends = (c.is_gone.ensures.0 c.if-is_gone.true, (c.in_ok-asked.ensures.none c.if-asked.false).0);
+      stays = search rules;
+      counts = (counts-more 0 now.counts read.counts read.counts a e f (counts-more 0 now.counts now.counts read.counts a d e
+          (counts-orderless now.counts now.counts a d refl orders_off (c.let_go_of_conns.ensures.rest.going ∙ c.signal_all.ensures.rest.going ∙ c.pass_time.ensures.going) (c.let_go_of_conns.ensures.rest.accepted ∙ c.signal_all.ensures.rest.accepted ∙ c.pass_time.ensures.taken))
+          (subst (λ (b : Bool). CountsOn (owed_by b) now.counts read.counts d e) c.if-asked.false c.in_ok-asked.ensures.counts))
+          (counts-orderless read.counts read.counts e f refl (orderless-retires e f c.retire_all.ensures.retires) c.retire_all.ensures.going c.retire_all.ensures.rest.accepted));
+      wakes = c.heed.ensures.wakes;
+      step = (step-kept read.told e.state f.state c.retire_all.ensures.rest.accepted c.retire_all.ensures.going c.heed.ensures.step);
+      ends = (c.is_gone.ensures.gone.0 c.if-is_gone.true, (c.in_ok-asked.ensures.none c.if-asked.false).0);
       unheeded = search rules;
       follows = c.heed.ensures.follows;
-      front = only-reads (g.F.Front.seen c.args.front.now).told (g.F.Front.seen c.heed.new.front).told c.heed.ensures.front;
+      front = only-reads now.told read.told c.heed.ensures.front;
       watched =
-          λ before. watched-as (g.F.Front.seen c.heed.new.front).told c.heed.new.self.board.book c.retire_all.new.board.book (nobody-retired c.heed.new.self.board.book c.retire_all.new.board.book c.retire_all.ensures.retires) c.retire_all.ensures.rest.accepted
-          (c.heed.ensures.watched (watched-as (g.F.Front.seen c.args.front.now).told c.args.self.now.board.book c.let_go_of_conns.new.board.book (nobody-before-orders c.args.self.now.board.book c.pass_time.new.board.book c.signal_all.new.board.book c.let_go_of_conns.new.board.book (moment_for c.args.moment) c.args.self.now.ready c.in_ok-pass_time.ensures.passes (subst (λ (xs : List ℕ). Acts 0 (signal_events c.pass_time.new.board.book xs) None c.pass_time.new.board.book c.signal_all.new.board.book) c.slots.ensures.is c.in_ok-signal_all.ensures.signals) c.in_ok-let_go_of_conns.ensures.gone) (c.let_go_of_conns.ensures.rest.accepted ∙ c.signal_all.ensures.rest.accepted ∙ c.pass_time.ensures.taken) before));
-      listens = step-listens (g.F.Front.seen c.heed.new.front).told c.retire_all.new.board.book.state (step-kept (g.F.Front.seen c.heed.new.front).told c.heed.new.self.board.book.state c.retire_all.new.board.book.state c.retire_all.ensures.rest.accepted c.retire_all.ensures.going c.heed.ensures.step);
+          λ past before. watched-as read.told e f (nobody-retired e f c.retire_all.ensures.retires) c.retire_all.ensures.rest.accepted past
+          (c.heed.ensures.watched past (watched-as now.told a d none_taken (c.let_go_of_conns.ensures.rest.accepted ∙ c.signal_all.ensures.rest.accepted ∙ c.pass_time.ensures.taken) past before));
+      listens = step-listens read.told f.state (step-kept read.told e.state f.state c.retire_all.ensures.rest.accepted c.retire_all.ensures.going c.heed.ensures.step);
       links = search rules;
       ready = ap (λ (l : _). l.ready) c.heed.ensures.others;
       config = ap (λ (l : _). l.config) c.heed.ensures.others;
@@ -337,33 +552,73 @@ returns-then-is_gone g c =
 
 pub returns-in_err-start_children : goal.returns-in_err-start_children
 returns-in_err-start_children g c =
+    let known = g.N.Known.known in
+    let config = c.args.self.now.config in
+    let steps = c.passes_act_in_steps.ensures.acts in
+    let slots = c.args.self.now.ready in
+    let now = g.F.Front.seen c.args.front.now in
+    let read = g.F.Front.seen c.heed.new.front in
+    let store = g.D.Store.seen c.args.store.now in
+    let renewed = g.D.Store.seen c.heed.new.store in
+    let a = c.args.self.now.board.book in
+    let b = c.pass_time.new.board.book in
+    let s = c.signal_all.new.board.book in
+    let d = c.let_go_of_conns.new.board.book in
+    let e = c.heed.new.self.board.book in
+    let f = c.retire_all.new.board.book in
+    let h = c.start_children.new.board.book in
+    let signals = subst (λ (xs : List ℕ). Acts 0 (signal_events b xs) None b s) c.slots.ensures.is c.in_ok-signal_all.ensures.signals in
+    let orders_off = orderless-before steps (moment_for c.args.moment) slots a b s d c.in_ok-pass_time.ensures.passes signals c.in_ok-let_go_of_conns.ensures.gone in
+    let none_taken = nobody-before-orders a b s d (moment_for c.args.moment) slots c.in_ok-pass_time.ensures.passes signals c.in_ok-let_go_of_conns.ensures.gone in
+    let timely : StaysTimely a d = λ first. c.let_go_of_conns.ensures.timely (c.signal_all.ensures.timely (c.pass_time.ensures.timely first)) in
+    let done : DoesAsked [] now.told read.told d e =
+    subst (λ (stops : Bool). DoesAsked (stop_if stops) now.told read.told d e) c.if-asked.false c.in_ok-asked.ensures.asks in
     record {
       round = search rules;
       broken =
-          let broken : BreaksOff c.in_err-start_children.field-0.0 (moment_for c.args.moment) c.args.self.now.ready c.args.self.now.board.book c.start_children.new.board.book =
-          breaks-behind c.passes_act_in_steps.ensures.acts c.in_err-start_children.field-0.0 (moment_for c.args.moment) c.args.self.now.ready c.args.self.now.board.book c.pass_time.new.board.book c.signal_all.new.board.book c.let_go_of_conns.new.board.book c.heed.new.self.board.book c.retire_all.new.board.book c.start_children.new.board.book c.start_children.new.board.book c.start_children.new.board.book
-          c.in_ok-pass_time.ensures.passes (signals-all c.args.self.now.ready c.pass_time.new.board.book c.signal_all.new.board.book (subst (λ (xs : List ℕ). Acts 0 (signal_events c.pass_time.new.board.book xs) None c.pass_time.new.board.book c.signal_all.new.board.book) c.slots.ensures.is c.in_ok-signal_all.ensures.signals)) c.in_ok-let_go_of_conns.ensures.gone c.in_ok-asked.ensures.does c.retire_all.ensures.retires c.start_children.ensures.starts (takes-none c.passes_act_in_steps.ensures.acts c.start_children.new.board.book c.start_children.ensures.starts.acts.row) (ends-idle c.in_err-start_children.field-0.0 c.start_children.new.board.book c.in_err-start_children.ensures.why) in
+          let broken : BreaksOff c.in_err-start_children.field-0.0 (moment_for c.args.moment) slots a h =
+          breaks-behind steps c.in_err-start_children.field-0.0 (moment_for c.args.moment) slots a b s d e f h h h
+          c.in_ok-pass_time.ensures.passes (signals-all slots b s signals) c.in_ok-let_go_of_conns.ensures.gone c.in_ok-asked.ensures.does c.retire_all.ensures.retires c.start_children.ensures.starts (takes-none steps h c.start_children.ensures.starts.acts.row) (ends-idle c.in_err-start_children.field-0.0 h c.in_err-start_children.ensures.why) in
           search (rules, broken);
+      share =
+          let cut : CutsShare c.args.moment slots now.told read.told a h =
+          cuts-started c.args.moment slots now.told read.told a d e f h
+          (begins (moment_for c.args.moment) slots a b s d c.in_ok-pass_time.ensures.passes signals c.in_ok-let_go_of_conns.ensures.gone)
+          done c.heed.ensures.front c.retire_all.ensures.retires c.start_children.ensures.starts in
+          search (rules, cut);
+      hushes = search rules;
+      timely = λ first. c.start_children.ensures.starts.timely (c.retire_all.ensures.retires.timely (c.heed.ensures.timely (timely first)));
+      goes_on = search rules;
+      before = on-err c.from_residual-in_err-start_children.result _ (c.start_children.ensures.before (sym c.is_gone.ensures.end ∙ c.if-is_gone.false));
       stands =
-          let broken : StandsBroken g.N.Known.known c.args.self.now.config (standing c.args.self.now.edition.stop_ms (g.D.Store.seen c.args.store.now) (g.F.Front.seen c.args.front.now) c.args.self.now.board.book) (standing c.heed.new.self.edition.stop_ms (g.D.Store.seen c.heed.new.store) (g.F.Front.seen c.heed.new.front) c.start_children.new.board.book) =
-          broken-after g.N.Known.known c.args.self.now.config (standing c.args.self.now.edition.stop_ms (g.D.Store.seen c.args.store.now) (g.F.Front.seen c.args.front.now) c.args.self.now.board.book) c.heed.new.self.edition.stop_ms c.heed.new.self.edition.stop_ms (g.D.Store.seen c.heed.new.store) (g.F.Front.seen c.heed.new.front) (g.F.Front.seen c.heed.new.front) c.heed.new.self.board.book c.start_children.new.board.book (orderless-children c.passes_act_in_steps.ensures.acts c.heed.new.self.board.book c.retire_all.new.board.book c.start_children.new.board.book c.retire_all.ensures.retires c.start_children.ensures.starts) (c.start_children.ensures.going ∙ c.retire_all.ensures.going) refl (same-lines (g.F.Front.seen c.heed.new.front))
-          (stands-orders g.N.Known.known c.args.self.now.config _ false c.args.self.now.edition.stop_ms (g.D.Store.seen c.args.store.now) (g.F.Front.seen c.args.front.now) c.args.self.now.board.book c.let_go_of_conns.new.board.book (standing c.heed.new.self.edition.stop_ms (g.D.Store.seen c.heed.new.store) (g.F.Front.seen c.heed.new.front) c.heed.new.self.board.book) c.if-asked.false
-          (orderless-before c.passes_act_in_steps.ensures.acts (moment_for c.args.moment) c.args.self.now.ready c.args.self.now.board.book c.pass_time.new.board.book c.signal_all.new.board.book c.let_go_of_conns.new.board.book c.in_ok-pass_time.ensures.passes (subst (λ (xs : List ℕ). Acts 0 (signal_events c.pass_time.new.board.book xs) None c.pass_time.new.board.book c.signal_all.new.board.book) c.slots.ensures.is c.in_ok-signal_all.ensures.signals) c.in_ok-let_go_of_conns.ensures.gone) (c.let_go_of_conns.ensures.rest.going ∙ c.signal_all.ensures.rest.going ∙ c.pass_time.ensures.going) c.in_ok-asked.ensures.stands) in
+          let broken : StandsBroken known config (standing c.args.self.now.edition.stop_ms store now a) (standing c.heed.new.self.edition.stop_ms renewed read h) =
+          broken-after known config (standing c.args.self.now.edition.stop_ms store now a) c.heed.new.self.edition.stop_ms c.heed.new.self.edition.stop_ms renewed read read e h (orderless-children steps e f h c.retire_all.ensures.retires c.start_children.ensures.starts) (c.start_children.ensures.going ∙ c.retire_all.ensures.going) refl (same-lines read)
+          (stands-orders known config _ false c.args.self.now.edition.stop_ms store now a d (standing c.heed.new.self.edition.stop_ms renewed read e) c.if-asked.false
+          orders_off (c.let_go_of_conns.ensures.rest.going ∙ c.signal_all.ensures.rest.going ∙ c.pass_time.ensures.going) timely c.in_ok-asked.ensures.stands) in
           search (rules, broken);
       knows = search rules;
       serves = search rules;
       up = ap is_halted (c.start_children.ensures.going ∙ c.retire_all.ensures.going) ∙ c.heed.ensures.up;
       moment = search rules;
+      stays = on-err c.from_residual-in_err-start_children.result _ (moment-passed c.args.self.now.board.book.state c.start_children.new.board.book.state (moment_for c.args.moment) (c.start_children.ensures.rest.moment ∙ c.retire_all.ensures.rest.moment ∙ c.heed.ensures.moment ∙ c.let_go_of_conns.ensures.rest.moment ∙ c.signal_all.ensures.rest.moment ∙ c.in_ok-pass_time.ensures.moment));
+      counts =
+          let until : CountsUntil now.counts read.counts a h =
+          counts-unbroken now.counts read.counts a h (counts-more 0 now.counts read.counts read.counts a e h
+          (counts-more 0 now.counts now.counts read.counts a d e (counts-orderless now.counts now.counts a d refl orders_off (c.let_go_of_conns.ensures.rest.going ∙ c.signal_all.ensures.rest.going ∙ c.pass_time.ensures.going) (c.let_go_of_conns.ensures.rest.accepted ∙ c.signal_all.ensures.rest.accepted ∙ c.pass_time.ensures.taken))
+          (subst (λ (b : Bool). CountsOn (owed_by b) now.counts read.counts d e) c.if-asked.false c.in_ok-asked.ensures.counts))
+          (counts-orderless read.counts read.counts e h refl (orderless-children steps e f h c.retire_all.ensures.retires c.start_children.ensures.starts) (c.start_children.ensures.going ∙ c.retire_all.ensures.going) (c.start_children.ensures.rest.accepted ∙ c.retire_all.ensures.rest.accepted))) in
+          search (rules, until);
+      wakes = c.heed.ensures.wakes;
       step = search rules;
       ends = search rules;
       unheeded = on-err c.from_residual-in_err-start_children.result _ (c.in_ok-asked.ensures.none c.if-asked.false).0;
       follows = c.heed.ensures.follows;
-      front = only-reads (g.F.Front.seen c.args.front.now).told (g.F.Front.seen c.heed.new.front).told c.heed.ensures.front;
+      front = only-reads now.told read.told c.heed.ensures.front;
       watched =
-          λ before. watched-as (g.F.Front.seen c.heed.new.front).told c.heed.new.self.board.book c.start_children.new.board.book (nobody-more c.heed.new.self.board.book c.retire_all.new.board.book c.start_children.new.board.book (nobody-retired c.heed.new.self.board.book c.retire_all.new.board.book c.retire_all.ensures.retires) (nobody-started c.retire_all.new.board.book c.start_children.new.board.book c.start_children.ensures.starts)) (c.start_children.ensures.rest.accepted ∙ c.retire_all.ensures.rest.accepted)
-          (c.heed.ensures.watched (watched-as (g.F.Front.seen c.args.front.now).told c.args.self.now.board.book c.let_go_of_conns.new.board.book (nobody-before-orders c.args.self.now.board.book c.pass_time.new.board.book c.signal_all.new.board.book c.let_go_of_conns.new.board.book (moment_for c.args.moment) c.args.self.now.ready c.in_ok-pass_time.ensures.passes (subst (λ (xs : List ℕ). Acts 0 (signal_events c.pass_time.new.board.book xs) None c.pass_time.new.board.book c.signal_all.new.board.book) c.slots.ensures.is c.in_ok-signal_all.ensures.signals) c.in_ok-let_go_of_conns.ensures.gone) (c.let_go_of_conns.ensures.rest.accepted ∙ c.signal_all.ensures.rest.accepted ∙ c.pass_time.ensures.taken) before));
-      listens = step-listens (g.F.Front.seen c.heed.new.front).told c.start_children.new.board.book.state (step-kept (g.F.Front.seen c.heed.new.front).told c.heed.new.self.board.book.state c.start_children.new.board.book.state (c.start_children.ensures.rest.accepted ∙ c.retire_all.ensures.rest.accepted) (c.start_children.ensures.going ∙ c.retire_all.ensures.going) c.heed.ensures.step);
-      links = on-err c.from_residual-in_err-start_children.result _ (hands-step (g.F.Front.seen c.heed.new.front).told c.start_children.new.board.book.state (step-kept (g.F.Front.seen c.heed.new.front).told c.heed.new.self.board.book.state c.start_children.new.board.book.state (c.start_children.ensures.rest.accepted ∙ c.retire_all.ensures.rest.accepted) (c.start_children.ensures.going ∙ c.retire_all.ensures.going) c.heed.ensures.step));
+          λ past before. watched-as read.told e h (nobody-more e f h (nobody-retired e f c.retire_all.ensures.retires) (nobody-started f h c.start_children.ensures.starts)) (c.start_children.ensures.rest.accepted ∙ c.retire_all.ensures.rest.accepted) past
+          (c.heed.ensures.watched past (watched-as now.told a d none_taken (c.let_go_of_conns.ensures.rest.accepted ∙ c.signal_all.ensures.rest.accepted ∙ c.pass_time.ensures.taken) past before));
+      listens = step-listens read.told h.state (step-kept read.told e.state h.state (c.start_children.ensures.rest.accepted ∙ c.retire_all.ensures.rest.accepted) (c.start_children.ensures.going ∙ c.retire_all.ensures.going) c.heed.ensures.step);
+      links = on-err c.from_residual-in_err-start_children.result _ (hands-step read.told h.state (step-kept read.told e.state h.state (c.start_children.ensures.rest.accepted ∙ c.retire_all.ensures.rest.accepted) (c.start_children.ensures.going ∙ c.retire_all.ensures.going) c.heed.ensures.step));
       ready = ap (λ (l : _). l.ready) c.heed.ensures.others;
       config = ap (λ (l : _). l.config) c.heed.ensures.others;
       err = search rules;
@@ -371,34 +626,80 @@ returns-in_err-start_children g c =
 
 pub returns-in_err-take_all : goal.returns-in_err-take_all
 returns-in_err-take_all g c =
+    let known = g.N.Known.known in
+    let config = c.args.self.now.config in
+    let steps = c.passes_act_in_steps.ensures.acts in
+    let slots = c.args.self.now.ready in
+    let now = g.F.Front.seen c.args.front.now in
+    let read = g.F.Front.seen c.heed.new.front in
+    let new = g.F.Front.seen c.take_all.new.front in
+    let store = g.D.Store.seen c.args.store.now in
+    let renewed = g.D.Store.seen c.heed.new.store in
+    let a = c.args.self.now.board.book in
+    let b = c.pass_time.new.board.book in
+    let s = c.signal_all.new.board.book in
+    let d = c.let_go_of_conns.new.board.book in
+    let e = c.heed.new.self.board.book in
+    let f = c.retire_all.new.board.book in
+    let h = c.start_children.new.board.book in
+    let i = c.take_all.new.self.board.book in
+    let signals = subst (λ (xs : List ℕ). Acts 0 (signal_events b xs) None b s) c.slots.ensures.is c.in_ok-signal_all.ensures.signals in
+    let orders_off = orderless-before steps (moment_for c.args.moment) slots a b s d c.in_ok-pass_time.ensures.passes signals c.in_ok-let_go_of_conns.ensures.gone in
+    let none_taken = nobody-before-orders a b s d (moment_for c.args.moment) slots c.in_ok-pass_time.ensures.passes signals c.in_ok-let_go_of_conns.ensures.gone in
+    let timely : StaysTimely a d = λ first. c.let_go_of_conns.ensures.timely (c.signal_all.ensures.timely (c.pass_time.ensures.timely first)) in
+    let done : DoesAsked [] now.told read.told d e =
+    subst (λ (stops : Bool). DoesAsked (stop_if stops) now.told read.told d e) c.if-asked.false c.in_ok-asked.ensures.asks in
     record {
       round = search rules;
       broken =
-          let broken : BreaksOff c.in_err-take_all.field-0.0 (moment_for c.args.moment) c.args.self.now.ready c.args.self.now.board.book c.take_all.new.self.board.book =
-          breaks-behind c.passes_act_in_steps.ensures.acts c.in_err-take_all.field-0.0 (moment_for c.args.moment) c.args.self.now.ready c.args.self.now.board.book c.pass_time.new.board.book c.signal_all.new.board.book c.let_go_of_conns.new.board.book c.heed.new.self.board.book c.retire_all.new.board.book c.start_children.new.board.book c.in_err-take_all.ensures.until.book c.take_all.new.self.board.book
-          c.in_ok-pass_time.ensures.passes (signals-all c.args.self.now.ready c.pass_time.new.board.book c.signal_all.new.board.book (subst (λ (xs : List ℕ). Acts 0 (signal_events c.pass_time.new.board.book xs) None c.pass_time.new.board.book c.signal_all.new.board.book) c.slots.ensures.is c.in_ok-signal_all.ensures.signals)) c.in_ok-let_go_of_conns.ensures.gone c.in_ok-asked.ensures.does c.retire_all.ensures.retires c.start_children.ensures.starts c.in_err-take_all.ensures.until.takes (inr c.in_err-take_all.ensures.until.last) in
+          let broken : BreaksOff c.in_err-take_all.field-0.0 (moment_for c.args.moment) slots a i =
+          breaks-behind steps c.in_err-take_all.field-0.0 (moment_for c.args.moment) slots a b s d e f h c.in_err-take_all.ensures.until.book i
+          c.in_ok-pass_time.ensures.passes (signals-all slots b s signals) c.in_ok-let_go_of_conns.ensures.gone c.in_ok-asked.ensures.does c.retire_all.ensures.retires c.start_children.ensures.starts c.in_err-take_all.ensures.until.takes (inr c.in_err-take_all.ensures.until.last) in
           search (rules, broken);
+      share =
+          let cut : CutsShare c.args.moment slots now.told new.told a i =
+          cuts-taken c.args.moment slots now.told read.told new.told a d e f h i
+          (begins (moment_for c.args.moment) slots a b s d c.in_ok-pass_time.ensures.passes signals c.in_ok-let_go_of_conns.ensures.gone)
+          done c.heed.ensures.front c.retire_all.ensures.retires c.start_children.ensures.starts c.in_err-take_all.ensures.cut c.take_all.ensures.front in
+          search (rules, cut);
+      hushes = search rules;
+      timely = λ first. c.take_all.ensures.timely (c.start_children.ensures.starts.timely (c.retire_all.ensures.retires.timely (c.heed.ensures.timely (timely first))));
+      goes_on = search rules;
+      before =
+          on-err c.from_residual-in_err-take_all.result _
+          (end-same h.state i.state c.take_all.ensures.going c.take_all.ensures.children
+          (c.start_children.ensures.before (sym c.is_gone.ensures.end ∙ c.if-is_gone.false)));
       stands =
-          let broken : StandsBroken g.N.Known.known c.args.self.now.config (standing c.args.self.now.edition.stop_ms (g.D.Store.seen c.args.store.now) (g.F.Front.seen c.args.front.now) c.args.self.now.board.book) (standing c.take_all.new.self.edition.stop_ms (g.D.Store.seen c.heed.new.store) (g.F.Front.seen c.take_all.new.front) c.take_all.new.self.board.book) =
-          broken-after g.N.Known.known c.args.self.now.config (standing c.args.self.now.edition.stop_ms (g.D.Store.seen c.args.store.now) (g.F.Front.seen c.args.front.now) c.args.self.now.board.book) c.heed.new.self.edition.stop_ms c.take_all.new.self.edition.stop_ms (g.D.Store.seen c.heed.new.store) (g.F.Front.seen c.heed.new.front) (g.F.Front.seen c.take_all.new.front) c.heed.new.self.board.book c.take_all.new.self.board.book
-          (orderless-more c.passes_act_in_steps.ensures.acts c.heed.new.self.board.book c.start_children.new.board.book c.take_all.new.self.board.book (orderless-children c.passes_act_in_steps.ensures.acts c.heed.new.self.board.book c.retire_all.new.board.book c.start_children.new.board.book c.retire_all.ensures.retires c.start_children.ensures.starts) (orderless-takes_until c.passes_act_in_steps.ensures.acts c.in_err-take_all.field-0.0 c.start_children.new.board.book c.take_all.new.self.board.book c.in_err-take_all.ensures.until)) (c.take_all.ensures.going ∙ (c.start_children.ensures.going ∙ c.retire_all.ensures.going)) (ap (λ (e : LoadedEdition). e.stop_ms) c.take_all.ensures.edition) (lines-taken (g.F.Front.seen c.heed.new.front) (g.F.Front.seen c.take_all.new.front) c.take_all.ensures.front c.take_all.ensures.follows)
-          (stands-orders g.N.Known.known c.args.self.now.config _ false c.args.self.now.edition.stop_ms (g.D.Store.seen c.args.store.now) (g.F.Front.seen c.args.front.now) c.args.self.now.board.book c.let_go_of_conns.new.board.book (standing c.heed.new.self.edition.stop_ms (g.D.Store.seen c.heed.new.store) (g.F.Front.seen c.heed.new.front) c.heed.new.self.board.book) c.if-asked.false
-          (orderless-before c.passes_act_in_steps.ensures.acts (moment_for c.args.moment) c.args.self.now.ready c.args.self.now.board.book c.pass_time.new.board.book c.signal_all.new.board.book c.let_go_of_conns.new.board.book c.in_ok-pass_time.ensures.passes (subst (λ (xs : List ℕ). Acts 0 (signal_events c.pass_time.new.board.book xs) None c.pass_time.new.board.book c.signal_all.new.board.book) c.slots.ensures.is c.in_ok-signal_all.ensures.signals) c.in_ok-let_go_of_conns.ensures.gone) (c.let_go_of_conns.ensures.rest.going ∙ c.signal_all.ensures.rest.going ∙ c.pass_time.ensures.going) c.in_ok-asked.ensures.stands) in
+          let broken : StandsBroken known config (standing c.args.self.now.edition.stop_ms store now a) (standing c.take_all.new.self.edition.stop_ms renewed new i) =
+          broken-after known config (standing c.args.self.now.edition.stop_ms store now a) c.heed.new.self.edition.stop_ms c.take_all.new.self.edition.stop_ms renewed read new e i
+          (orderless-more steps e h i (orderless-children steps e f h c.retire_all.ensures.retires c.start_children.ensures.starts) (orderless-takes_until steps c.in_err-take_all.field-0.0 h i c.in_err-take_all.ensures.until)) (c.take_all.ensures.going ∙ (c.start_children.ensures.going ∙ c.retire_all.ensures.going)) (ap (λ (e : LoadedEdition). e.stop_ms) c.take_all.ensures.edition) (lines-taken read new c.take_all.ensures.follows)
+          (stands-orders known config _ false c.args.self.now.edition.stop_ms store now a d (standing c.heed.new.self.edition.stop_ms renewed read e) c.if-asked.false
+          orders_off (c.let_go_of_conns.ensures.rest.going ∙ c.signal_all.ensures.rest.going ∙ c.pass_time.ensures.going) timely c.in_ok-asked.ensures.stands) in
           search (rules, broken);
       knows = search rules;
       serves = search rules;
       up = ap is_halted c.take_all.ensures.going ∙ ap is_halted (c.start_children.ensures.going ∙ c.retire_all.ensures.going) ∙ c.heed.ensures.up;
       moment = search rules;
+      stays = on-err c.from_residual-in_err-take_all.result _ (moment-passed c.args.self.now.board.book.state c.take_all.new.self.board.book.state (moment_for c.args.moment) (c.take_all.ensures.moment ∙ c.start_children.ensures.rest.moment ∙ c.retire_all.ensures.rest.moment ∙ c.heed.ensures.moment ∙ c.let_go_of_conns.ensures.rest.moment ∙ c.signal_all.ensures.rest.moment ∙ c.in_ok-pass_time.ensures.moment));
+      counts =
+          let until : CountsUntil now.counts new.counts a i =
+          counts-until now.counts read.counts new.counts a h i (counts-more 0 now.counts read.counts read.counts a e h
+          (counts-more 0 now.counts now.counts read.counts a d e (counts-orderless now.counts now.counts a d refl orders_off (c.let_go_of_conns.ensures.rest.going ∙ c.signal_all.ensures.rest.going ∙ c.pass_time.ensures.going) (c.let_go_of_conns.ensures.rest.accepted ∙ c.signal_all.ensures.rest.accepted ∙ c.pass_time.ensures.taken))
+          (subst (λ (b : Bool). CountsOn (owed_by b) now.counts read.counts d e) c.if-asked.false c.in_ok-asked.ensures.counts))
+          (counts-orderless read.counts read.counts e h refl (orderless-children steps e f h c.retire_all.ensures.retires c.start_children.ensures.starts) (c.start_children.ensures.going ∙ c.retire_all.ensures.going) (c.start_children.ensures.rest.accepted ∙ c.retire_all.ensures.rest.accepted)))
+          c.in_err-take_all.ensures.counts in
+          search (rules, until);
+      wakes = c.take_all.ensures.wakes ∙ c.heed.ensures.wakes;
       step = search rules;
       ends = search rules;
-      unheeded = on-err c.from_residual-in_err-take_all.result _ (heeded-takes (g.F.Front.seen c.heed.new.front).told (g.F.Front.seen c.take_all.new.front).told c.take_all.ensures.front (c.in_ok-asked.ensures.none c.if-asked.false).0);
-      follows = follows-trans (g.F.Front.seen c.args.front.now) (g.F.Front.seen c.heed.new.front) (g.F.Front.seen c.take_all.new.front) c.heed.ensures.follows c.take_all.ensures.follows;
-      front = both-only (g.F.Front.seen c.args.front.now).told (g.F.Front.seen c.heed.new.front).told (g.F.Front.seen c.take_all.new.front).told c.heed.ensures.front c.take_all.ensures.front;
+      unheeded = on-err c.from_residual-in_err-take_all.result _ (heeded-takes read.told new.told c.take_all.ensures.front (c.in_ok-asked.ensures.none c.if-asked.false).0);
+      follows = follows-trans now read new c.heed.ensures.follows c.take_all.ensures.follows;
+      front = both-only now.told read.told new.told c.heed.ensures.front c.take_all.ensures.front;
       watched =
-          λ before. c.take_all.ensures.watched
-          (watched-as (g.F.Front.seen c.heed.new.front).told c.heed.new.self.board.book c.start_children.new.board.book (nobody-more c.heed.new.self.board.book c.retire_all.new.board.book c.start_children.new.board.book (nobody-retired c.heed.new.self.board.book c.retire_all.new.board.book c.retire_all.ensures.retires) (nobody-started c.retire_all.new.board.book c.start_children.new.board.book c.start_children.ensures.starts)) (c.start_children.ensures.rest.accepted ∙ c.retire_all.ensures.rest.accepted)
-          (c.heed.ensures.watched (watched-as (g.F.Front.seen c.args.front.now).told c.args.self.now.board.book c.let_go_of_conns.new.board.book (nobody-before-orders c.args.self.now.board.book c.pass_time.new.board.book c.signal_all.new.board.book c.let_go_of_conns.new.board.book (moment_for c.args.moment) c.args.self.now.ready c.in_ok-pass_time.ensures.passes (subst (λ (xs : List ℕ). Acts 0 (signal_events c.pass_time.new.board.book xs) None c.pass_time.new.board.book c.signal_all.new.board.book) c.slots.ensures.is c.in_ok-signal_all.ensures.signals) c.in_ok-let_go_of_conns.ensures.gone) (c.let_go_of_conns.ensures.rest.accepted ∙ c.signal_all.ensures.rest.accepted ∙ c.pass_time.ensures.taken) before)));
-      listens = listens-takes (g.F.Front.seen c.heed.new.front).told (g.F.Front.seen c.take_all.new.front).told c.start_children.new.board.book.state c.take_all.new.self.board.book.state c.take_all.ensures.front c.take_all.ensures.going (step-listens (g.F.Front.seen c.heed.new.front).told c.start_children.new.board.book.state (step-kept (g.F.Front.seen c.heed.new.front).told c.heed.new.self.board.book.state c.start_children.new.board.book.state (c.start_children.ensures.rest.accepted ∙ c.retire_all.ensures.rest.accepted) (c.start_children.ensures.going ∙ c.retire_all.ensures.going) c.heed.ensures.step));
+          λ past before. c.take_all.ensures.watched past
+          (watched-as read.told e h (nobody-more e f h (nobody-retired e f c.retire_all.ensures.retires) (nobody-started f h c.start_children.ensures.starts)) (c.start_children.ensures.rest.accepted ∙ c.retire_all.ensures.rest.accepted) past
+          (c.heed.ensures.watched past (watched-as now.told a d none_taken (c.let_go_of_conns.ensures.rest.accepted ∙ c.signal_all.ensures.rest.accepted ∙ c.pass_time.ensures.taken) past before)));
+      listens = listens-takes read.told new.told h.state i.state c.take_all.ensures.front c.take_all.ensures.going (step-listens read.told h.state (step-kept read.told e.state h.state (c.start_children.ensures.rest.accepted ∙ c.retire_all.ensures.rest.accepted) (c.start_children.ensures.going ∙ c.retire_all.ensures.going) c.heed.ensures.step));
       links = on-err c.from_residual-in_err-take_all.result _ c.in_err-take_all.ensures.links;
       ready = c.take_all.ensures.ready ∙ ap (λ (l : _). l.ready) c.heed.ensures.others;
       config = c.take_all.ensures.config ∙ ap (λ (l : _). l.config) c.heed.ensures.others;
@@ -407,38 +708,87 @@ returns-in_err-take_all g c =
 
 pub returns : goal.returns
 returns g c =
+    let known = g.N.Known.known in
+    let config = c.args.self.now.config in
+    let steps = c.passes_act_in_steps.ensures.acts in
+    let slots = c.args.self.now.ready in
+    let now = g.F.Front.seen c.args.front.now in
+    let read = g.F.Front.seen c.heed.new.front in
+    let new = g.F.Front.seen c.take_all.new.front in
+    let store = g.D.Store.seen c.args.store.now in
+    let renewed = g.D.Store.seen c.heed.new.store in
+    let a = c.args.self.now.board.book in
+    let b = c.pass_time.new.board.book in
+    let s = c.signal_all.new.board.book in
+    let d = c.let_go_of_conns.new.board.book in
+    let e = c.heed.new.self.board.book in
+    let f = c.retire_all.new.board.book in
+    let h = c.start_children.new.board.book in
+    let i = c.take_all.new.self.board.book in
+    let signals = subst (λ (xs : List ℕ). Acts 0 (signal_events b xs) None b s) c.slots.ensures.is c.in_ok-signal_all.ensures.signals in
+    let orders_off = orderless-before steps (moment_for c.args.moment) slots a b s d c.in_ok-pass_time.ensures.passes signals c.in_ok-let_go_of_conns.ensures.gone in
+    let none_taken = nobody-before-orders a b s d (moment_for c.args.moment) slots c.in_ok-pass_time.ensures.passes signals c.in_ok-let_go_of_conns.ensures.gone in
+    let timely : StaysTimely a d = λ first. c.let_go_of_conns.ensures.timely (c.signal_all.ensures.timely (c.pass_time.ensures.timely first)) in
+    let done : DoesAsked [] now.told read.told d e =
+    subst (λ (stops : Bool). DoesAsked (stop_if stops) now.told read.told d e) c.if-asked.false c.in_ok-asked.ensures.asks in
     record {
-      round = goes-round c.passes_act_in_steps.ensures.acts (moment_for c.args.moment) c.args.self.now.ready c.args.self.now.board.book c.pass_time.new.board.book c.signal_all.new.board.book c.let_go_of_conns.new.board.book c.heed.new.self.board.book c.retire_all.new.board.book c.start_children.new.board.book c.take_all.new.self.board.book c.in_ok-pass_time.ensures.passes (subst (λ (xs : List ℕ). Acts 0 (signal_events c.pass_time.new.board.book xs) None c.pass_time.new.board.book c.signal_all.new.board.book) c.slots.ensures.is c.in_ok-signal_all.ensures.signals) c.in_ok-let_go_of_conns.ensures.gone c.in_ok-asked.ensures.does c.retire_all.ensures.retires c.start_children.ensures.starts c.in_ok-take_all.ensures.takes;
+      round = goes-round steps (moment_for c.args.moment) slots a b s d e f h i c.in_ok-pass_time.ensures.passes signals c.in_ok-let_go_of_conns.ensures.gone c.in_ok-asked.ensures.does c.retire_all.ensures.retires c.start_children.ensures.starts c.in_ok-take_all.ensures.takes;
       broken = search rules;
+      share =
+          makes-round c.args.moment slots now.told read.told new.told a d e f h i
+          (begins (moment_for c.args.moment) slots a b s d c.in_ok-pass_time.ensures.passes signals c.in_ok-let_go_of_conns.ensures.gone)
+          done c.heed.ensures.front c.retire_all.ensures.retires c.start_children.ensures.starts c.in_ok-take_all.ensures.handed c.take_all.ensures.front;
+      hushes = hushes-takes now.told read.told new.told c.in_ok-asked.ensures.hushes c.take_all.ensures.front;
+      timely = λ first. c.take_all.ensures.timely (c.start_children.ensures.starts.timely (c.retire_all.ensures.retires.timely (c.heed.ensures.timely (timely first))));
+      goes_on =
+          let kept =
+          rows-moved c.histories_join.ensures.state steps c.in_ok-asked.ensures.does.orders d e f h c.in_ok-asked.ensures.does.acts c.retire_all.ensures.retires
+          c.start_children.ensures.starts c.show_state.ensures.after c.show_state-2.ensures.after in
+          let staffed : is_staffed h.state ≡ true =
+          c.in_ok-start_children.ensures.staffed (ap is_halted c.retire_all.ensures.going ∙ c.heed.ensures.up)
+          (sym c.is_gone.ensures.end ∙ c.if-is_gone.false) (children-kept d.state h.state kept c.let_go_of_conns.ensures.staffed) in (
+            still-in_time e.state i.state (c.take_all.ensures.moment ∙ c.start_children.ensures.rest.moment ∙ c.retire_all.ensures.rest.moment)
+                (c.take_all.ensures.going ∙ c.start_children.ensures.going ∙ c.retire_all.ensures.going)
+                (staffed-same h.state i.state c.take_all.ensures.children staffed) c.heed.ensures.in_time,
+            c.take_all.ensures.in_time (due-kept d.state h.state kept (soon-none d.state c.in_ok-let_go_of_conns.ensures.none_late)),
+          );
+      before = search rules;
       stands =
-          stands-behind g.N.Known.known c.args.self.now.config (standing c.args.self.now.edition.stop_ms (g.D.Store.seen c.args.store.now) (g.F.Front.seen c.args.front.now) c.args.self.now.board.book) c.heed.new.self.edition.stop_ms c.take_all.new.self.edition.stop_ms (g.D.Store.seen c.heed.new.store) (g.F.Front.seen c.heed.new.front) (g.F.Front.seen c.take_all.new.front) c.heed.new.self.board.book c.take_all.new.self.board.book (orderless-more c.passes_act_in_steps.ensures.acts c.heed.new.self.board.book c.start_children.new.board.book c.take_all.new.self.board.book (orderless-children c.passes_act_in_steps.ensures.acts c.heed.new.self.board.book c.retire_all.new.board.book c.start_children.new.board.book c.retire_all.ensures.retires c.start_children.ensures.starts) (orderless-takes c.start_children.new.board.book c.take_all.new.self.board.book c.in_ok-take_all.ensures.takes)) (c.take_all.ensures.going ∙ (c.start_children.ensures.going ∙ c.retire_all.ensures.going)) (ap (λ (e : LoadedEdition). e.stop_ms) c.take_all.ensures.edition) (lines-taken (g.F.Front.seen c.heed.new.front) (g.F.Front.seen c.take_all.new.front) c.take_all.ensures.front c.take_all.ensures.follows)
-          (stands-orders g.N.Known.known c.args.self.now.config _ false c.args.self.now.edition.stop_ms (g.D.Store.seen c.args.store.now) (g.F.Front.seen c.args.front.now) c.args.self.now.board.book c.let_go_of_conns.new.board.book (standing c.heed.new.self.edition.stop_ms (g.D.Store.seen c.heed.new.store) (g.F.Front.seen c.heed.new.front) c.heed.new.self.board.book) c.if-asked.false
-          (orderless-before c.passes_act_in_steps.ensures.acts (moment_for c.args.moment) c.args.self.now.ready c.args.self.now.board.book c.pass_time.new.board.book c.signal_all.new.board.book c.let_go_of_conns.new.board.book c.in_ok-pass_time.ensures.passes (subst (λ (xs : List ℕ). Acts 0 (signal_events c.pass_time.new.board.book xs) None c.pass_time.new.board.book c.signal_all.new.board.book) c.slots.ensures.is c.in_ok-signal_all.ensures.signals) c.in_ok-let_go_of_conns.ensures.gone) (c.let_go_of_conns.ensures.rest.going ∙ c.signal_all.ensures.rest.going ∙ c.pass_time.ensures.going) c.in_ok-asked.ensures.stands);
+          stands-behind known config (standing c.args.self.now.edition.stop_ms store now a) c.heed.new.self.edition.stop_ms c.take_all.new.self.edition.stop_ms renewed read new e i (orderless-more steps e h i (orderless-children steps e f h c.retire_all.ensures.retires c.start_children.ensures.starts) (orderless-takes h i c.in_ok-take_all.ensures.takes)) (c.take_all.ensures.going ∙ (c.start_children.ensures.going ∙ c.retire_all.ensures.going)) (ap (λ (e : LoadedEdition). e.stop_ms) c.take_all.ensures.edition) (lines-taken read new c.take_all.ensures.follows)
+          (stands-orders known config _ false c.args.self.now.edition.stop_ms store now a d (standing c.heed.new.self.edition.stop_ms renewed read e) c.if-asked.false
+          orders_off (c.let_go_of_conns.ensures.rest.going ∙ c.signal_all.ensures.rest.going ∙ c.pass_time.ensures.going) timely c.in_ok-asked.ensures.stands);
       knows =
-          subst (λ (n : NamedConfig). KnowsComing g.N.Known.known c.take_all.new.self.board.book n (g.D.Store.seen c.heed.new.store).told) (sym c.take_all.ensures.config)
-          (coming-orderless g.N.Known.known c.heed.new.self.board.book c.take_all.new.self.board.book c.heed.new.self.config (g.D.Store.seen c.heed.new.store).told (orderless-more c.passes_act_in_steps.ensures.acts c.heed.new.self.board.book c.start_children.new.board.book c.take_all.new.self.board.book (orderless-children c.passes_act_in_steps.ensures.acts c.heed.new.self.board.book c.retire_all.new.board.book c.start_children.new.board.book c.retire_all.ensures.retires c.start_children.ensures.starts) (orderless-takes c.start_children.new.board.book c.take_all.new.self.board.book c.in_ok-take_all.ensures.takes)) c.in_ok-asked.ensures.knows);
+          subst (λ (n : NamedConfig). KnowsComing known i n renewed.told) (sym c.take_all.ensures.config)
+          (coming-orderless known e i c.heed.new.self.config renewed.told (orderless-more steps e h i (orderless-children steps e f h c.retire_all.ensures.retires c.start_children.ensures.starts) (orderless-takes h i c.in_ok-take_all.ensures.takes)) c.in_ok-asked.ensures.knows);
       serves =
-          subst (ServesNewest g.N.Known.known c.take_all.new.self.board.book) (sym c.take_all.ensures.edition)
-          (newest-orderless c.generations_keep_their_editions.ensures g.N.Known.known c.heed.new.self.board.book c.take_all.new.self.board.book c.heed.new.self.edition (orderless-more c.passes_act_in_steps.ensures.acts c.heed.new.self.board.book c.start_children.new.board.book c.take_all.new.self.board.book (orderless-children c.passes_act_in_steps.ensures.acts c.heed.new.self.board.book c.retire_all.new.board.book c.start_children.new.board.book c.retire_all.ensures.retires c.start_children.ensures.starts) (orderless-takes c.start_children.new.board.book c.take_all.new.self.board.book c.in_ok-take_all.ensures.takes))
+          subst (ServesNewest known i) (sym c.take_all.ensures.edition)
+          (newest-orderless c.generations_keep_their_editions.ensures known e i c.heed.new.self.edition (orderless-more steps e h i (orderless-children steps e f h c.retire_all.ensures.retires c.start_children.ensures.starts) (orderless-takes h i c.in_ok-take_all.ensures.takes))
           (c.take_all.ensures.newest ∙ c.start_children.ensures.rest.newest ∙ c.retire_all.ensures.rest.newest) c.heed.ensures.serves);
       up = ap is_halted c.take_all.ensures.going ∙ ap is_halted (c.start_children.ensures.going ∙ c.retire_all.ensures.going) ∙ c.heed.ensures.up;
       moment =
           c.take_all.ensures.moment ∙ c.start_children.ensures.rest.moment ∙ c.retire_all.ensures.rest.moment ∙ c.heed.ensures.moment
           ∙ c.let_go_of_conns.ensures.rest.moment ∙ c.signal_all.ensures.rest.moment ∙ c.in_ok-pass_time.ensures.moment;
+      stays = search rules;
+      counts = (counts-more 0 now.counts read.counts new.counts a h i (counts-more 0 now.counts read.counts read.counts a e h
+          (counts-more 0 now.counts now.counts read.counts a d e (counts-orderless now.counts now.counts a d refl orders_off (c.let_go_of_conns.ensures.rest.going ∙ c.signal_all.ensures.rest.going ∙ c.pass_time.ensures.going) (c.let_go_of_conns.ensures.rest.accepted ∙ c.signal_all.ensures.rest.accepted ∙ c.pass_time.ensures.taken))
+          (subst (λ (b : Bool). CountsOn (owed_by b) now.counts read.counts d e) c.if-asked.false c.in_ok-asked.ensures.counts))
+          (counts-orderless read.counts read.counts e h refl (orderless-children steps e f h c.retire_all.ensures.retires c.start_children.ensures.starts) (c.start_children.ensures.going ∙ c.retire_all.ensures.going) (c.start_children.ensures.rest.accepted ∙ c.retire_all.ensures.rest.accepted)))
+          c.in_ok-take_all.ensures.counts);
+      wakes = c.take_all.ensures.wakes ∙ c.heed.ensures.wakes;
       step = search rules;
       ends = (
         c.in_ok-take_all.ensures.taken,
-        all-read (g.F.Front.seen c.heed.new.front).told (g.F.Front.seen c.take_all.new.front).told c.take_all.ensures.front (c.in_ok-asked.ensures.none c.if-asked.false).1,
-        heeded-takes (g.F.Front.seen c.heed.new.front).told (g.F.Front.seen c.take_all.new.front).told c.take_all.ensures.front (c.in_ok-asked.ensures.none c.if-asked.false).0,
+        all-read read.told new.told c.take_all.ensures.front (c.in_ok-asked.ensures.none c.if-asked.false).1,
+        heeded-takes read.told new.told c.take_all.ensures.front (c.in_ok-asked.ensures.none c.if-asked.false).0,
       );
       unheeded = search rules;
-      follows = follows-trans (g.F.Front.seen c.args.front.now) (g.F.Front.seen c.heed.new.front) (g.F.Front.seen c.take_all.new.front) c.heed.ensures.follows c.take_all.ensures.follows;
-      front = both-only (g.F.Front.seen c.args.front.now).told (g.F.Front.seen c.heed.new.front).told (g.F.Front.seen c.take_all.new.front).told c.heed.ensures.front c.take_all.ensures.front;
+      follows = follows-trans now read new c.heed.ensures.follows c.take_all.ensures.follows;
+      front = both-only now.told read.told new.told c.heed.ensures.front c.take_all.ensures.front;
       watched =
-          λ before. c.take_all.ensures.watched
-          (watched-as (g.F.Front.seen c.heed.new.front).told c.heed.new.self.board.book c.start_children.new.board.book (nobody-more c.heed.new.self.board.book c.retire_all.new.board.book c.start_children.new.board.book (nobody-retired c.heed.new.self.board.book c.retire_all.new.board.book c.retire_all.ensures.retires) (nobody-started c.retire_all.new.board.book c.start_children.new.board.book c.start_children.ensures.starts)) (c.start_children.ensures.rest.accepted ∙ c.retire_all.ensures.rest.accepted)
-          (c.heed.ensures.watched (watched-as (g.F.Front.seen c.args.front.now).told c.args.self.now.board.book c.let_go_of_conns.new.board.book (nobody-before-orders c.args.self.now.board.book c.pass_time.new.board.book c.signal_all.new.board.book c.let_go_of_conns.new.board.book (moment_for c.args.moment) c.args.self.now.ready c.in_ok-pass_time.ensures.passes (subst (λ (xs : List ℕ). Acts 0 (signal_events c.pass_time.new.board.book xs) None c.pass_time.new.board.book c.signal_all.new.board.book) c.slots.ensures.is c.in_ok-signal_all.ensures.signals) c.in_ok-let_go_of_conns.ensures.gone) (c.let_go_of_conns.ensures.rest.accepted ∙ c.signal_all.ensures.rest.accepted ∙ c.pass_time.ensures.taken) before)));
-      listens = step-listens (g.F.Front.seen c.take_all.new.front).told c.take_all.new.self.board.book.state c.in_ok-take_all.ensures.step;
+          λ past before. c.take_all.ensures.watched past
+          (watched-as read.told e h (nobody-more e f h (nobody-retired e f c.retire_all.ensures.retires) (nobody-started f h c.start_children.ensures.starts)) (c.start_children.ensures.rest.accepted ∙ c.retire_all.ensures.rest.accepted) past
+          (c.heed.ensures.watched past (watched-as now.told a d none_taken (c.let_go_of_conns.ensures.rest.accepted ∙ c.signal_all.ensures.rest.accepted ∙ c.pass_time.ensures.taken) past before)));
+      listens = step-listens new.told i.state c.in_ok-take_all.ensures.step;
       links = search rules;
       ready = c.take_all.ensures.ready ∙ ap (λ (l : _). l.ready) c.heed.ensures.others;
       config = c.take_all.ensures.config ∙ ap (λ (l : _). l.config) c.heed.ensures.others;

@@ -1,3 +1,5 @@
+use Rattle.listener.specs.Counted.{AsksOnce}
+use Rattle.listener.specs.CountedInside.{ClocksAt, CountsOn}
 use Rattle.listener.specs.TurnsInside.{listener_of}
 use Rattle.listener.proofs.OverLemmas.{IsBeforeTurn}
 use Rattle.listener.proofs.listener_state.Listener.take_turns.Given as goal
@@ -6,6 +8,12 @@ use Rattle.listener.proofs.listener_state.Listener.take_turns.Given as goal
 -- that was read stops it, the clock tells exactly where it did, the run stands as it did at first, and the newest generation is served by its edition
 abbrev pub invariant-loop : goal.invariant-loop
 invariant-loop g l =
-    IsBeforeTurn g.N.Known.known
-    (listener_of l.fn.self.board (g.F.Front.seen l.fn.front) (g.C.Clock.told l.fn.clock) l.fn.self.ready l.fn.self.edition (g.D.Store.seen l.fn.store) l.fn.self.config) l.rest
-    (listener_of l.self.board (g.F.Front.seen l.front) (g.C.Clock.told l.clock) l.self.ready l.self.edition (g.D.Store.seen l.store) l.self.config)
+    record {
+      turn : IsBeforeTurn g.N.Known.known
+          (listener_of l.fn.self.board (g.F.Front.seen l.fn.front) (g.C.Clock.told l.fn.clock) l.fn.self.ready l.fn.self.edition (g.D.Store.seen l.fn.store)
+          l.fn.self.config) l.rest
+          (listener_of l.self.board (g.F.Front.seen l.front) (g.C.Clock.told l.clock) l.self.ready l.self.edition (g.D.Store.seen l.store) l.self.config);
+      counts : CountsOn 0 (g.F.Front.seen l.fn.front).counts (g.F.Front.seen l.front).counts l.fn.self.board.book l.self.board.book;
+      asked : AsksOnce (g.F.Front.seen l.fn.front).counts.wakes (g.F.Front.seen l.front).counts.wakes (g.C.Clock.asked l.fn.clock) (g.C.Clock.asked l.clock);
+      clock : ClocksAt (g.C.Clock.greatest l.fn.clock) (g.C.Clock.greatest l.clock) l.fn.self.board.book.state l.self.board.book.state;
+    }

@@ -39,7 +39,10 @@ returns-clause-accepts c =
       faults = refl;
       accept_faults = omega arith;
       ends = refl;
+      wakes = refl;
       commands = refl;
+      words = refl;
+      handed = (omega arith, λ below. omega arith);
     })
 
 pub returns-clause-link : goal.returns-clause-link

@@ -47,5 +47,8 @@ returns-clause-commands c =
       faults = refl;
       accept_faults = refl;
       ends = refl;
+      wakes = refl;
       commands = (omega (arith, next.some, c.self.invariant.commands.came, brings-within s.script s.happened), λ below. omega (arith, below));
+      words = c.count.ensures;
+      handed = refl;
     })

@@ -13,4 +13,7 @@ returns-clause-waits g c =
     let from = ap (λ (f : SeenFront). f.told.moment) c.self.view_is in
     let to = ap (λ (f : SeenFront). f.told.moment) c.self-2.view_is in
     let passed = c.passed_between.ensures ∙ rw (from, to, c.waiting-waiting.ensures) refl in
-    waits c.args.self.now _ _ _ _ _ _ _ c.show.ensures.is c.show-2.ensures.is c.show-2.ensures.over passed c.put_down.ensures plays c.wake-answer.ensures.rest c.wake-answer.ensures.over
+    let accepted = ap (λ (f : SeenFront). f.told.accepted) c.self-2.view_is in
+    let read = c.read.ensures ∙ ap (λ (f : SeenFront). f.told.read) c.self-2.view_is in
+    let hushed = ap (λ (f : SeenFront). f.told.hushed) c.self-2.view_is in
+    waits c.args.self.now _ _ _ _ _ _ _ _ _ _ c.show.ensures.is c.show-2.ensures.is c.show-2.ensures.over passed accepted read hushed c.put_down.ensures plays c.wake-answer.ensures.rest c.wake-answer.ensures.over

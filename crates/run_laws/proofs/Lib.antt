@@ -1,0 +1,12 @@
+pub mod AnsweredLemmas
+pub mod CauseLemmas
+pub mod DialLemmas
+pub mod ExactLemmas
+pub mod FileLemmas
+pub mod LineLemmas
+pub mod MachineLemmas
+pub mod OpenedLemmas
+pub mod TickLemmas
+pub mod UndisturbedLemmas
+pub mod UnhurriedLemmas
+pub mod WayLemmas

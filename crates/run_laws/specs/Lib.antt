@@ -1,0 +1,5 @@
+pub mod Exact
+pub mod Grounds
+pub mod Outcomes
+pub mod Undisturbed
+pub mod Unhurried
