@@ -38,18 +38,7 @@ pub fn run<R: Threads + Wait + Sync, D: Store, F: Front, C: Clock, G: Gate + Syn
     requires unused { IfSome (F.seen front.old).told IsUnused }
     requires unasked { IfSome (C.told clock.old) (λ calls. calls ≡ []) }
 
-<<<<<<< f0e0bae9ba4e81f209b5ffa9de4069fbf16ad08a
-    // A history is folded as it grows, and a record counts what was folded. What is said here of a history, of connections that ended, and
-    // of watches, links, ticks, signals and time is said of those that are kept, behind as many as the record counts.
-
-    // What is left of a script's run, whatever the exit status: how it kept to its front and its clock, and why it stopped
-    // (`specs/Played.antt` of `script_run`).
-    ensures left { IfSome result.scripted IsLeftOfRun }
-
     // What a call leaves, and why it has its exit status (`specs/ExitStatuses.antt`; `specs/Ends.antt` of `server_run`).
-=======
-    // What a call leaves, and why it has its exit status (`specs/ExitStatuses.antt`).
->>>>>>> 2ab3f64187a3797f889734a258fbe51c0036452d
     //
     // What is left of a script's run is of one of the script that was read or made, by the configuration that it writes and the site that
     // it has by that, and then by the editions that its lines make: it closed each connection that it took, each child is gone, and each

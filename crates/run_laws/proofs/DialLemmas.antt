@@ -6,7 +6,7 @@ use Rattle.mpm_base.specs.Front.{Binds, Dials, DialTold, FrontSeen, FrontTold, a
 use Rattle.mpm_base.specs.declared.addr.Addr.{Addr}
 use Rattle.mpm_config.specs.Config.{Configuration}
 use Rattle.command_words.specs.Invocations.{sends, serves}
-use Rattle.mpm_run.specs.ExitStatuses.{HasDialled, LeavesFront}
+use Rattle.server_run.specs.Ends.{HasDialled, LeavesFront}
 use Rattle.run_laws.specs.Exact.{EndsWith}
 use Rattle.run_laws.specs.Outcomes.{IsOutcome, SeenOutcome}
 use Rattle.run_laws.proofs.WayLemmas.{OneForm, holds-of, some-of, unbound, undialled}

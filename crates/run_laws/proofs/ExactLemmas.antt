@@ -21,7 +21,7 @@ use Rattle.script_run.specs.Played.{HasPlayed}
 use Rattle.script_run.specs.ScriptRefusals.{fault_at}
 use Rattle.script_run.specs.Scripts.{HasConfig, HasScriptSite, IsSiteRefused, most_script}
 use Rattle.script_run.specs.declared.scripted.Scripted.{Scripted}
-use Rattle.mpm_run.specs.ExitStatuses.{IsUnbound}
+use Rattle.server_run.specs.Ends.{IsUnbound}
 use Rattle.run_laws.specs.Exact.{EndsShowing, HasWritten, LacksIt, UnlessFailing}
 use Rattle.run_laws.specs.Grounds.{AsksLines, HasFitScript, HasLargeScript, HasNoConfig, HasNoSite, HasUnfitScript, LacksNamed, SendsBy, ServesBy, ServesSite, TellsFile, TestsFit, WritesConfig, WritesSite}
 use Rattle.run_laws.specs.Outcomes.{IsOutcome, SeenOutcome}

@@ -7,7 +7,7 @@ use Rattle.board.specs.Board.{SeenBoard}
 use Rattle.run_opening.specs.Configured.{warnings_of}
 use Rattle.run_report.specs.Endings.{EndsAs, IsGoodEnd, MayEndWith, run_text}
 use Rattle.run_report.proofs.EndingLemmas.{may-end}
-use Rattle.mpm_run.specs.ExitStatuses.{HasRunServer}
+use Rattle.server_run.specs.Ends.{HasRunServer}
 use Rattle.run_laws.specs.Exact.{EndsExactly}
 use Rattle.run_laws.specs.Outcomes.{IsOutcome, SeenOutcome}
 use Rattle.run_laws.proofs.WayLemmas.{holds-of}

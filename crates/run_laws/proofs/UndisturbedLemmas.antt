@@ -32,7 +32,7 @@ use Rattle.run_report.specs.Endings.{EndsAs}
 use Rattle.run_report.proofs.EndingLemmas.{may-end}
 use Rattle.script_run.specs.Played.{HasPlayed}
 use Rattle.script_run.specs.declared.scripted.Scripted.{Scripted}
-use Rattle.mpm_run.specs.ExitStatuses.{HasRunServer}
+use Rattle.server_run.specs.Ends.{HasRunServer}
 use Rattle.run_laws.specs.Grounds.{SendsBy, TestsFit, WritesSite}
 use Rattle.run_laws.specs.Outcomes.{IsOutcome, SeenOutcome}
 use Rattle.run_laws.specs.Undisturbed.{AreServedWhole, EndsPlayed, EndsServed, IsUndisturbed, IsUndisturbedScript, IsUndisturbedServer, NoneAsksStop}

@@ -22,7 +22,8 @@ use Rattle.script_run.specs.Played.{HasPlayed}
 use Rattle.script_run.specs.ScriptRefusals.{EndsMisconfigured, EndsRefused, EndsScriptSiteRefused, fault_at}
 use Rattle.script_run.specs.Scripts.{HasConfig, HasScript, IsSiteRefused, MakesLoad, PlaysLines, ReadsScript, most_script}
 use Rattle.script_run.specs.declared.scripted.Scripted.{Scripted}
-use Rattle.mpm_run.specs.ExitStatuses.{EndsConfigRefused, EndsFrontFault, EndsSiteRefused, EndsUnread, HasDialled, HasRunServer, IsExitStatus, IsUnbound, LacksOutput, Sends, Succeeds}
+use Rattle.mpm_run.specs.ExitStatuses.{EndsConfigRefused, EndsFrontFault, EndsSiteRefused, IsExitStatus, LacksOutput, Succeeds}
+use Rattle.server_run.specs.Ends.{EndsUnread, HasDialled, HasRunServer, IsUnbound, Sends}
 use Rattle.run_laws.specs.Outcomes.{IsOutcome, SeenOutcome}
 
 -- ## Options

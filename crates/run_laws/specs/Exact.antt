@@ -9,7 +9,7 @@ use Rattle.mpm_base.specs.Front.{FrontTold}
 use Rattle.mpm_base.specs.Sink.{SinkSeen}
 use Rattle.mpm_base.specs.declared.script_line.CommandWord.{CommandWord}
 use Rattle.mpm_config.specs.Config.{Configuration}
-use Rattle.mpm_run.specs.ExitStatuses.{HasDialled, HasRunServer, IsUnbound}
+use Rattle.server_run.specs.Ends.{HasDialled, HasRunServer, IsUnbound}
 use Rattle.run_laws.specs.Grounds.{HasLargeScript, HasNoConfig, HasNoSite, HasUnfitScript, LacksNamed, SendsBy, ServesSite, TestsFit, WritesSite}
 use Rattle.run_laws.specs.Outcomes.{IsOutcome, SeenOutcome}
 use Rattle.run_opening.specs.Calls.{Call, StoreFailed}

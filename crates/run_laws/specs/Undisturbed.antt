@@ -22,7 +22,7 @@ use Rattle.mpm_base.specs.declared.conn.Cause.TheVariants as cause
 use Rattle.mpm_base.specs.declared.script_line.CommandWord.TheVariants as word
 use Rattle.mpm_config.specs.Config.{Configuration}
 use Rattle.mpm_base.specs.declared.script_line.CommandWord.{CommandWord}
-use Rattle.mpm_run.specs.ExitStatuses.{HasRunServer}
+use Rattle.server_run.specs.Ends.{HasRunServer}
 use Rattle.mpm_script.specs.Clients.{clients_of, names_of}
 use Rattle.run_laws.specs.Grounds.{SendsBy, TestsFit, WritesSite}
 use Rattle.run_laws.specs.Outcomes.{IsOutcome, SeenOutcome}

@@ -17,12 +17,8 @@ use Rattle.run_opening.specs.Calls.{Call, HadConfigAccepted, HasConfigAccepted, 
 use Rattle.restart_control.specs.Reload.{most_config, order_of}
 use Rattle.run_opening.specs.Configured.{warnings_of}
 use Rattle.run_report.specs.Endings.{EndsAs, MayEndWith}
-<<<<<<< f0e0bae9ba4e81f209b5ffa9de4069fbf16ad08a:crates/server_run/proofs/ServeLemmas.antt
 use Rattle.server_run.specs.Ends.{EndsServedSiteRefused, EndsUnbound, EndsUnread, HasRunServer, IsUnbound, LeavesFront, EndsFileRefused}
-=======
-use Rattle.mpm_run.specs.ExitStatuses.{EndsSiteRefused, EndsUnbound, EndsUnread, HasRunServer, IsUnbound, LeavesFront, EndsConfigRefused}
 use Rattle.listener.specs.Counted.{LeavesClock}
->>>>>>> 2ab3f64187a3797f889734a258fbe51c0036452d:crates/mpm_run/proofs/ServeLemmas.antt
 use Rattle.listener.specs.RunsInside.{HasRunBy}
 use Rattle.server_run.specs.EndsInside.{LeavesUnbound, RefusesFolder, IsOpenedStatus, EndsServe}
 use Rattle.run_opening.specs.RefusalsInside.{RefusesRun}

@@ -3,25 +3,25 @@ use Rattle.board.specs.Board.{SeenBoard}
 use Rattle.command_words.specs.Invocations.{IsSendWords, IsServeWords, IsTestWords, NamesConfig, NamesFile}
 use Rattle.file_table.specs.Site.{SeenSite}
 use Rattle.mpm_base.specs.CommandWord.{command_word}
-use Rattle.mpm_base.specs.Count.{Rises}
 use Rattle.mpm_base.specs.Front.{Binds, Dials, FrontSeen}
 use Rattle.mpm_base.specs.declared.script_line.CommandWord.{CommandWord}
 use Rattle.mpm_config.specs.Config.{Configuration}
+use Rattle.listener.specs.Counted.{CountsRun, GivesNoEnding}
 use Rattle.listener.specs.Commands.{GivesLines}
 use Rattle.listener.specs.FirstNumbers.{numbers_of}
 use Rattle.listener.specs.Generations.{Opening}
 use Rattle.listener.specs.Outside.{KeepsOutside}
-use Rattle.listener.specs.Runs.{HasRun, entries_of_run, KeepsLines}
+use Rattle.listener.specs.Runs.{HasRun, ended_of_run, entries_of_run}
 use Rattle.listener.specs.Stores.{KeepsStore}
 use Rattle.restart_control.specs.Reload.{most_config}
 use Rattle.run_opening.specs.Calls.{Call, HadConfigAccepted, HasConfigAccepted, HasFile, IsRefusedAsLarge, IsFileUnread, KeepsFiles, HasSiteRefused, LoadsSite, StoreFailed}
 use Rattle.run_opening.specs.Configured.{IsRefused, warnings_of}
 use Rattle.run_report.specs.Endings.{EndsAs}
 use Rattle.run_report.specs.Texts.{config_refused, front_fault, no_control_line, site_refused, store_fault, syntax_ok}
-use Rattle.run_report.specs.Written.{WritesText}
+use Rattle.run_report.specs.Written.{LeavesUnwritten, WritesText}
 use Rattle.run_report.specs.declared.texts.ConfigRefusal.{ConfigRefusal}
 use Rattle.run_report.specs.declared.texts.ConfigRefusal.TheVariants.{BadValue}
-use Rattle.std.specs.Prelude.{◌≡◌, ℕ, ◌⊎◌, Bool, true, false, List, ◌++◌, Option, Some, None, option_map, IfSome}
+use Rattle.std.specs.Prelude.{◌≡◌, ℕ, ◌⊎◌, Bool, true, false, List, ◌++◌, Option, Some, None, option_map}
 
 -- ## Where no run opened
 
@@ -96,14 +96,14 @@ pub record EndsTested (call : Call) : Type 0 where
   pub shows : call.shown ≡ None
   pub text : call.sink'.told ≡ option_map (λ written. written ++ (warnings_of config ++ syntax_ok)) call.sink.told
 
--- with exit status 5, of a test: the configuration is accepted, and a write of its texts failed
+-- with exit status 5, of a test: the configuration is accepted, and a write of its texts failed, which were not written whole
 pub record EndsTestUnwritten (call : Call) : Type 0 where
   pub name : List ℕ
   pub config : Configuration
   pub command : IsTestWords call.words name
   pub accepted : HasConfigAccepted call name config
   pub shows : call.shown ≡ None
-  pub failed : Rises call.sink.faults call.sink'.faults
+  pub unwritten : LeavesUnwritten call.sink call.sink' (warnings_of config ++ syntax_ok)
 
 -- ## Where a command was sent
 
@@ -185,8 +185,8 @@ abbrev pub server_opening : Call → FrontSeen → List ℕ → Configuration �
 server_opening call f name c site = record { name = name; config = c; site = site; store = call.store; front = f }
 
 -- a server was run over the front and the clock, and what is left is of a run by the configuration of the file that the words name and
--- by the site of the store, and then by the store's editions; it is tied to the front, the clock and the store, and ended as its exit status
--- says
+-- by the site of the store, and then by the store's editions; all its entries, and all its connections that ended, are tied to the front, the
+-- clock and the store, of what the front counted too, and it ended as its exit status says
 pub record HasRunServer (call : Call) (f f' : FrontSeen) (calls : Option (List (ℕ × ℕ))) (status : ℕ) (b : SeenBoard) : Type 0 where
   pub name : List ℕ
   pub config : Configuration
@@ -196,8 +196,12 @@ pub record HasRunServer (call : Call) (f f' : FrontSeen) (calls : Option (List (
   pub loads : LoadsSite call config site
   pub shows : call.shown ≡ None
   pub has_run : HasRun (server_opening call f name config site) b
-  pub outside : KeepsOutside (numbers_of config) f f' calls b
-  pub lines : IfSome f'.told (KeepsLines (entries_of_run (server_opening call f name config site) b has_run) b)
+  pub outside :
+      KeepsOutside (numbers_of config) f f' calls b.book.state (entries_of_run (server_opening call f name config site) b has_run)
+      (ended_of_run (server_opening call f name config site) b has_run)
+  pub counted : CountsRun b.book f.counts f'.counts
+  pub unended :
+      GivesNoEnding b.book.state.going (entries_of_run (server_opening call f name config site) b has_run) f.counts f'.counts
   pub given : GivesLines (entries_of_run (server_opening call f name config site) b has_run) f f'
   pub store :
       KeepsStore b.book.state.going (entries_of_run (server_opening call f name config site) b has_run) call.store call.store'

@@ -2,12 +2,7 @@
 //! Why it is so stands in docs/DECISIONS.md: 79, What a test reads.
 ghost use Rattle.std.specs.Prelude.{◌≡◌, ◌⊎◌, ◌++◌, ℕ, List, None, option_map};
 ghost use Rattle.command_words.specs.Invocations.{IsTestWords};
-<<<<<<< f0e0bae9ba4e81f209b5ffa9de4069fbf16ad08a:crates/server_run/src/config_test.rt
-ghost use Rattle.mpm_base.specs.Count.{Rises};
 ghost use Rattle.server_run.specs.EndsInside.{EndsTest};
-=======
-ghost use Rattle.mpm_run.specs.ExitStatusesInside.{EndsTest};
->>>>>>> 2ab3f64187a3797f889734a258fbe51c0036452d:crates/mpm_run/src/config_test.rt
 ghost use Rattle.run_opening.specs.Calls.{seen_call};
 ghost use Rattle.run_opening.specs.Refusals.{EndsSilently};
 ghost use Rattle.run_report.specs.Texts.{syntax_ok};

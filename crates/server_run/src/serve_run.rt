@@ -2,13 +2,8 @@
 ghost use Rattle.std.specs.Prelude.{◌≡◌, ◌⊎◌, ℕ, List, [], None, false, IfSome, IsNone, IsSome};
 ghost use Rattle.command_words.specs.Invocations.{IsServeWords};
 ghost use Rattle.mpm_base.specs.Front.{Binds};
-<<<<<<< f0e0bae9ba4e81f209b5ffa9de4069fbf16ad08a:crates/server_run/src/serve_run.rt
 ghost use Rattle.server_run.specs.EndsInside.{EndsServe, IsOpenedStatus, LeavesUnbound, RefusesFolder};
-ghost use Rattle.listener.specs.FirstNumbers as opening;
-=======
-ghost use Rattle.mpm_run.specs.ExitStatusesInside.{EndsServe, IsOpenedStatus, LeavesUnbound, RefusesFolder};
 ghost use Rattle.listener.specs.Counted.{AsksOnce, LeavesClock};
->>>>>>> 2ab3f64187a3797f889734a258fbe51c0036452d:crates/mpm_run/src/serve_run.rt
 ghost use Rattle.listener.specs.Generations.{head_limits_of};
 ghost use Rattle.listener.specs.OrdersInside.{opening_by};
 ghost use Rattle.listener.specs.Outside.{TellsStill};

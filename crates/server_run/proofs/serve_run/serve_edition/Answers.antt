@@ -3,14 +3,8 @@ use Rattle.std.proofs.Common.{◌∙◌, ℕ, List, subst}
 use Rattle.run_report.specs.EndingsInside.{WritesAll}
 use Rattle.run_report.proofs.EndingLemmas.{ends-as}
 use Rattle.listener.proofs.LeftLemmas.{stopped-end}
-<<<<<<< f0e0bae9ba4e81f209b5ffa9de4069fbf16ad08a:crates/server_run/proofs/serve_run/serve_edition/Answers.antt
 use Rattle.server_run.proofs.ServeLemmas.{opened-status}
-use Rattle.listener.proofs.LeftLemmas.{has-run-by}
 use Rattle.server_run.proofs.serve_run.serve_edition.Goals as goal
-=======
-use Rattle.mpm_run.proofs.ServeLemmas.{opened-status}
-use Rattle.mpm_run.proofs.serve_run.serve_edition.Goals as goal
->>>>>>> 2ab3f64187a3797f889734a258fbe51c0036452d:crates/mpm_run/proofs/serve_run/serve_edition/Answers.antt
 
 pub returns-in-Ok-clause-ends : goal.returns-in-Ok-clause-ends
 returns-in-Ok-clause-ends g c =

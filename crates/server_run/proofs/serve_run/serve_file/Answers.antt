@@ -3,18 +3,11 @@ use Rattle.mpm_base.specs.Store.{StoreSeen}
 use Rattle.file_table.specs.Site.{SeenSite}
 use Rattle.run_opening.proofs.ConfigLemmas.{had-accepted, has-accepted}
 use Rattle.listener.specs.RunsInside.{HasRunBy}
-<<<<<<< f0e0bae9ba4e81f209b5ffa9de4069fbf16ad08a:crates/server_run/proofs/serve_run/serve_file/Answers.antt
+use Rattle.listener.proofs.CountedEndLemmas.{asks-none}
 use Rattle.server_run.proofs.ConfigLemmas.{config-refused, config-unread}
 use Rattle.server_run.proofs.InvocationLemmas.{serve-config}
-use Rattle.server_run.proofs.ServeLemmas.{asked-only, folder-refused, folder-unread, is-ready, leaves-front, serves, unbound, unserved}
+use Rattle.server_run.proofs.ServeLemmas.{asked-only, clock-unserved, folder-refused, folder-unread, is-ready, leaves-front, serves, unbound, unserved}
 use Rattle.server_run.proofs.serve_run.serve_file.Goals as goal
-=======
-use Rattle.listener.proofs.CountedEndLemmas.{asks-none}
-use Rattle.mpm_run.proofs.ConfigLemmas.{config-refused, config-unread}
-use Rattle.mpm_run.proofs.InvocationLemmas.{serve-config}
-use Rattle.mpm_run.proofs.ServeLemmas.{asked-only, clock-unserved, folder-refused, folder-unread, is-ready, leaves-front, serves, unbound, unserved}
-use Rattle.mpm_run.proofs.serve_run.serve_file.Goals as goal
->>>>>>> 2ab3f64187a3797f889734a258fbe51c0036452d:crates/mpm_run/proofs/serve_run/serve_file/Answers.antt
 
 pub returns-in-Err-clause-ends : goal.returns-in-Err-clause-ends
 returns-in-Err-clause-ends g c words command =
