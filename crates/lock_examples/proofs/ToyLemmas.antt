@@ -20,7 +20,7 @@ use Rattle.lock_examples.proofs.PlaceLemmas.{each_after, each_first}
 use Rattle.board_lock.specs.Passes.{GaveBack, TookTurn, fresh_view}
 use Rattle.lock_examples.specs.declared.stage.ToyStage.{ToyStage}
 use Rattle.lock_examples.specs.declared.stage.ToyStage.TheVariants.{Starts, Takes, Signals, Serves}
-use Rattle.lock_examples.specs.Toy.{FoldsBetween, IsReadyPass, KeepsOpening, MakesStep, SeenToy, entries_from, first_of, maker, next_round, next_stage, stage_at, step_of, toy_ledger, toy_record, toy_shape, toy_state}
+use Rattle.lock_examples.specs.Toy.{FoldsBetween, IsReadyPass, KeepsOpening, MakesStep, SeenToy, entries_from, first_of, maker, next_round, next_stage, round_at, stage_at, step_of, toy_ledger, toy_record, toy_shape, toy_state}
 use Rattle.lock_examples.proofs.EntryLemmas.{AreStepsOf, FitsRow, IsAt, after-append, after_first, after_more, are_more, count_append, more_from, more_of, none_behind, permits_more, state_at, state_of}
 use Rattle.lock_examples.proofs.FoldLemmas.{record_more, record_opens}
 
