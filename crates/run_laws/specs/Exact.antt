@@ -5,21 +5,20 @@ use Rattle.command_words.specs.Invocations.{IsNoInvocation}
 use Rattle.conn_machine.specs.declared.event.Why.TheVariants as why
 use Rattle.conn_machine.specs.declared.state.Going.TheVariants.{Halted}
 use Rattle.mpm_base.specs.Count.{Rises}
-use Rattle.mpm_base.specs.Front.{FrontTold}
 use Rattle.mpm_base.specs.Sink.{SinkSeen}
 use Rattle.mpm_base.specs.declared.script_line.CommandWord.{CommandWord}
 use Rattle.mpm_config.specs.Config.{Configuration}
 use Rattle.server_run.specs.Ends.{HasDialled, HasRunServer, IsUnbound}
 use Rattle.run_laws.specs.Grounds.{HasLargeScript, HasNoConfig, HasNoSite, HasUnfitScript, LacksNamed, SendsBy, ServesSite, TestsFit, WritesSite}
 use Rattle.run_laws.specs.Outcomes.{IsOutcome, SeenOutcome}
-use Rattle.run_opening.specs.Calls.{Call, StoreFailed}
+use Rattle.run_opening.specs.Calls.{StoreFailed}
 use Rattle.run_opening.specs.Configured.{warnings_of}
 use Rattle.run_report.specs.Endings.{IsGoodEnd, Reports, run_text}
 use Rattle.run_report.specs.Texts.{syntax_ok}
 use Rattle.run_report.specs.Written.{LeavesUnwritten}
 use Rattle.run_report.specs.declared.texts.ConfigRefusal.{ConfigRefusal}
 use Rattle.run_report.specs.declared.texts.ScriptRefusal.{ScriptRefusal}
-use Rattle.std.specs.Prelude.{◌≡◌, ◌⊎◌, ℕ, List, ◌++◌, Bool, true, false, Option, None, Some, IfSome, IsNone, IsSome, IsSomeAnd, option_map}
+use Rattle.std.specs.Prelude.{◌≡◌, ◌⊎◌, ℕ, List, ◌++◌, true, false, Option, None, Some, IfSome, IsNone, IsSome, IsSomeAnd, option_map}
 
 -- ## What may come before
 
