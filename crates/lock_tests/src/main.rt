@@ -15,6 +15,10 @@
 //!   queue, and lie down again as two other threads receive them.
 //! - `queue PLACES`: the calls `push NUMBER`, `pop` and `end TIMES` of a seat that is alone at a queue of so many places.
 //! - `relay PLACES`: a thread puts a thousand numbers into such a queue, and another one takes as many items.
+//! - `rounds KIND THREADS COUNT`: each of so many threads does so many rounds, and all of them are counted that found what they were to
+//!   find. A round of `board_lock` takes the turn, looks at the value and gives the turn back; one of `mutex` does the same with a `Mutex`
+//!   round the same value. A round of `fd_queue` puts an item into a queue of 64 places and takes one; one of `array_queue` does it with
+//!   the queue that `fd_queue` stands on. `bench/lock` times such sections from outside.
 #![tactic(auto)]
 
 mod begins;
@@ -24,6 +28,9 @@ mod perches;
 mod permits;
 mod posts;
 mod queues;
+mod rounds;
+mod rounds_of_queues;
+mod rounds_of_turns;
 mod sleeps;
 mod travels;
 mod turns;
@@ -60,6 +67,7 @@ fn show_section<R: Print + Threads + Wait + Clock + Sync>(
         "contend" => contended::show_contention(rt, alloc, small_of(rest)),
         "queue" => queues::show_queue(rt, alloc, rest, rows),
         "relay" => queues::show_relay(rt, alloc, rest),
+        "rounds" => rounds::show_rounds(rt, alloc, rest),
         _ => travels::show_travel(rt, alloc),
     }
 }

@@ -1,7 +1,7 @@
 //! Rounds with a lock.
 ghost use Rattle.std.specs.Prelude.{◌≤◌};
 
-use crate::plan::{Workload, sum_of};
+use crate::rounds::{Workload, sum_of};
 use conn_machine::Kept;
 use lock_examples::{Player, Toy, looks, opened, players};
 use mpm_base::NoMemory;
@@ -13,11 +13,11 @@ use std::thread::{self, Threads};
 pub fn by_board_lock<R: Wait + Threads + Sync>(
     rt: &R,
     alloc: Global,
-    plan: &Workload,
+    workload: &Workload,
 ) -> Result<u64, NoMemory> {
-    let (shared, mut passes) = opened(alloc, plan.threads)?;
-    let jobs = players(alloc, &shared, &mut passes, plan.threads)?;
-    let rounds = plan.rounds;
+    let (shared, mut passes) = opened(alloc, workload.threads)?;
+    let jobs = players(alloc, &shared, &mut passes, workload.threads)?;
+    let rounds = workload.rounds;
     let counts = thread::map_vec(rt, jobs, &|player: Player| takes_turns(rt, player, rounds))?;
     Ok(sum_of(&counts))
 }
@@ -40,11 +40,11 @@ fn takes_turns<R: Wait>(rt: &R, player: Player, rounds: u32) -> u32
 pub fn by_mutex<R: Wait + Threads + Sync>(
     rt: &R,
     alloc: Global,
-    plan: &Workload,
+    workload: &Workload,
 ) -> Result<u64, NoMemory> {
-    let value = Mutex::new(Box::new(alloc, Toy::new(alloc, plan.threads))?);
-    let (shared, rounds) = (&value, plan.rounds);
-    let count = plan.threads as usize;
+    let value = Mutex::new(Box::new(alloc, Toy::new(alloc, workload.threads))?);
+    let (shared, rounds) = (&value, workload.rounds);
+    let count = workload.threads as usize;
     let counts = thread::map_indices(rt, alloc, count, &|_| locks(rt, shared, rounds))?;
     Ok(sum_of(&counts))
 }

@@ -1,7 +1,7 @@
 use Rattle.std.proofs.Common.{◌≡◌, ℕ, Some}
 use Rattle.std.specs.Prelude.{slice_get}
 use Rattle.crossbeam_queue.specs.Passes.{IsPassOf}
-use Rattle.lock_bench.proofs.queues.users.Given as goal
+use Rattle.lock_tests.proofs.rounds_of_queues.users.Given as goal
 
 -- the seats are the queue's
 abbrev pub invariant-loop : goal.invariant-loop

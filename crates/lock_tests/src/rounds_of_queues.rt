@@ -2,7 +2,7 @@
 ghost use Rattle.std.specs.Prelude.{◌≡◌, ◌≤◌, ℕ, Some, slice_get};
 ghost use Rattle.crossbeam_queue.specs.Passes.{IsPassOf};
 
-use crate::plan::{Workload, sum_of};
+use crate::rounds::{Workload, sum_of};
 use crossbeam_queue::ArrayQueue;
 use fd_queue::{FdQueue, FdSeat, Item};
 use lock_examples::last_seat;
@@ -26,11 +26,11 @@ struct User<'q> {
 pub fn by_fd_queue<R: Wait + Threads + Sync>(
     rt: &R,
     alloc: Global,
-    plan: &Workload,
+    workload: &Workload,
 ) -> Result<u64, NoMemory> {
-    let (queue, seats) = FdQueue::make(alloc, PLACES, plan.threads)?;
+    let (queue, seats) = FdQueue::make(alloc, PLACES, workload.threads)?;
     let jobs = users(alloc, &queue, seats)?;
-    let rounds = plan.rounds;
+    let rounds = workload.rounds;
     let counts = thread::map_vec(rt, jobs, &|user: User| puts_and_takes(rt, user, rounds))?;
     Ok(sum_of(&counts))
 }
@@ -71,11 +71,11 @@ fn puts_and_takes<R: Wait>(rt: &R, user: User, rounds: u32) -> u32
 pub fn by_array_queue<R: Wait + Threads + Sync>(
     rt: &R,
     alloc: Global,
-    plan: &Workload,
+    workload: &Workload,
 ) -> Result<u64, NoMemory> {
     let queue = ArrayQueue::new(alloc, PLACES as usize)?;
-    let (shared, rounds) = (&queue, plan.rounds);
-    let count = plan.threads as usize;
+    let (shared, rounds) = (&queue, workload.rounds);
+    let count = workload.threads as usize;
     let counts = thread::map_indices(rt, alloc, count, &|_| relays(rt, shared, rounds))?;
     Ok(sum_of(&counts))
 }
