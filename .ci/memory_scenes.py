@@ -1,9 +1,10 @@
-"""The scenes of a program that may have so much memory and no more, by a limit of the system's on its data, which .ci/sockets plays: the start of a
-server, a restart to a larger site, and a command. The limit is stepped through all that the program takes where no limit is, so that memory lacks at
-many places, and from each of them on for all that is larger than what is left. Of each step is wanted what is wanted where a single allocation
-fails: the program ends with its status and its text, or goes on, and no client gets a wrong byte.
+"""The scenes of a program that may have so much memory and no more, by a limit of the system's, which .ci/sockets plays: the start of a server, a
+restart to a larger site, and a command. The limit is stepped through all that the program takes where no limit is, so that memory lacks at many
+places, and from each of them on for all that is larger than what is left. Of each step is wanted what is wanted where a single allocation fails: the
+program ends with its status and its text, or goes on, and no client gets a wrong byte.
 
-A limit on all addresses is none of these: by that the stack can't grow either, and there the system ends a program, which can't be told of it."""
+The limit is one on all addresses (`ulimit -v`) or on data (`ulimit -d`). By the first the stack can't grow either, and where it has to the system
+ends a program, which can't be told of that: so these scenes show besides that it has all that it needs from its start on."""
 
 import contextlib
 import os
@@ -18,7 +19,7 @@ from fault_scenes import GET_LETTERS, LETTERS_ANSWER, PAGES, act, answers, playe
 from real_server import (
     DEADLINE, GET, MISSING, Wrong, connect, expect, lay_out, long_scene, request, response, scene, serving, until,
 )
-from restart_scenes import STATUS, command
+from restart_scenes import STATUS
 
 # The least step of a limit.
 STEP = resource.getpagesize()
@@ -30,28 +31,49 @@ GET_LARGER = request("GET", "/large/3.bin")
 LARGER_ANSWER = response("200 OK", "application/octet-stream", LARGER["large/3.bin"])
 
 
+class Limit:
+    """A limit of the system's: its name, its number, and what the system says of a process that counts for it."""
+
+    def __init__(self, name, number, counted):
+        self.name, self.number, self.counted = name, number, counted
+
+    def before(self, most):
+        """The words that start a program which may have so many bytes of memory."""
+        return ["prlimit", f"--{self.name}={most}:", "--"]
+
+    def set(self, process, most):
+        """The process may have so many bytes from now on; what it has it keeps."""
+        if process.poll() is None:
+            resource.prlimit(process.pid, self.number, (most, resource.RLIM_INFINITY))
+
+    def memory_of(self, process):
+        """How many bytes that count the process has, and how many it had at most."""
+        with open(f"/proc/{process.pid}/status") as file:
+            told = dict(line.split(":") for line in file.read().splitlines())
+        all_now, counted, most = (1024 * int(told[name].split()[0]) for name in ("VmSize", self.counted, "VmPeak"))
+        return counted, most - all_now + counted
+
+
+LIMITS = [Limit("as", resource.RLIMIT_AS, "VmSize"), Limit("data", resource.RLIMIT_DATA, "VmData")]
+
+
 class Bounds:
     """How much memory a program may have, by the words that it is started with, or from some moment on."""
 
-    def __init__(self, most=None):
-        self.before = [] if most is None else bounded(most)
+    def __init__(self, limit, most=None):
+        self.limit = limit
+        self.before = [] if most is None else limit.before(most)
         self.process = None
         # Nothing stands between this program and the system.
         self.page = types.SimpleNamespace(strayed=0)
 
     def set(self, most):
-        """It may have so many bytes from now on; what it has it keeps."""
-        if self.process.poll() is None:
-            resource.prlimit(self.process.pid, resource.RLIMIT_DATA, (most, resource.RLIM_INFINITY))
+        """It may have so many bytes from now on."""
+        self.limit.set(self.process, most)
 
     def heal(self):
         """It may have as many as it likes."""
         self.set(resource.RLIM_INFINITY)
-
-
-def bounded(most):
-    """The words that start a program which may have so many bytes of memory."""
-    return ["prlimit", f"--data={most}:", "--"]
 
 
 def least_of(succeeds):
@@ -66,29 +88,22 @@ def least_of(succeeds):
     return high * STEP
 
 
-def ends_with(status, folder, *words):
-    """Whether the program ends with the status, by a limit."""
-    return lambda most: run_told_raw(folder, words, most)[0] == status
+def ends_with(limit, statuses, folder, *words):
+    """Whether the program ends with one of the statuses, where it may have so much."""
+    return lambda most: run_by(limit, folder, words, most)[0] in statuses
 
 
-def run_told_raw(folder, words, most):
-    """The status of the program and what it prints, by a limit by which it may not even be begun."""
-    told = subprocess.run([*bounded(most), real_server.PROGRAM, *words], cwd=folder, stdin=subprocess.DEVNULL, capture_output=True, timeout=DEADLINE)
+def run_by(limit, folder, words, most):
+    """The status of the program and what it prints, where it may have so much, by which the system may not even begin it."""
+    words = [*limit.before(most), real_server.PROGRAM, *words]
+    told = subprocess.run(words, cwd=folder, stdin=subprocess.DEVNULL, capture_output=True, timeout=DEADLINE)
     return told.returncode, told.stdout
 
 
-def least_of_program():
-    """The least limit by which the program begins at all, and says that it has no words."""
+def least_of_program(limit):
+    """The least limit by which the program begins at all: it says that it has no words, or that memory lacks for that."""
     with tempfile.TemporaryDirectory() as folder:
-        return least_of(ends_with(2, folder))
-
-
-def memory_of(process):
-    """How many bytes of data the process has, and how many it had at most: what it has otherwise stays, but for its stack, which only grows."""
-    with open(f"/proc/{process.pid}/status") as file:
-        told = dict(line.split(":") for line in file.read().splitlines())
-    all_now, data, most = (1024 * int(told[name].split()[0]) for name in ("VmSize", "VmData", "VmPeak"))
-    return data, most - all_now + data
+        return least_of(ends_with(limit, (2, 6), folder))
 
 
 def even(first, last, count):
@@ -97,10 +112,10 @@ def even(first, last, count):
 
 
 @contextlib.contextmanager
-def begun(most=None):
+def begun(limit, most=None):
     """A server that may have so many bytes of memory, once it takes connections or has ended. It is started anew where its ports were taken."""
     for _ in range(real_server.STARTS):
-        bounds = Bounds(most)
+        bounds = Bounds(limit, most)
         with played(bounds) as play:
             bounds.process = play.process
             serves = play.serves()
@@ -110,9 +125,9 @@ def begun(most=None):
     raise Wrong(f"a server: wanted one within {real_server.STARTS} starts, and each printed 'front fault'")
 
 
-def start_by(most):
-    """Starts a server by the limit, and plays what clients and an operator do. Whether it served, and its status."""
-    with begun(most) as (play, _, serves):
+def start_by(limit, most):
+    """Starts a server that may have so much, and plays what clients and an operator do. Whether it served, and its status."""
+    with begun(limit, most) as (play, _, serves):
         try:
             if serves:
                 act(play)
@@ -120,22 +135,22 @@ def start_by(most):
             expect("whether the status is one of memory that lacks", status in ((0, 6) if serves else (6,)), True)
             return serves, status
         except Wrong as wrong:
-            raise Wrong(f"a server by {most} bytes: {wrong}") from None
+            raise Wrong(f"a server by {most} bytes ({limit.name}): {wrong}") from None
 
 
-def peak_of_play():
+def peak_of_play(limit):
     """How much memory a server has at most that has no limit."""
-    with begun() as (play, _, _):
+    with begun(limit) as (play, _, _):
         act(play)
-        _, peak = memory_of(play.process)
+        _, peak = limit.memory_of(play.process)
         play.judge()
         return peak
 
 
-def start_by_each(places_of):
-    """Starts servers by limits from the least by which the program begins to what it takes where it has none. How often what came."""
-    first, last = least_of_program(), peak_of_play() + 64 * STEP
-    came = [start_by(most) for most in places_of(first, last)]
+def start_by_each(limit, places_of):
+    """Starts servers that may have from the least by which the program begins to what it takes where it has none. How often what came."""
+    first, last = least_of_program(limit), peak_of_play(limit) + 64 * STEP
+    came = [start_by(limit, most) for most in places_of(first, last)]
     counts = {what: came.count(what) for what in sorted(set(came))}
     expect("whether one ended at its start, and the last one served to its end", (came[0], came[-1]), ((False, 6), (True, 0)))
     return counts
@@ -163,14 +178,14 @@ def grow(play):
     os.rename(f"{play.folder}/beside", f"{play.folder}/htdocs/index.html")
 
 
-def restart_by(more):
+def restart_by(limit, more):
     """Restarts a server to a larger site that may have so many bytes more than it has. The generation that it has behind that, None where it has
     ended, and its status."""
-    with begun() as (play, bounds, _):
+    with begun(limit) as (play, bounds, _):
         try:
             play.ask(GET, answers())
             grow(play)
-            bounds.set(memory_of(play.process)[0] + more)
+            bounds.set(limit.memory_of(play.process)[0] + more)
             play.tell(b"graceful\n")
             # What is served meanwhile is of one generation, or cut short.
             play.ask(GET + GET_LETTERS, [each + LETTERS_ANSWER for each in answers()] + answers(True))
@@ -182,54 +197,51 @@ def restart_by(more):
                 expect("the generation of the report", f"Generation: {generation}\n" in play.text(play.output).decode(), True)
             return generation, status
         except Wrong as wrong:
-            raise Wrong(f"a restart by {more} bytes more: {wrong}") from None
+            raise Wrong(f"a restart by {more} bytes more ({limit.name}): {wrong}") from None
 
 
-def need_of_restart():
+def need_of_restart(limit):
     """How many bytes more a restart takes at most."""
-    with begun() as (play, _, _):
+    with begun(limit) as (play, _, _):
         play.ask(GET, answers())
         grow(play)
-        before, _ = memory_of(play.process)
+        before, _ = limit.memory_of(play.process)
         play.tell(b"graceful\n")
         expect("the generation", generation_of(play), 1)
-        _, peak = memory_of(play.process)
+        _, peak = limit.memory_of(play.process)
         play.judge()
         return max(peak - before, STEP)
 
 
-def restart_by_each(places_of):
-    """Restarts servers by limits from none to what a restart takes. How often what came."""
-    came = [restart_by(more) for more in places_of(0, need_of_restart() + 64 * STEP)]
+def restart_by_each(limit, places_of):
+    """Restarts servers that may have from nothing more to what a restart takes. How often what came."""
+    came = [restart_by(limit, more) for more in places_of(0, need_of_restart(limit) + 64 * STEP)]
     counts = {str(what): came.count(what) for what in set(came)}
     expect("whether the last one was restarted", came[-1], (1, 0))
     expect("whether one was refused", counts.get("(0, 0)", 0) > 0, True)
     return counts
 
 
-def send_by(server, word, most):
+def send_by(limit, server, word, most):
     """Sends the word by a program that may have so many bytes of memory: whether that succeeded."""
-    came = run_told_raw(server.folder, ("-k", word, "-f", "httpd.conf"), most)
+    came = run_by(limit, server.folder, ("-k", word, "-f", "httpd.conf"), most)
     if came not in [(0, b""), (6, b""), (4, b"front fault\n")]:
-        raise Wrong(f"-k {word} by {most} bytes: came {came}")
+        raise Wrong(f"-k {word} by {most} bytes ({limit.name}): came {came}")
     return came[0] == 0
 
 
-def send_by_each(places_of):
-    """Sends commands by limits from the least by which the program begins, to a server of which none changes anything but what succeeds."""
+def send_by_each(limit, places_of):
+    """Sends commands by programs that may have from the least by which one begins to what one takes, to a server. How many were sent, and not."""
     with serving() as server:
-        first = least_of_program()
-        last = least_of(ends_with(0, server.folder, "-k", "graceful", "-f", "httpd.conf"))
+        first = least_of_program(limit)
+        last = least_of(ends_with(limit, (0,), server.folder, "-k", "graceful", "-f", "httpd.conf"))
         places = places_of(first, last)
-        came = [send_by(server, "graceful", most) for most in places]
+        came = [send_by(limit, server, "graceful", most) for most in places]
         with connect(server.port) as client:
             client.send(GET)
             expect("a response", client.reply(), answers()[0])
         until("a server without a connection", lambda: server.connections() == 0)
-        sent = [send_by(server, "stop", most) for most in places[:-1]]
-        if not any(sent):
-            expect("whether a server to which no stop was sent goes on", server.process.poll(), None)
-            command(server, "stop")
+        sent = [send_by(limit, server, "stop", most) for most in [*places, last]]
         printed, _ = server.process.communicate(timeout=DEADLINE)
         expect("the status, and the front of the report", (server.process.returncode, printed[:12]), (0, b"Generation: "))
         return {"graceful": (came.count(True), came.count(False)), "stop": (sent.count(True), sent.count(False))}
@@ -237,34 +249,39 @@ def send_by_each(places_of):
 
 @scene
 def a_server_that_may_have_so_much_memory_serves_or_ends_with_its_status():
-    start_by_each(lambda first, last: even(first, last, 12))
+    for limit in LIMITS:
+        start_by_each(limit, lambda first, last: even(first, last, 8))
 
 
 @scene
 def a_restart_for_which_a_server_may_have_so_much_memory_is_made_or_refused():
-    restart_by_each(lambda first, last: even(first, last, 10))
+    for limit in LIMITS:
+        restart_by_each(limit, lambda first, last: even(first, last, 6))
 
 
 @scene
 def a_command_that_may_have_so_much_memory_is_sent_or_ends_with_its_status():
-    send_by_each(lambda first, last: even(first, last, 12))
+    for limit in LIMITS:
+        send_by_each(limit, lambda first, last: even(first, last, 8))
 
 
-def told(what, counts):
-    """Says how often what came."""
-    print(f"sockets: {what}: {counts}", flush=True)
+def by_each(what, tried_by, step):
+    """Tries what may have each much of memory, in such steps, and says how often what came."""
+    for limit in LIMITS:
+        counts = tried_by(limit, lambda first, last: range(first, last + step, step))
+        print(f"sockets: {what} by each limit ({limit.name}, steps of {step} bytes): {counts}", flush=True)
 
 
 @long_scene
 def a_server_is_started_by_each_limit_of_memory():
-    told("servers by each limit of memory, by whether they served and their status", start_by_each(lambda first, last: range(first, last, 4 * STEP)))
+    by_each("servers, by whether they served and their status,", start_by_each, 4 * STEP)
 
 
 @long_scene
 def a_server_is_restarted_by_each_limit_of_memory():
-    told("restarts by each limit of memory, by generation and status", restart_by_each(lambda first, last: range(first, last, STEP)))
+    by_each("restarts, by the generation behind them and the status of the server,", restart_by_each, STEP)
 
 
 @long_scene
 def a_command_is_sent_by_each_limit_of_memory():
-    told("commands by each limit of memory, sent and not", send_by_each(lambda first, last: range(first, last + STEP, STEP)))
+    by_each("commands, sent and not,", send_by_each, STEP)
