@@ -225,13 +225,14 @@ def restart_by_each(limit, places_of):
 def send_by(limit, server, word, most):
     """Sends the word by a program that may have so many bytes of memory: whether that succeeded."""
     came = run_by(limit, server.folder, ("-k", word, "-f", "httpd.conf"), most)
-    if came not in [(0, b""), (6, b""), (4, b"front fault\n")]:
+    if came not in [(0, b""), (6, b"")]:
         raise Wrong(f"-k {word} by {most} bytes ({limit.name}): came {came}")
     return came[0] == 0
 
 
 def send_by_each(limit, places_of):
-    """Sends commands by programs that may have from the least by which one begins to what one takes, to a server. How many were sent, and not."""
+    """Sends commands by programs that may have from the least by which one begins to what one takes, to a server, which ends by the first `stop` that is
+    sent. How many were sent, and not."""
     with serving() as server:
         first = least_of_program(limit)
         last = least_of(ends_with(limit, (0,), server.folder, "-k", "graceful", "-f", "httpd.conf"))
@@ -241,10 +242,10 @@ def send_by_each(limit, places_of):
             client.send(GET)
             expect("a response", client.reply(), answers()[0])
         until("a server without a connection", lambda: server.connections() == 0)
-        sent = [send_by(limit, server, "stop", most) for most in [*places, last]]
+        tried = next(number for number, most in enumerate([*places, last], 1) if send_by(limit, server, "stop", most))
         printed, _ = server.process.communicate(timeout=DEADLINE)
         expect("the status, and the front of the report", (server.process.returncode, printed[:12]), (0, b"Generation: "))
-        return {"graceful": (came.count(True), came.count(False)), "stop": (sent.count(True), sent.count(False))}
+        return {"graceful": (came.count(True), came.count(False)), "stop": (1, tried - 1)}
 
 
 @scene
