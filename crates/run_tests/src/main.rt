@@ -27,6 +27,7 @@
 #![tactic(auto)]
 
 mod case;
+mod given;
 mod outside;
 mod playing;
 mod shown;
