@@ -124,8 +124,12 @@ fn take_turns<R: Wait>(
     shared: &Shared<ScriptBoard>,
     passes: &mut Vec<Pass<ScriptBoard>>,
 ) -> Option<(bool, bool, bool)>
-    requires own { (p : ℕ) (pass : _) → slice_get passes.old.items p ≡ Some pass → pass.seat.table_id ≡ shared.now.table.shared.table_id }
-    requires free { (p : ℕ) (pass : _) → slice_get passes.old.items p ≡ Some pass → HasNoTurn pass.seat.me }
+    requires own { (p : ℕ) (pass : _)
+        → slice_get passes.old.items p ≡ Some pass
+        → pass.seat.table_id ≡ shared.now.table.shared.table_id }
+    requires free { (p : ℕ) (pass : _)
+        → slice_get passes.old.items p ≡ Some pass
+        → HasNoTurn pass.seat.me }
 {
     let mut one = last_of(shared, passes)?;
     let mut zero = last_of(shared, passes)?;

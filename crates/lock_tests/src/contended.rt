@@ -56,8 +56,12 @@ fn contend<R: Threads + Wait + Sync>(
     passes: &mut Vec<Pass<Box<Toy>>>,
     threads: u32,
 ) -> Result<Option<Contention>, NoMemory>
-    requires own { (p : ℕ) (pass : _) → slice_get passes.old.items p ≡ Some pass → pass.seat.table_id ≡ shared.now.table.shared.table_id }
-    requires ready { (p : ℕ) (pass : _) → slice_get passes.old.items p ≡ Some pass → IsReadyPass pass.seat.me }
+    requires own { (p : ℕ) (pass : _)
+        → slice_get passes.old.items p ≡ Some pass
+        → pass.seat.table_id ≡ shared.now.table.shared.table_id }
+    requires ready { (p : ℕ) (pass : _)
+        → slice_get passes.old.items p ≡ Some pass
+        → IsReadyPass pass.seat.me }
 {
     let jobs = players(alloc, shared, passes, threads)?;
     let Some(mut zero) = last_of(shared, passes) else {

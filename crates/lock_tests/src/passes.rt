@@ -35,8 +35,12 @@ fn take_turns<R: Wait>(
     shared: &Shared<Box<Toy>>,
     passes: &mut Vec<Pass<Box<Toy>>>,
 ) -> Option<Taken>
-    requires own { (p : ℕ) (pass : _) → slice_get passes.old.items p ≡ Some pass → pass.seat.table_id ≡ shared.now.table.shared.table_id }
-    requires ready { (p : ℕ) (pass : _) → slice_get passes.old.items p ≡ Some pass → IsReadyPass pass.seat.me }
+    requires own { (p : ℕ) (pass : _)
+        → slice_get passes.old.items p ≡ Some pass
+        → pass.seat.table_id ≡ shared.now.table.shared.table_id }
+    requires ready { (p : ℕ) (pass : _)
+        → slice_get passes.old.items p ≡ Some pass
+        → IsReadyPass pass.seat.me }
 {
     let mut one = last_of(shared, passes)?;
     let mut zero = last_of(shared, passes)?;

@@ -34,8 +34,12 @@ fn rest(
     shared: &Shared<Box<Toy>>,
     passes: &mut Vec<Pass<Box<Toy>>>,
 ) -> Result<Option<Rested>, NoMemory>
-    requires own { (p : ℕ) (pass : _) → slice_get passes.old.items p ≡ Some pass → pass.seat.table_id ≡ shared.now.table.shared.table_id }
-    requires ready { (p : ℕ) (pass : _) → slice_get passes.old.items p ≡ Some pass → IsReadyPass pass.seat.me }
+    requires own { (p : ℕ) (pass : _)
+        → slice_get passes.old.items p ≡ Some pass
+        → pass.seat.table_id ≡ shared.now.table.shared.table_id }
+    requires ready { (p : ℕ) (pass : _)
+        → slice_get passes.old.items p ≡ Some pass
+        → IsReadyPass pass.seat.me }
 {
     let Some(two) = last_of(shared, passes) else {
         return Ok(None);

@@ -44,8 +44,12 @@ fn try_permits<R: Wait>(
     shared: &Shared<Box<Toy>>,
     passes: &mut Vec<Pass<Box<Toy>>>,
 ) -> Option<Tried>
-    requires own { (p : ℕ) (pass : _) → slice_get passes.old.items p ≡ Some pass → pass.seat.table_id ≡ shared.now.table.shared.table_id }
-    requires ready { (p : ℕ) (pass : _) → slice_get passes.old.items p ≡ Some pass → IsReadyPass pass.seat.me }
+    requires own { (p : ℕ) (pass : _)
+        → slice_get passes.old.items p ≡ Some pass
+        → pass.seat.table_id ≡ shared.now.table.shared.table_id }
+    requires ready { (p : ℕ) (pass : _)
+        → slice_get passes.old.items p ≡ Some pass
+        → IsReadyPass pass.seat.me }
 {
     let mut three = last_of(shared, passes)?;
     let mut two = last_of(shared, passes)?;

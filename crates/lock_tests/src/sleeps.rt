@@ -35,8 +35,12 @@ fn sleep_for_turn<R: Threads + Wait + Clock + Sync>(
     shared: &Shared<Box<Toy>>,
     passes: &mut Vec<Pass<Box<Toy>>>,
 ) -> Option<(u64, u64)>
-    requires own { (p : ℕ) (pass : _) → slice_get passes.old.items p ≡ Some pass → pass.seat.table_id ≡ shared.now.table.shared.table_id }
-    requires ready { (p : ℕ) (pass : _) → slice_get passes.old.items p ≡ Some pass → IsReadyPass pass.seat.me }
+    requires own { (p : ℕ) (pass : _)
+        → slice_get passes.old.items p ≡ Some pass
+        → pass.seat.table_id ≡ shared.now.table.shared.table_id }
+    requires ready { (p : ℕ) (pass : _)
+        → slice_get passes.old.items p ≡ Some pass
+        → IsReadyPass pass.seat.me }
 {
     let pass = last_of(shared, passes)?;
     let sleeper = Player { shared, pass };

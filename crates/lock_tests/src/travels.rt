@@ -93,8 +93,12 @@ fn come_back<R: Threads + Wait + Sync>(
     shared: &Shared<Box<Toy>>,
     passes: &mut Vec<Pass<Box<Toy>>>,
 ) -> Result<Option<Travelled>, NoMemory>
-    requires own { (p : ℕ) (pass : _) → slice_get passes.old.items p ≡ Some pass → pass.seat.table_id ≡ shared.now.table.shared.table_id }
-    requires ready { (p : ℕ) (pass : _) → slice_get passes.old.items p ≡ Some pass → IsReadyPass pass.seat.me }
+    requires own { (p : ℕ) (pass : _)
+        → slice_get passes.old.items p ≡ Some pass
+        → pass.seat.table_id ≡ shared.now.table.shared.table_id }
+    requires ready { (p : ℕ) (pass : _)
+        → slice_get passes.old.items p ≡ Some pass
+        → IsReadyPass pass.seat.me }
 {
     let Some(three) = last_of(shared, passes) else {
         return Ok(None);

@@ -59,8 +59,12 @@ fn play_all<R: Threads + Wait + Sync>(
     passes: &mut Vec<Pass<Box<Toy>>>,
     threads: u32,
 ) -> Result<Option<Played>, NoMemory>
-    requires own { (p : ℕ) (pass : _) → slice_get passes.old.items p ≡ Some pass → pass.seat.table_id ≡ shared.now.table.shared.table_id }
-    requires ready { (p : ℕ) (pass : _) → slice_get passes.old.items p ≡ Some pass → IsReadyPass pass.seat.me }
+    requires own { (p : ℕ) (pass : _)
+        → slice_get passes.old.items p ≡ Some pass
+        → pass.seat.table_id ≡ shared.now.table.shared.table_id }
+    requires ready { (p : ℕ) (pass : _)
+        → slice_get passes.old.items p ≡ Some pass
+        → IsReadyPass pass.seat.me }
 {
     let Some(last) = last_of(shared, passes) else {
         return Ok(None);
