@@ -4,10 +4,9 @@ ghost use Rattle.std.specs.Prelude.{◌≤◌};
 use crate::{rounds_of_queues, rounds_of_turns};
 use mpm_base::NoMemory;
 use std::alloc::Global;
-use std::io;
 use std::sync::Wait;
 use std::thread::Threads;
-use test_rows::{grown, small_of, words};
+use test_rows::{Sheet, small_of, words};
 
 /// The most threads: one for each place of the queue.
 const MOST_THREADS: u32 = 64;
@@ -22,14 +21,16 @@ pub struct Workload {
 }
 
 /// Shows how many rounds of all threads found what they were to find: a kind, how many threads, and how many rounds each does.
-pub fn show_rounds<R: Print + Threads + Wait + Sync>(
+pub fn show_rounds<R: Threads + Wait + Sync>(
+    sheet: &mut Sheet,
     rt: &R,
     alloc: Global,
     row: &str,
-) -> io::Result<()> {
+) -> Result<(), NoMemory> {
     let (kind, numbers) = words(row);
-    let done = grown(rounds_of(rt, alloc, kind, &workload_of(numbers)))?;
-    println!(rt; "{done}")
+    let done = rounds_of(rt, alloc, kind, &workload_of(numbers))?;
+    println!(sheet; "{done}");
+    Ok(())
 }
 
 /// The workload of the two numbers, with at least one thread and at most as many as the queue has places.
