@@ -1,5 +1,6 @@
 -- Connections that were handed out.
-use Rattle.std.proofs.Common.{◌≡◌, inl, inr, ℕ, ◌+◌, ◌≤◌, Bool, true, false, List, [], ◌∷◌, ◌++◌, count_by, slice_get, Option, None, Some, refl, sym, ap, subst, ◌∙◌, arith}
+use Rattle.std.proofs.Common.{◌≡◌, ◌==◌, inl, inr, ℕ, suc, ◌+◌, ◌≤◌, length, Bool, true, false, List, [], ◌∷◌, ◌++◌, count_by, slice_get, Option, None, Some, refl, sym, ap, subst, ◌∙◌, arith}
+use Rattle.std.proofs.lemmas.Bool.Decides.{nat_tests}
 use Rattle.std.specs.Prelude.{IfSome, option_map}
 use Rattle.mpm_base.specs.Count.{NeverFalls, RisesExactlyWhere}
 use Rattle.mpm_base.specs.Link.{LinkCounts, LinkTold}
@@ -108,6 +109,14 @@ row_once test o r row is found = by (test r) refl where
   by : (b : Bool) → test r ≡ b → row ≡ r
   by true passes = cc (is, found, passes)
   by false passes = absurd (cc (is, found, passes))
+
+-- a list that is empty
+pub no_items : {X : Type 0} (items : List X) → (length items == 0) ≡ true → items ≡ []
+no_items [] none = refl
+no_items (x ∷ items) none = absurd (more (length items) none)
+  where
+    more : (n : ℕ) → (suc n == 0) ≡ true → ⊥
+    more n is = grind (arith, nat_tests)
 
 -- its row has no wait
 pub unwaited : TakenConnectionsStartAfresh → (who : ℕ) (b b' : SeenBook) (name : ConnName) (row : Row) → after b.base b.history ≡ b.state

@@ -6,5 +6,5 @@ use Rattle.board_tests.proofs.driven.InHand.read.Goals as goal
 
 pub wait-requires-clause-backed : goal.wait-requires-clause-backed
 wait-requires-clause-backed c =
-    λ kind reads_for. backs_read c.waits_are_backed_by_calls.ensures c.self.inside.board.book.state c.self.inside.conn _ kind reads_for
-    c.self.invariant.2 (subst (λ (a : ReadTurn). ReadsOn c.self.inside.conn _ a) c.in-More.is c.read_turn-found.ensures.reads)
+    λ kind reads_for. backs_read c.waits_are_backed_by_calls.ensures c.self.inside.board.book.state c.self.inside.conn c.read_turn-found.new.self kind reads_for
+    c.self.invariant.2 (subst (λ (a : ReadTurn). ReadsOn c.self.inside.conn c.read_turn-found.new.self a) c.in-More.is c.read_turn-found.ensures.reads)
