@@ -79,8 +79,8 @@ pub(crate) struct Parts<L: Link> {
     pub(crate) queues: Queues,
 }
 
-// A connection that waits after a hundred responses takes less than four thousand bytes, its notes among them.
-const _: () = prove!(size_of::<Conn<PlainLink, Nothing>>() + 104 * size_of::<Note>() < 4000);
+// A connection that waits after a hundred responses takes less than a thousand bytes, what it keeps of these among them.
+const _: () = prove!(size_of::<Conn<PlainLink, Nothing>>() + 128 * size_of::<u16>() < 1000);
 
 // A board is moved in few bytes, whatever its links are.
 const _: () = prove!(size_of::<Board<PlainLink, Nothing>>() <= 100);

@@ -39,4 +39,4 @@ pub use row_notes::RowNotes;
 pub use row_waits::RowWaits;
 pub use rows::Rows;
 pub use state::{Going, Signals, State};
-pub use stepping::step;
+pub use stepping::{Stepped, step, step_and_note};

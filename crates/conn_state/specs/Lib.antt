@@ -3,6 +3,7 @@ pub mod Conn
 pub mod ConnInside
 pub mod Follows
 pub mod Items
+pub mod KeptNotesInside
 pub mod Known
 pub mod LingerInside
 pub mod Outgoing

@@ -46,7 +46,7 @@ pub fn conn_of(
 
 /// The site of each connection.
 pub fn site_of(alloc: Global) -> io::Result<Arc<Site>> {
-    match digits_site(alloc) {
+    match digits_site(alloc, true) {
         Ok(site) => Ok(Arc::new(alloc, site)?),
         Err(_) => Err(out_of_memory()),
     }

@@ -15,24 +15,28 @@ use std::alloc::Global;
 use std::io;
 use test_rows::{Marks, grown, number_of, text_of, words};
 
-/// A site of the folder `htdocs`, whose index is `index.html`.
-fn htdocs(alloc: Global) -> Result<SiteOrder, NoMemory>
+/// A site of the folder `htdocs`, whose index is `index.html`, with the status page or without.
+fn htdocs(alloc: Global, status: bool) -> Result<SiteOrder, NoMemory>
     ensures { IfOk result (λ order. IsUtf8 order.root × IsUtf8 order.index) }
 {
     let root = Octets::of(alloc, "htdocs".as_bytes())?;
     let index = Octets::of(alloc, "index.html".as_bytes())?;
-    Ok(SiteOrder { root, index })
+    Ok(SiteOrder {
+        root,
+        index,
+        status,
+    })
 }
 
-/// A site of an index, ten digits, an empty file and a folder.
-pub fn digits_site(alloc: Global) -> Result<Site, LoadFault> {
+/// A site of an index, ten digits, an empty file and a folder, with the status page or without.
+pub fn digits_site(alloc: Global, status: bool) -> Result<Site, LoadFault> {
     let mut files = Files::make(alloc);
     files.set("htdocs/index.html", b"hello\n")?;
     files.set("htdocs/n.txt", b"0123456789")?;
     files.set("htdocs/docs/index.html", b"D")?;
     files.set("htdocs/empty.gif", b"")?;
     let mut store = MemStore::make(alloc, files, Calls::make(alloc));
-    let order = htdocs(alloc)?;
+    let order = htdocs(alloc, status)?;
     load(alloc, &mut store, &order)
 }
 
@@ -41,7 +45,7 @@ pub fn large_site(alloc: Global, bytes: &[u8]) -> Result<Site, LoadFault> {
     let mut files = Files::make(alloc);
     files.set("htdocs/large.bin", bytes)?;
     let mut store = MemStore::make(alloc, files, Calls::make(alloc));
-    let order = htdocs(alloc)?;
+    let order = htdocs(alloc, true)?;
     load(alloc, &mut store, &order)
 }
 
@@ -112,10 +116,12 @@ fn answer_of(
     Ok((ask.code, text))
 }
 
-/// Shows the response to each head. The words of the section say the second of its date, and whether it is the last.
+/// Shows the response to each head. The words of the section say the second of its date, whether it is the last, and whether the site
+/// hides its status page.
 pub fn show_answers(rt: &impl Print, alloc: Global, kind: &str, rows: &str) -> io::Result<()> {
-    let (second, last) = words(kind);
-    match digits_site(alloc) {
+    let (second, rest) = words(kind);
+    let (last, hidden) = words(rest);
+    match digits_site(alloc, hidden != "hidden") {
         Ok(site) => show_answers_of(rt, alloc, &site, number_of(second), last == "last", rows),
         Err(fault) => println!(rt; "{fault:?}"),
     }

@@ -37,9 +37,9 @@ pub record IsNextConfig (told : Option StoreTold) (name : List ℕ) (running c :
   pub has : HasAccepted told name read
   pub carried : c ≡ with_limits running read.config
 
--- what a site is made of: DocumentRoot, and DirectoryIndex as the name of the file that stands for a folder
+-- what a site is made of: DocumentRoot, DirectoryIndex as the name of the file that stands for a folder, and whether ServerStatus is on
 abbrev pub order_of : Configuration → SiteOrder
-order_of c = record { root = c.root; index = c.index }
+order_of c = record { root = c.root; index = c.index; status = c.status }
 
 -- the configuration of a new generation, and a site that is within its limits: where the store tells its files, the one that they make
 -- by that configuration

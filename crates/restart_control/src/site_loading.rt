@@ -10,7 +10,7 @@ use mpm_base::{NoMemory, Octets, Store};
 use mpm_config::Config;
 use std::alloc::Global;
 
-/// The site of the files under the configuration's DocumentRoot. TooMany or TooLarge where they are more, or larger, than a site takes,
+/// The site of the files under the configuration's DocumentRoot, with the status page where ServerStatus says so. TooMany or TooLarge where they are more, or larger, than a site takes,
 /// StoreFault where a call of the store failed, NoMemory where memory lacks.
 pub fn load_site<D: Store>(alloc: Global, store: &mut D, config: &Config) -> Result<Site, LoadFault>
     ensures leaves { LeavesStore (D.seen store.old) (D.seen store.new) result }
@@ -31,7 +31,11 @@ fn site_order(alloc: Global, config: &Config) -> Result<SiteOrder, NoMemory>
 {
     let root = Octets::of(alloc, config.root.as_slice())?;
     let index = Octets::of(alloc, config.index.as_slice())?;
-    Ok(SiteOrder { root, index })
+    Ok(SiteOrder {
+        root,
+        index,
+        status: config.status,
+    })
 }
 
 /// The fault of a restart for that of its site.

@@ -83,8 +83,8 @@ fn show_connection(rt: &impl Print, alloc: Global, ended: &Ended<ScriptLink>) ->
         "{}.{} {:?} {:?}",
         ended.name.slot, ended.name.life, ended.cause, ended.tail
     )?;
-    for note in ended.notes.as_slice() {
-        print!(rt; " {}", note.code)?;
+    for code in ended.notes.codes() {
+        print!(rt; " {code}")?;
     }
     let link = &ended.link;
     println!(rt; ", shuts {}, closes {}", link.shuts(), link.closes())?;

@@ -45,10 +45,14 @@ fn show_config(
 fn show_values(rt: &impl Print, alloc: Global, config: &Config) -> io::Result<()> {
     let root = String::from_utf8_lossy(alloc, config.root.as_slice())?;
     let index = String::from_utf8_lossy(alloc, config.index.as_slice())?;
-    println!(rt;
+    print!(rt;
         "{:?} {:?} {root:?} {index:?}",
         config.listen, config.control
-    )
+    )?;
+    if !config.status {
+        print!(rt; " without the status page")?;
+    }
+    println!(rt)
 }
 
 /// Shows what an operator reads of the warnings.

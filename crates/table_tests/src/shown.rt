@@ -40,15 +40,16 @@ pub fn show_state(rt: &impl Print, table: &Table) -> io::Result<()> {
         let Some(notes) = table.notes.get(slot) else {
             return Ok(());
         };
-        show_row(rt, slot, row)?;
+        let has_whole_time = state.child_of(row).shape.whole_ms > 0;
+        show_row(rt, slot, row, has_whole_time)?;
         show_notes(rt, row, notes)?;
         println!(rt; ", signal {}", state.signals.get(slot))?;
     }
     Ok(())
 }
 
-/// Shows the row of the slot.
-fn show_row(rt: &impl Print, slot: u32, row: &Row) -> io::Result<()> {
+/// Shows the row of the slot, and since when it has waited for its request where a whole one has a time.
+fn show_row(rt: &impl Print, slot: u32, row: &Row, has_whole_time: bool) -> io::Result<()> {
     print!(rt;
         "  {slot}.{} {:?}, owner {:?}, arrival {}, child {} of {}, live there {}",
         row.life,
@@ -59,9 +60,14 @@ fn show_row(rt: &impl Print, slot: u32, row: &Row) -> io::Result<()> {
         row.generation,
         row.is_live_in(row.child)
     )?;
+    print!(rt; ", from {:?} until {}", row.from, row.deadline)?;
+    match row.began {
+        Some(began) if has_whole_time => print!(rt; " since {began}")?,
+        _ => (),
+    }
     print!(rt;
-        ", from {:?} until {}, mid {}, last {}, short {}, cause {:?}",
-        row.from, row.deadline, row.mid, row.last, row.short, row.cause
+        ", mid {}, last {}, short {}, cause {:?}",
+        row.mid, row.last, row.short, row.cause
     )
 }
 
