@@ -1,4 +1,6 @@
 pub mod Answered
+pub mod Calls
+pub mod CallsInside
 pub mod Conn
 pub mod ConnInside
 pub mod Follows
