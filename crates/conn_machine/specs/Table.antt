@@ -1,8 +1,8 @@
 -- The event table: which events a state allows, and what each does and replies. Where nothing else is said, all else
 -- stays and the reply is Done. An event that names a connection needs its row live with that life.
 -- Why it is so stands in docs/DECISIONS.md: 37, The event table is whole from the start; 38, Park keeps `mid` of a lingering row; a
--- deadline is cut to the greatest moment; 39, What a graceful stop and a closing ask of their callers; 43, A page is made before its
--- entry.
+-- deadline is cut to the greatest moment; 105, The time of a whole request; 39, What a graceful stop and a closing ask of their callers;
+-- 43, A page is made before its entry.
 use Rattle.std.specs.Prelude.{◌==◌, ℕ, ◌+◌, ◌/◌, Bool, true, false, not, ◌&&◌, ◌||◌, List, [], ◌∷◌, ◌++◌, length, nat_lt, nat_le, min, if◌then◌else◌, Option, None, Some, is_some, is_none, option_map, slice_get, slice_set}
 use Rattle.std.specs.Option.{option_map_or, unwrap_or}
 use Rattle.std.specs.List.{list_any}
