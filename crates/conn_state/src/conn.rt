@@ -257,8 +257,7 @@ impl<L: Link, N: Known> Conn<L, N> {
     }
 
     /// Takes the note of the response to what the last turn asked. The response becomes pending, and of the note its code alone is
-    /// kept. Where memory lacks nothing
-    /// but the turn changes, and the connection can only be ended.
+    /// kept. Where memory lacks nothing but the turn changes, and the connection can only be ended.
     pub fn answer(&mut self, note: Note) -> Result<(), NoMemory>
         requires asked { IsNoteOf self.old.turn note }
         requires date { IsSecond note.date }

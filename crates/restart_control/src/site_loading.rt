@@ -10,8 +10,8 @@ use mpm_base::{NoMemory, Octets, Store};
 use mpm_config::Config;
 use std::alloc::Global;
 
-/// The site of the files under the configuration's DocumentRoot, with the status page where ServerStatus says so. TooMany or TooLarge where they are more, or larger, than a site takes,
-/// StoreFault where a call of the store failed, NoMemory where memory lacks.
+/// The site of the files under the configuration's DocumentRoot, with the status page where ServerStatus says so. TooMany or TooLarge
+/// where they are more, or larger, than a site takes, StoreFault where a call of the store failed, NoMemory where memory lacks.
 pub fn load_site<D: Store>(alloc: Global, store: &mut D, config: &Config) -> Result<Site, LoadFault>
     ensures leaves { LeavesStore (D.seen store.old) (D.seen store.new) result }
     ensures site { IfSome (D.seen store.old).told (λ t.
