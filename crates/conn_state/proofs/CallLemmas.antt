@@ -2,7 +2,7 @@
 use Rattle.std.proofs.Common.{◌≡◌, ◌⊎◌, inl, inr, ℕ, ◌+◌, ◌-◌, Bool, true, false, List, [], ◌∷◌, ◌++◌, length, min, Option, Some, None, option_map, refl, sym, ap, subst, ◌∙◌, arith, append_assoc, length-append}
 use Rattle.std.proofs.lemmas.Bool.{false≢true}
 use Rattle.std.proofs.lemmas.List.{append-nil}
-use Rattle.mpm_base.specs.Link.{LinkCalls, with_write}
+use Rattle.mpm_base.specs.Link.{LinkCalls, with_read, with_write}
 use Rattle.mpm_base.specs.declared.link.Got.{Got}
 use Rattle.mpm_base.specs.declared.link.Sent.{Sent}
 use Rattle.http_read.specs.declared.request.Limits.{Limits}
@@ -37,6 +37,17 @@ writes-twice a b (Some c) = ap (λ ws. Some (record c { writes = ws })) (append_
 reads-none : (calls : Option LinkCalls) → calls ≡ option_map (with_reads []) calls
 reads-none None = refl
 reads-none (Some c) = ap (λ rs. Some (record c { reads = rs })) (sym (append-nil c.reads))
+
+-- a read is a list of one
+read-is : (room : ℕ) (answer : Got) (calls : Option LinkCalls)
+    → option_map (with_read room answer) calls ≡ option_map (with_reads ((room, answer) ∷ [])) calls
+read-is room answer None = refl
+read-is room answer (Some c) = refl
+
+-- a read into so much room is told
+pub read-told : (calls calls' : Option LinkCalls) (size room : ℕ) (answer : Got) → calls' ≡ option_map (with_read size answer) calls → size ≡ room
+    → calls' ≡ option_map (with_reads ((room, answer) ∷ [])) calls
+read-told calls calls' size room answer told is = told ∙ ap (λ n. option_map (with_read n answer) calls) is ∙ read-is room answer calls
 
 -- reads in two steps
 reads-twice : (a b : List (ℕ × Got)) (calls : Option LinkCalls)
