@@ -188,7 +188,7 @@ drops-done calls calls' dropped dropped' so_far = record {
 module _ (calls calls1 calls2 : Option LinkCalls) (dropped dropped1 : ℕ) (answer : Got) (so_far : DropsSoFar calls calls1 dropped dropped1)
     (next : calls2 ≡ option_map (with_reads ((min read_piece (most_dropped - dropped1), answer) ∷ [])) calls1) where
   -- for how many bytes there is room
-  dropping-room : ℕ
+  abbrev dropping-room : ℕ
   dropping-room = min read_piece (most_dropped - dropped1)
 
   -- all that are told
