@@ -31,14 +31,14 @@ fn stopping_letter(serves: bool) -> u8
 }
 
 /// Whether the letter says that a worker serves a connection.
-fn is_busy_letter(letter: u8) -> bool
+pub(crate) fn is_busy_letter(letter: u8) -> bool
     ensures { result ≡ spec.is_busy_letter letter }
 {
     matches!(letter, b'R' | b'W' | b'C' | b'G')
 }
 
 /// Whether the letter says that a worker may be given one.
-fn is_idle_letter(letter: u8) -> bool
+pub(crate) fn is_idle_letter(letter: u8) -> bool
     ensures { result ≡ spec.is_idle_letter letter }
 {
     letter == b'_'
@@ -83,7 +83,7 @@ pub(crate) fn phase_after(last: bool) -> Phase
 
 impl State {
     /// The letter of the cell of the child.
-    fn letter(&self, number: u32, phase: ChildPhase, cell: u32) -> u8
+    pub(crate) fn letter(&self, number: u32, phase: ChildPhase, cell: u32) -> u8
         ensures { result ≡ spec.letter_in phase self.now number cell }
     {
         match phase {
@@ -94,7 +94,7 @@ impl State {
     }
 
     /// How many letters the child has.
-    fn cells_of(&self, child: &Child) -> u32
+    pub(crate) fn cells_of(&self, child: &Child) -> u32
         ensures { result ≡ spec.cells_of self.now child.now }
     {
         if child.phase.is_empty() {

@@ -16,7 +16,8 @@ pub record CountsWords (given : Option (List ℕ)) (old new : GivenWords) : Type
   pub graceful : CountsWhere (says_word word.Graceful given) old.graceful new.graceful
   pub graceful_stop : CountsWhere (says_word word.GracefulStop given) old.graceful_stop new.graceful_stop
   pub stop : CountsWhere (says_word word.Stop given) old.stop new.stop
+  pub status : CountsWhere (says_word word.Status given) old.status new.status
 
 -- no line was given yet
 abbrev pub no_words : GivenWords
-no_words = record { graceful = 0; graceful_stop = 0; stop = 0 }
+no_words = record { graceful = 0; graceful_stop = 0; stop = 0; status = 0 }

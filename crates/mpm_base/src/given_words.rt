@@ -14,6 +14,8 @@ pub struct GivenWords {
     pub graceful_stop: u64,
     /// Those that say `stop`.
     pub stop: u64,
+    /// Those that say `status`.
+    pub status: u64,
 }
 
 impl GivenWords {
@@ -25,6 +27,7 @@ impl GivenWords {
             graceful: 0,
             graceful_stop: 0,
             stop: 0,
+            status: 0,
         }
     }
 
@@ -39,9 +42,11 @@ impl GivenWords {
         let graceful = text == "graceful";
         let graceful_stop = text == "graceful-stop";
         let stop = text == "stop";
+        let status = text == "status";
         self.graceful = counted(self.graceful, graceful);
         self.graceful_stop = counted(self.graceful_stop, graceful_stop);
         self.stop = counted(self.stop, stop);
+        self.status = counted(self.status, status);
     }
 }
 

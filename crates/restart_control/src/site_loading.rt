@@ -34,14 +34,16 @@ fn site_order(alloc: Global, config: &Config) -> Result<SiteOrder, NoMemory>
     Ok(SiteOrder { root, index })
 }
 
-/// The fault of a restart for that of its site.
-pub(crate) fn fault_for(fault: LoadFault) -> ReloadFault
-    ensures { result ≡ fault_for fault }
+/// The fault of a restart for that of its site, whose folder is that root.
+pub(crate) fn fault_for(fault: LoadFault, root: Octets) -> ReloadFault
+    ensures { result ≡ fault_for fault root }
 {
     match fault {
         LoadFault::StoreFault => ReloadFault::StoreFault,
         LoadFault::NoMemory => ReloadFault::NoMemory,
-        LoadFault::TooMany => ReloadFault::Load(LoadFault::TooMany),
-        LoadFault::TooLarge(name, size) => ReloadFault::Load(LoadFault::TooLarge(name, size)),
+        LoadFault::TooMany => ReloadFault::Load(LoadFault::TooMany, root),
+        LoadFault::TooLarge(name, size) => {
+            ReloadFault::Load(LoadFault::TooLarge(name, size), root)
+        }
     }
 }
