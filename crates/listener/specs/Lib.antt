@@ -5,6 +5,8 @@ pub mod FirstNumbers
 pub mod FirstNumbersInside
 pub mod FoldsInside
 pub mod Generations
+pub mod Heard
+pub mod LineAnswers
 pub mod Links
 pub mod Listen
 pub mod ListenInside

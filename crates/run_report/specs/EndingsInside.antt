@@ -7,7 +7,7 @@ use Rattle.mpm_base.specs.Sink.{SinkSeen}
 use Rattle.run_report.specs.Endings.{HasEndedGracefully}
 use Rattle.run_report.specs.Report.{board_report}
 use Rattle.run_report.specs.Written.{LeavesUnwritten, WritesText}
-use Rattle.std.specs.Prelude.{◌≡◌, ◌⊎◌, ◌==◌, ℕ, Bool, true, false, if◌then◌else◌, List, ◌++◌, option_map}
+use Rattle.std.specs.Prelude.{◌≡◌, ◌⊎◌, ◌==◌, ℕ, Bool, true, false, ◌&&◌, if◌then◌else◌, List, ◌++◌, option_map}
 use Rattle.conn_machine.specs.declared.event.Why.TheVariants as why
 
 -- the server stopped for one of these, or ended
@@ -63,3 +63,10 @@ LacksReport sink sink' text status = ((status ≡ 6) × WritesText sink sink' te
 -- the server stopped for want of memory, and the report was written; or memory lacked for that, and the output is as it was
 abbrev pub LacksInRun : SinkSeen → SinkSeen → SeenBoard → Type 0
 LacksInRun sink sink' b = ((b.book.state.going ≡ Halted why.NoMemory) × WritesText sink sink' (board_report b)) ⊎ (sink' ≡ sink)
+
+-- the text was written whole or not, and it is known whether it and each one before it was
+pub record WritesOn (old new : SinkSeen) (text : List ℕ) (written written' : Bool) : Type 0 where
+  pub whole : Bool
+  pub all : WritesAll old new text whole
+  pub faults : NeverFalls old.faults new.faults
+  pub written_is : written' ≡ (written && whole)

@@ -1,11 +1,12 @@
 //! Plays the runs of the input, one behind the other.
+use crate::answered::AnsweredFront;
 use crate::case::{Case, View, case_of};
 use crate::outside::{OpenGate, ShutFront};
 use crate::shown::{show_outcome, shows_want_of_memory};
 use mpm_base::{NoMemory, Words};
 use mpm_run::{Outcome, run};
 use mpm_script::{Script, ScriptFault, read_script};
-use script_front::{FailingFront, ScriptClock, ScriptFront};
+use script_front::{ScriptClock, ScriptFront};
 use stand_ins::{Calls, Files, MemSink, MemStore, ScriptLink};
 use std::alloc::Global;
 use std::io::{self, ErrorKind};
@@ -56,6 +57,7 @@ fn play<R: Print + Threads + Wait + Sync>(rt: &R, alloc: Global, case: Case) -> 
         bad_accepts,
         bad_watches,
         undialled,
+        back,
         bad_reads,
         bad_writes,
         slow,
@@ -80,7 +82,10 @@ fn play<R: Print + Threads + Wait + Sync>(rt: &R, alloc: Global, case: Case) -> 
     let mut out = output(alloc, bad_writes, slow);
     match scripted {
         Some(front) => play_over(rt, alloc, &words, &mut store, front, &mut out, view),
-        None => play_alone(rt, alloc, &words, &mut store, undialled, &mut out, view),
+        None => {
+            let front = ShutFront::make(!undialled, back);
+            play_alone(rt, alloc, &words, &mut store, front, &mut out, view)
+        }
     }
 }
 
@@ -109,10 +114,28 @@ fn play_over<R: Print + Threads + Wait + Sync>(
     match end_over(rt, alloc, words, store, scripted, out) {
         Ok((outcome, front)) => {
             show_end(rt, &outcome, store, out)?;
-            show_outcome(rt, alloc, &outcome, Some(front.front()), out, view)
+            show_outcome(rt, alloc, &outcome, Some(front.front().front()), out, view)?;
+            show_answers(rt, alloc, &front, view)
         }
         Err(NoMemory) => Err(out_of_memory()),
     }
+}
+
+/// Shows what the senders of command lines were answered, where that is asked for.
+fn show_answers(
+    rt: &impl Print,
+    alloc: Global,
+    front: &AnsweredFront,
+    view: View,
+) -> io::Result<()> {
+    if !view.answers {
+        return Ok(());
+    }
+    let text = String::from_utf8_lossy(alloc, front.answers())?;
+    for line in text.lines() {
+        println!(rt; "answered {line}")?;
+    }
+    Ok(())
 }
 
 /// Plays the run over a front to which nothing comes, and shows what came of it, and the last dial of the front.
@@ -121,11 +144,11 @@ fn play_alone<R: Print + Threads + Wait + Sync>(
     alloc: Global,
     words: &Words,
     store: &mut MemStore,
-    undialled: bool,
+    front: ShutFront,
     out: &mut MemSink,
     view: View,
 ) -> io::Result<()> {
-    let mut front = ShutFront::make(!undialled);
+    let mut front = front;
     let outcome = end_alone(rt, alloc, words, store, &mut front, out);
     show_end(rt, &outcome, store, out)?;
     show_outcome(rt, alloc, &outcome, None, out, view)?;
@@ -162,14 +185,15 @@ fn end_over<R: Threads + Wait + Sync>(
     store: &mut MemStore,
     scripted: ScriptedFront,
     out: &mut MemSink,
-) -> Result<(Outcome<ScriptLink>, FailingFront), NoMemory> {
+) -> Result<(Outcome<ScriptLink>, AnsweredFront), NoMemory> {
     let ScriptedFront {
         script,
         waits,
         accepts,
         watches,
     } = scripted;
-    let mut front = ScriptFront::failing(alloc, script, waits, accepts, watches)?;
+    let front = ScriptFront::failing(alloc, script, waits, accepts, watches)?;
+    let mut front = AnsweredFront::of(alloc, front)?;
     let mut clock = ScriptClock::make();
     let outcome = run(
         rt, alloc, words, store, &mut front, &mut clock, &OpenGate, out,
