@@ -88,7 +88,7 @@ class Play:
         with contextlib.suppress(OSError), connect(self.control) as caller:
             caller.stream.settimeout(min(self.patience, 2))
             caller.send(word)
-            caller.expect_close()
+            caller.answer()
 
     def ask(self, requests, wanted, closes=False):
         """Sends requests, and goes on where what comes of it is the front of one of the answers, or all of it."""

@@ -160,8 +160,8 @@ def a_root_that_is_missing_is_told_and_has_no_files():
                 expect("a file of a root that is missing", client.reply(), MISSING)
                 why = f"cannot list {root}: {NO_SUCH}"
                 expect("what the server says", server.told_operator(), [why, f"listening on {HOST}:{server.port}", "takes 225 connections at its start"])
-                expect("-k graceful", run(folder, "-k", "graceful", "-f", "httpd.conf"), (0, b""))
-                expect("what it says behind a restart", server.told_operator()[3:], [why])
+                expect("-k graceful", run(folder, "-k", "graceful", "-f", "httpd.conf"), (0, b"generation 1\n"))
+                expect("what it says behind a restart", server.told_operator()[3:], [why, "generation 1"])
 
 
 @scene

@@ -176,6 +176,18 @@ class Client:
         size = re.search(rb"\r\nContent-Length: (\d+)\r\n", head)
         return undated(head) + (self.take(int(size[1])) if size and not only_head else b"")
 
+    def answer(self):
+        """What comes up to the close of the connection, whether the other side has read all or not: of a control port its answer."""
+        came = b""
+        with contextlib.suppress(ConnectionError):
+            while piece := self.stream.recv(4096):
+                came += piece
+        return came
+
+    def expect_answer(self, wanted):
+        """Goes on where just this is answered, and then the connection closed."""
+        expect("the answer", self.answer(), wanted)
+
     def expect_end(self):
         """Goes on where nothing more comes, but the end."""
         expect("behind what came", self.take(-1), b"")
@@ -325,10 +337,10 @@ class Server:
         self.own_descriptors = self.descriptors()
 
     def tell(self, line):
-        """Sends the bytes to the control port, and goes on where the server has closed that connection."""
+        """Sends the bytes to the control port, and what is answered, once the server has closed that connection."""
         with connect(self.control) as caller:
             caller.send(line)
-            caller.expect_close()
+            return caller.answer()
 
     def told_operator(self):
         """The lines that the server said on standard error so far."""

@@ -230,7 +230,7 @@ def sent_with(name, number, error, count):
     with outside() as system, serving() as server:
         system.fail(name, number, error, count)
         status, printed, said = run_told(server.folder, "-k", "graceful", "-f", "httpd.conf", before=system.before)
-        expect("what is printed", printed, b"" if status == 0 else b"front fault\n")
+        expect("what is printed", printed, b"generation 1\n" if status == 0 else b"front fault\n")
         return status, [line.rpartition(": ")[2] for line in said]
 
 
@@ -248,13 +248,14 @@ def a_command_for_which_memory_lacks_changes_nothing_of_a_server():
     with serving() as server:
         words = ("-k", "graceful", "-f", "httpd.conf")
         with outside() as own:
-            expect("-k", run_told(server.folder, *words, before=own.before), (0, b"", []))
-            made = own.malloc.made
+            expect("-k", run_told(server.folder, *words, before=own.before), (0, b"generation 1\n", []))
+            made, generation = own.malloc.made, 1
             for count in (1, 1_000_000):
                 for number in range(1, made + 1):
                     own.fail("malloc", number, errno.ENOMEM, count)
                     came = run_told(server.folder, *words, before=own.before)[:2]
-                    if came not in [(0, b""), (4, b"front fault\n"), (6, b"")]:
+                    generation += came[0] == 0
+                    if came not in [(0, b"generation %d\n" % generation), (4, b"front fault\n"), (6, b"")]:
                         raise Wrong(f"-k where allocation {number} fails, and {count - 1} behind it: came {came}")
         with connect(server.port) as client:
             client.send(GET)

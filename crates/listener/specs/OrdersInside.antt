@@ -44,7 +44,7 @@ owed_by asked = if asked then 1 else 0
 abbrev pub reason_for : ReloadFault → Refusal
 reason_for fault.Absent = refusal.Absent
 reason_for (fault.Conf f) = refusal.Conf
-reason_for (fault.Load f) = refusal.Site
+reason_for (fault.Load f root) = refusal.Site
 reason_for fault.StoreFault = refusal.Store
 reason_for fault.NoMemory = refusal.NoMemory
 

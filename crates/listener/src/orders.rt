@@ -327,7 +327,7 @@ fn reason_for(fault: ReloadFault) -> Refusal
     match fault {
         ReloadFault::Absent => Refusal::Absent,
         ReloadFault::Conf(_) => Refusal::Conf,
-        ReloadFault::Load(_) => Refusal::Site,
+        ReloadFault::Load(_, _) => Refusal::Site,
         ReloadFault::StoreFault => Refusal::Store,
         ReloadFault::NoMemory => Refusal::NoMemory,
     }

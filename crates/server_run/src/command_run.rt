@@ -5,10 +5,10 @@ ghost use Rattle.server_run.specs.EndsInside.{EndsSend, ShowsAnswer};
 ghost use Rattle.listener.specs.Outside.{clients_told, comings_told};
 ghost use Rattle.run_opening.specs.Calls.{seen_call};
 
-use mpm_base::{CommandWord, Front, Octets, Sink, Store, says_refused};
+use mpm_base::{CommandWord, Front, MOST_ANSWER, Octets, Sink, Store, says_refused};
 use restart_control::{MOST_CONFIG, spelling};
 use run_opening::{
-    Ending, config_from, refuse_config_of, refuse_front, refuse_uncontrolled, unopened,
+    Ending, config_from, no_memory, refuse_config_of, refuse_front, refuse_uncontrolled, unopened,
 };
 use run_report::{exit_status, write_all};
 use std::alloc::Global;
@@ -41,6 +41,9 @@ pub fn send_command<D: Store, F: Front, K: Sink>(
         return refuse_uncontrolled(alloc, out);
     };
     let mut answer = Octets::make(alloc);
+    if answer.reserve(MOST_ANSWER).is_err() {
+        return no_memory();
+    }
     if front.dial(port, spelling(command), &mut answer) {
         unopened(show_answer(answer.as_slice(), out), None)
     } else {

@@ -47,9 +47,13 @@ fn show_answer(
 ) -> io::Result<()> {
     match answer {
         Ok(plan) => show_plan(rt, alloc, &plan),
-        Err(ReloadFault::Load(LoadFault::TooLarge(name, size))) => {
+        Err(ReloadFault::Load(LoadFault::TooLarge(name, size), _)) => {
             let text = String::from_utf8_lossy(alloc, name.as_slice())?;
             println!(rt; "Load(TooLarge({text}, {size}))")
+        }
+        Err(ReloadFault::Load(fault, root)) => {
+            let text = String::from_utf8_lossy(alloc, root.as_slice())?;
+            println!(rt; "Load({fault:?}, {text}): {fault}")
         }
         Err(fault) => println!(rt; "{fault:?}: {fault}"),
     }
