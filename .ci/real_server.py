@@ -378,13 +378,16 @@ class Server:
         until(f"a server that has {left} connections", lambda: self.connections() == left)
         self.tell(b"stop\n")
 
-    def expect_report(self, *lines, children=3, status=0, generation=0, in_order=False):
-        """Goes on where the server ends with the report of connections that have these lines, in this order or in any, in that generation."""
+    def expect_report(self, *lines, children=3, status=0, generation=0, in_order=False, told=()):
+        """Goes on where the server ends with the report of connections that have these lines, in this order or in any, in that generation, behind
+        what it told of its state."""
         try:
             printed, _ = self.process.communicate(timeout=DEADLINE)
         except subprocess.TimeoutExpired:
             raise Wrong(f"the server's end: wanted within {DEADLINE} seconds, and it didn't come") from None
         came = printed.decode(errors="backslashreplace").splitlines(keepends=True)
+        expect("the lines before the report", came[:len(told)], list(told))
+        came = came[len(told):]
         if not in_order:
             lines = sorted(lines)
             came[REPORT_HEAD:] = sorted(came[REPORT_HEAD:])

@@ -1,5 +1,6 @@
 -- The command lines of a run: where each was read, and what its sender was answered. Each line is answered once, in its place, behind its event,
 -- and before the next one is read.
+-- Why it is so stands in docs/DECISIONS.md: 110, Where a command line is answered.
 use Rattle.std.specs.Prelude.{◌≡◌, ◌⊎◌, ◌<◌, ◌≤◌, ◌+◌, ◌-◌, ◌||◌, ℕ, Bool, true, false, List, [], ◌∷◌, ◌++◌, count_by, length, map, replicate, take, bytes_eq, Option, None, Some, is_some, IfSome, IsSome, if◌then◌else◌, ⊤}
 use Rattle.std.specs.List.{flat_map}
 use Rattle.std.specs.Option.{option_map_or}

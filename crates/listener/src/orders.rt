@@ -6,7 +6,7 @@
 //! reason, and all goes on as it was. Each line is answered in its place, behind its event (`specs/LineAnswers.antt`, `specs/Heard.antt`), but
 //! for a stop, which is answered where the server has stopped.
 //! Why it is so stands in docs/DECISIONS.md: 93, Which command line stops a server; 96, A restart that comes too late; 98, Lines that ask
-//! for nothing.
+//! for nothing; 110, Where a command line is answered.
 ghost use Rattle.std.specs.Prelude.{◌≡◌, ◌<◌, ◌≤◌, [], ◌∷◌, ◌+◌, None, Some, true, false, IfErr, IfOk, IfSome, MatchResult, OnErr, OnOk};
 ghost use Rattle.mpm_base.specs.Count.{Rises};
 ghost use Rattle.mpm_base.specs.Front.{Answers, TellsOn};

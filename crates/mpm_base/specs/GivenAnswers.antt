@@ -1,4 +1,5 @@
 -- What the senders of command lines were answered, in numbers.
+-- Why it is so stands in docs/DECISIONS.md: 111, What a front counts of answers.
 use Rattle.std.specs.Prelude.{ℕ, Bool, List, codes, length, take, bytes_eq}
 use Rattle.mpm_base.specs.Count.{CountsWhere, RisesByOne}
 use Rattle.mpm_base.specs.declared.given_answers.GivenAnswers.{GivenAnswers}

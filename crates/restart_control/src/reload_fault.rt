@@ -1,4 +1,5 @@
 //! Why a graceful restart makes no plan.
+//! Why it is so stands in docs/DECISIONS.md: 112, What a refused restart tells of its site.
 use file_table::LoadFault;
 use mpm_base::Octets;
 use mpm_config::ConfFault;

@@ -1,4 +1,5 @@
 //! A command that is sent to a running server: `-k WORD -f FILE`. It loads no files, and writes what the server answers.
+//! Why it is so stands in docs/DECISIONS.md: 113, What comes back of a dial.
 ghost use Rattle.std.specs.Prelude.{◌≡◌, ℕ, List};
 ghost use Rattle.command_words.specs.Invocations.{IsSendWords};
 ghost use Rattle.server_run.specs.EndsInside.{EndsSend, ShowsAnswer};

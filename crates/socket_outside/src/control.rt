@@ -1,4 +1,5 @@
 //! The control port: the connections that bring command lines, and the lines that wait with the connections that brought them.
+//! Why it is so stands in docs/DECISIONS.md: 114, How long a control connection is kept.
 ghost use Rattle.std.specs.Prelude.{◌≡◌, ◌≢◌, ◌++◌, ℕ, List, IfOk, IfErr, None, [], map, nat_lt, length, true, false, if◌then◌else◌, ◌∷◌, is_some};
 ghost use Rattle.std.specs.Option.{option_to_list};
 

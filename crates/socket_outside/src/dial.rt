@@ -1,4 +1,5 @@
 //! Sending a command line to a server of this machine, and reading what it answers.
+//! Why it is so stands in docs/DECISIONS.md: 113, What comes back of a dial.
 ghost use Rattle.std.specs.Prelude.{◌≡◌, ◌<◌, ◌≤◌, [], ◌∷◌, ◌++◌, true, false, is_ok, length, take, IfOk, OnOk};
 ghost use Rattle.std.specs.Io.KnownBytes.{Appends, IsAtEnd};
 ghost use Rattle.socket_outside.specs.Dialling.{ReadsOut};

@@ -1,4 +1,5 @@
 //! The front over sockets.
+//! Why it is so stands in docs/DECISIONS.md: 115, What of an answer the operator is told.
 ghost use Rattle.std.specs.Prelude.{◌≡◌, ◌==◌, ◌≤◌, ◌||◌, [], None, false, length};
 ghost use Rattle.std.specs.List.{IsDistinct};
 ghost use Rattle.mpm_base.specs.Front.{Accepts, FrontSeen, Waits, accept_failed};
