@@ -1,8 +1,8 @@
 //! Sending a command line to a server of this machine, and reading what it answers.
 //! Why it is so stands in docs/DECISIONS.md: 113, What comes back of a dial.
 ghost use Rattle.std.specs.Prelude.{◌≡◌, ◌<◌, ◌≤◌, [], ◌∷◌, ◌++◌, true, false, is_ok, length, take, IfOk, OnOk};
-ghost use Rattle.std.specs.Io.KnownBytes.{Appends, IsAtEnd};
-ghost use Rattle.socket_outside.specs.Dialling.{ReadsOut};
+ghost use Rattle.std.specs.Io.KnownBytes.{Appends, Consumes, IsAtEnd};
+ghost use Rattle.socket_outside.specs.Dialling.{ReadsOn, ReadsOut};
 
 use crate::addresses::control_address;
 use crate::answers::CALLS;
@@ -96,15 +96,26 @@ pub fn read_out<S: Read>(socket: &mut S, answer: &mut Octets) -> io::Result<()>
     ensures all { OnOk result
         (ReadsOut (S.remaining socket.old) (S.remaining socket.new) answer.new) }
 {
-    let mut piece = [0; PIECE];
     for _ in 0..u64::MAX {
-        let count = read_again(socket, &mut piece)?;
-        if count == 0 {
+        if !read_on(socket, answer)? {
             return Ok(());
         }
-        keep(answer, &piece[..count])?;
     }
     Err(io::Error::from(ErrorKind::FileTooLarge))
+}
+
+/// Reads once, and puts what comes behind the answer, as far as that may have it. Whether more may come.
+fn read_on<S: Read>(socket: &mut S, answer: &mut Octets) -> io::Result<bool>
+    requires few { length answer.old ≤ 512 }
+    ensures few { length answer.new ≤ 512 }
+    ensures reads { OnOk result (ReadsOn (S.remaining socket.old) (S.remaining socket.new)
+        answer.old answer.new) }
+    ensures end { IfOk result (λ more. more ≡ false → IsAtEnd (S.remaining socket.new)) }
+{
+    let mut piece = [0; PIECE];
+    let count = read_again(socket, &mut piece)?;
+    keep(answer, &piece[..count])?;
+    Ok(count > 0)
 }
 
 /// Puts the bytes behind the answer, as far as it may have them.
@@ -123,7 +134,11 @@ fn keep(answer: &mut Octets, bytes: &[u8]) -> io::Result<()>
 
 /// Reads once, and answers how many bytes: none only at the end. A read that is interrupted is asked again, and fails at last.
 fn read_again<S: Read>(socket: &mut S, buffer: &mut [u8]) -> io::Result<usize>
-    ensures { IfOk result (λ n. n ≡ 0 → 0 < length buffer.new → IsAtEnd (S.remaining socket.new)) }
+    ensures few { IfOk result (λ n. n ≤ length buffer.new) }
+    ensures reads { IfOk result (λ n. Consumes (S.remaining socket.old) (S.remaining socket.new)
+        (take n buffer.new)) }
+    ensures end { IfOk result
+        (λ n. n ≡ 0 → 0 < length buffer.new → IsAtEnd (S.remaining socket.new)) }
 {
     for _ in 1..CALLS {
         match socket.read(buffer) {
