@@ -1,11 +1,13 @@
 -- The entries of the small value.
 use Rattle.std.proofs.Common.{◌≡◌, ℕ, zero, suc, ◌+◌, ◌-◌, ◌*◌, ◌^◌, ◌≤◌, ◌<◌, true, List, [], ◌∷◌, ◌++◌, length, fold, Option, Some, None, refl, sym, ap, subst, ◌∙◌, add-zero, append_assoc, append-nil, length-append, arith}
-use Rattle.std.specs.Prelude.{⊤, slice_index}
+use Rattle.std.specs.Prelude.{⊤, map, slice_index}
 use Rattle.std.proofs.lemmas.List.Elements.{filter-append}
 use Rattle.mpm_base.specs.declared.conn.ConnName.{ConnName}
+use Rattle.mpm_base.specs.declared.conn.Kind.{Kind}
 use Rattle.mpm_base.specs.declared.conn.Kind.TheVariants.{Reading}
 use Rattle.conn_machine.specs.declared.event.Event.TheVariants as event
 use Rattle.conn_machine.specs.declared.event.Entry.{Entry}
+use Rattle.conn_machine.specs.declared.row.Row.{Row}
 use Rattle.conn_machine.specs.declared.state.State.{State}
 use Rattle.conn_machine.specs.Table.{is_allowed, next, reply}
 use Rattle.conn_machine.specs.declared.folded.Folded.{Folded}
@@ -82,43 +84,77 @@ permitted_append permit credits s (e ∷ a) b are more = (are.0, permitted_appen
 
 -- ## Where the steps lead
 
--- the state before a step
-abbrev pub state_of : ToyStage → State
-state_of Starts = toy_state
-state_of Takes = next toy_state (event.StartChild 0)
-state_of Signals = next (next (next toy_state (event.StartChild 0)) (event.Accept 0)) (event.Park toy_name Reading)
-state_of Serves = next (next (next (next toy_state (event.StartChild 0)) (event.Accept 0)) (event.Park toy_name Reading)) (event.Ready 0)
+-- what the connection waited for, once it was served so often
+abbrev waits_at : ℕ → List Kind
+waits_at zero = Reading ∷ []
+waits_at (suc r) = waits_at r ++ Reading ∷ []
 
-pub after_step : (s : ToyStage) (r : ℕ) → after (state_of s) (step_entries s r) ≡ state_of (next_stage s)
-after_step Starts r = refl
-after_step Takes r = refl
-after_step Signals r = refl
-after_step Serves r = refl
+-- the state in which the connection waited for that
+abbrev with_waits : List Kind → State → State
+with_waits ws s = record s { rows = map (λ (row : Row). record row { waits = ws }) s.rows }
 
-pub after_first : (n : ℕ) → after toy_state (first_of n) ≡ state_of (stage_at n)
+-- the state before a step, once the connection was served so often
+abbrev pub state_of : ToyStage → ℕ → State
+state_of Starts r = toy_state
+state_of Takes r = next toy_state (event.StartChild 0)
+state_of Signals r =
+    with_waits (waits_at r) (next (next (next toy_state (event.StartChild 0)) (event.Accept 0)) (event.Park toy_name Reading))
+state_of Serves r =
+    with_waits (waits_at r) (next (next (next (next toy_state (event.StartChild 0)) (event.Accept 0)) (event.Park toy_name Reading)) (event.Ready 0))
+
+-- the state before the step of that number
+abbrev pub state_at : ℕ → State
+state_at n = state_of (stage_at n) (round_at n)
+
+-- the connection was not served before it was taken
+abbrev IsRound : ToyStage → ℕ → Type 0
+IsRound Starts r = r ≡ 0
+IsRound Takes r = r ≡ 0
+IsRound Signals r = ⊤
+IsRound Serves r = ⊤
+
+rounds : (n : ℕ) → IsRound (stage_at n) (round_at n)
+rounds zero = refl
+rounds (suc n) = keep (stage_at n) (round_at n) (rounds n)
+  where
+    keep : (s : ToyStage) (r : ℕ) → IsRound s r → IsRound (next_stage s) (next_round s r)
+    keep Starts r is = is
+    keep Takes r is = tt
+    keep Signals r is = tt
+    keep Serves r is = tt
+
+pub after_step : (s : ToyStage) (r : ℕ) → IsRound s r → after (state_of s r) (step_entries s r) ≡ state_of (next_stage s) (next_round s r)
+after_step Starts r is = refl
+after_step Takes r is = subst (λ i. after (state_of Takes i) (step_entries Takes i) ≡ state_of Signals i) (sym is) refl
+after_step Signals r is = refl
+after_step Serves r is =
+    let one : suc r ≡ r + 1 = omega arith in
+    ap (λ i. with_waits (waits_at i) (next (next (next toy_state (event.StartChild 0)) (event.Accept 0)) (event.Park toy_name Reading))) one
+
+pub after_first : (n : ℕ) → after toy_state (first_of n) ≡ state_at n
 after_first zero = refl
 after_first (suc n) =
-    after-append toy_state (first_of n) (step_of n) ∙ ap (λ s. after s (step_of n)) (after_first n) ∙ after_step (stage_at n) (round_at n)
+    after-append toy_state (first_of n) (step_of n) ∙ ap (λ s. after s (step_of n)) (after_first n) ∙ after_step (stage_at n) (round_at n) (rounds n)
 
-after_from : (n k : ℕ) → after (state_of (stage_at n)) (entries_from n k) ≡ state_of (stage_at (n + k))
-after_from n zero = ap (λ i. state_of (stage_at i)) (sym (add-zero n))
+after_from : (n k : ℕ) → after (state_at n) (entries_from n k) ≡ state_at (n + k)
+after_from n zero = ap (λ i. state_at i) (sym (add-zero n))
 after_from n (suc k) =
     let one : suc (n + k) ≡ n + suc k = omega arith in
-    after-append (state_of (stage_at n)) (entries_from n k) (step_of (n + k)) ∙ ap (λ s. after s (step_of (n + k))) (after_from n k)
-    ∙ after_step (stage_at (n + k)) (round_at (n + k)) ∙ ap (λ i. state_of (stage_at i)) one
+    after-append (state_at n) (entries_from n k) (step_of (n + k)) ∙ ap (λ s. after s (step_of (n + k))) (after_from n k)
+    ∙ after_step (stage_at (n + k)) (round_at (n + k)) (rounds (n + k)) ∙ ap (λ i. state_at i) one
 
 -- the state after entries that were folded, and others behind them
 pub after_more : (n m : ℕ) → after (after toy_state (first_of n)) (entries_from n m) ≡ after toy_state (first_of (n + m))
 after_more n m = sym (after-append toy_state (first_of n) (entries_from n m)) ∙ ap (after toy_state) (sym (more_of n m))
 
 pub newest_after : (n : ℕ) → (after toy_state (first_of n)).newest ≡ 0
-newest_after n = ap (λ (s : State). s.newest) (after_first n) ∙ by (stage_at n)
+newest_after n = ap (λ (s : State). s.newest) (after_first n) ∙ by (stage_at n) (round_at n)
   where
-    by : (s : ToyStage) → (state_of s).newest ≡ 0
-    by Starts = refl
-    by Takes = refl
-    by Signals = refl
-    by Serves = refl
+    by : (s : ToyStage) (r : ℕ) → (state_of s r).newest ≡ 0
+    by Starts r = refl
+    by Takes r = refl
+    by Signals r = refl
+    by Serves r = refl
 
 -- ## How many entries they are
 
@@ -259,16 +295,16 @@ FitsRow Takes row = row ≡ None
 FitsRow Signals row = ⊤
 FitsRow Serves row = row ≡ None
 
-fine_step : (s : ToyStage) (r : ℕ) (row : Option ConnName) → FitsRow s row → AreFine (maker s) (state_of s) (first_number s r) row (step_entries s r)
+fine_step : (s : ToyStage) (r : ℕ) (row : Option ConnName) → FitsRow s row → AreFine (maker s) (state_of s r) (first_number s r) row (step_entries s r)
 fine_step Starts r row fits = (refl, refl, refl, refl, refl, tt)
 fine_step Takes r row fits =
     let two : r + 2 ≡ r + 1 + 1 = omega arith in
-    subst (λ o. AreFine 0 (state_of Takes) (r + 1) o (step_entries Takes r)) (sym fits)
+    subst (λ o. AreFine 0 (state_of Takes r) (r + 1) o (step_entries Takes r)) (sym fits)
     (refl, refl, refl, refl, refl, (refl, two, refl, refl, refl, tt))
 fine_step Signals r row fits = (refl, refl, refl, refl, refl, tt)
 fine_step Serves r row fits =
     let two : 3 * r + 2 ≡ 3 * r + 1 + 1 = omega arith in
-    subst (λ o. AreFine 1 (state_of Serves) (3 * r) o (step_entries Serves r)) (sym fits)
+    subst (λ o. AreFine 1 (state_of Serves r) (3 * r) o (step_entries Serves r)) (sym fits)
     (refl, refl, refl, refl, refl, (refl, refl, refl, refl, refl, (refl, two, refl, refl, refl, tt)))
 
 fits_next : (s : ToyStage) (r : ℕ) (row : Option ConnName) → FitsRow s row → maker s ≡ maker (next_stage s)
@@ -280,34 +316,34 @@ fits_next Serves r row fits same = tt
 
 -- the history stands where so many steps were made, as far as the pass needs to know
 pub record IsAt (p n : ℕ) (start : State) (whole : List Entry) : Type 0 where
-  pub state : after start whole ≡ state_of (stage_at n)
+  pub state : after start whole ≡ state_at n
   pub number : length (entries_of p whole) ≡ length (entries_of p (first_of n))
   pub row : maker (stage_at n) ≡ p → FitsRow (stage_at n) (row_of p whole)
 
 -- the step is fine for its pass
 fine_at : (p n : ℕ) (start : State) (whole : List Entry) → IsAt p n start whole → maker (stage_at n) ≡ p
-    → AreFine p (state_of (stage_at n)) (first_number (stage_at n) (round_at n)) (row_of p whole) (step_of n)
+    → AreFine p (state_at n) (first_number (stage_at n) (round_at n)) (row_of p whole) (step_of n)
 fine_at p n start whole at mine =
-    subst (λ q. AreFine q (state_of (stage_at n)) (first_number (stage_at n) (round_at n)) (row_of p whole) (step_of n)) mine
+    subst (λ q. AreFine q (state_at n) (first_number (stage_at n) (round_at n)) (row_of p whole) (step_of n)) mine
     (fine_step (stage_at n) (round_at n) (row_of p whole) (at.row mine))
 
 -- its pass may make it
 may_step : (passes p n : ℕ) (start : State) (whole : List Entry) → IsAt p n start whole → maker (stage_at n) ≡ p
     → AreEntriesOf p start (opening_record passes) whole (step_of n)
 may_step passes p n start whole at mine =
-    may_follow passes p (state_of (stage_at n)) (first_number (stage_at n) (round_at n)) (row_of p whole) start whole (step_of n) at.state
+    may_follow passes p (state_at n) (first_number (stage_at n) (round_at n)) (row_of p whole) start whole (step_of n) at.state
     (at.number ∙ ap (λ q. length (entries_of q (first_of n))) (sym mine) ∙ own_number (first_of n) (stage_at n) (round_at n) (counted n))
     refl (fine_at p n start whole at mine)
 
 step_at : (p n : ℕ) (start : State) (whole : List Entry) → IsAt p n start whole → maker (stage_at n) ≡ p → IsAt p (suc n) start (whole ++ step_of n)
 step_at p n start whole at mine = record {
   state =
-      after-append start whole (step_of n) ∙ ap (λ t. after t (step_of n)) at.state ∙ after_step (stage_at n) (round_at n);
+      after-append start whole (step_of n) ∙ ap (λ t. after t (step_of n)) at.state ∙ after_step (stage_at n) (round_at n) (rounds n);
   number =
       count_append p whole (step_of n) ∙ ap (λ m. m + length (entries_of p (step_of n))) at.number ∙ sym (count_append p (first_of n) (step_of n));
   row =
       λ more. subst (FitsRow (next_stage (stage_at n)))
-      (sym (row_behind p (state_of (stage_at n)) (first_number (stage_at n) (round_at n)) (row_of p whole) whole (step_of n) refl (fine_at p n start whole at mine)))
+      (sym (row_behind p (state_at n) (first_number (stage_at n) (round_at n)) (row_of p whole) whole (step_of n) refl (fine_at p n start whole at mine)))
       (fits_next (stage_at n) (round_at n) (row_of p whole) (at.row mine) (mine ∙ sym more));
 }
 
@@ -332,7 +368,7 @@ are_more passes p n (suc k) start whole at own =
 -- pass 1 has no connection behind a step of its own
 pub none_behind : (n : ℕ) (start : State) (whole : List Entry) → IsAt 1 n start whole → maker (stage_at n) ≡ 1 → row_of 1 (whole ++ step_of n) ≡ None
 none_behind n start whole at mine =
-    row_behind 1 (state_of (stage_at n)) (first_number (stage_at n) (round_at n)) (row_of 1 whole) whole (step_of n) refl (fine_at 1 n start whole at mine)
+    row_behind 1 (state_at n) (first_number (stage_at n) (round_at n)) (row_of 1 whole) whole (step_of n) refl (fine_at 1 n start whole at mine)
     ∙ by (stage_at n) (round_at n) mine
   where
     by : (s : ToyStage) (r : ℕ) → maker s ≡ 1 → row_after (row_of 1 whole) (step_entries s r) ≡ None
@@ -348,7 +384,7 @@ FitsPermit Takes permit = ⊤
 FitsPermit Signals permit = ⊤
 FitsPermit Serves permit = permit ≡ Some 0
 
-permit_step : (s : ToyStage) (r : ℕ) (permit : Option ℕ) (credits : List ℕ) → FitsPermit s permit → ArePermitted permit credits (state_of s) (step_entries s r)
+permit_step : (s : ToyStage) (r : ℕ) (permit : Option ℕ) (credits : List ℕ) → FitsPermit s permit → ArePermitted permit credits (state_of s r) (step_entries s r)
 permit_step Starts r permit credits fits = (tt, tt)
 permit_step Takes r permit credits fits = (tt, (tt, tt))
 permit_step Signals r permit credits fits = (tt, tt)
@@ -362,9 +398,9 @@ fits_permit Serves p permit mine has = has (sym mine)
 
 -- with a permit pass 1 may make its steps, and pass 0 without
 pub permits_more : (p n k : ℕ) (permit : Option ℕ) (credits : List ℕ) → AreStepsOf p n k → (p ≡ 1 → permit ≡ Some 0)
-    → ArePermitted permit credits (state_of (stage_at n)) (entries_from n k)
+    → ArePermitted permit credits (state_at n) (entries_from n k)
 permits_more p n zero permit credits own has = tt
 permits_more p n (suc k) permit credits own has =
-    permitted_append permit credits (state_of (stage_at n)) (entries_from n k) (step_of (n + k)) (permits_more p n k permit credits own.0 has)
+    permitted_append permit credits (state_at n) (entries_from n k) (step_of (n + k)) (permits_more p n k permit credits own.0 has)
     (subst (λ s. ArePermitted permit credits s (step_of (n + k))) (sym (after_from n k))
     (permit_step (stage_at (n + k)) (round_at (n + k)) permit credits (fits_permit (stage_at (n + k)) p permit own.1 has)))

@@ -20,8 +20,8 @@ use Rattle.lock_examples.proofs.PlaceLemmas.{each_after, each_first}
 use Rattle.board_lock.specs.Passes.{GaveBack, TookTurn, fresh_view}
 use Rattle.lock_examples.specs.declared.stage.ToyStage.{ToyStage}
 use Rattle.lock_examples.specs.declared.stage.ToyStage.TheVariants.{Starts, Takes, Signals, Serves}
-use Rattle.lock_examples.specs.Toy.{FoldsBetween, IsReadyPass, KeepsOpening, MakesStep, SeenToy, entries_from, first_of, maker, next_stage, stage_at, step_of, toy_ledger, toy_record, toy_shape, toy_state}
-use Rattle.lock_examples.proofs.EntryLemmas.{AreStepsOf, FitsRow, IsAt, after-append, after_first, after_more, are_more, count_append, more_from, more_of, none_behind, permits_more, state_of}
+use Rattle.lock_examples.specs.Toy.{FoldsBetween, IsReadyPass, KeepsOpening, MakesStep, SeenToy, entries_from, first_of, maker, next_round, next_stage, round_at, stage_at, step_of, toy_ledger, toy_record, toy_shape, toy_state}
+use Rattle.lock_examples.proofs.EntryLemmas.{AreStepsOf, FitsRow, IsAt, after-append, after_first, after_more, are_more, count_append, more_from, more_of, none_behind, permits_more, state_at, state_of}
 use Rattle.lock_examples.proofs.FoldLemmas.{record_more, record_opens}
 
 -- ## A turn without an entry
@@ -57,7 +57,7 @@ own_folded folded passes p lt =
 
 -- the state before the next step
 state_found : {K : Type 0} (v w : Me (Option K) View) (old : SeenToy) → TookTurn v w (toy_ledger old)
-    → after w.0.origin.state w.0.seen ≡ state_of (stage_at (old.folded + old.count))
+    → after w.0.origin.state w.0.seen ≡ state_at (old.folded + old.count)
 state_found v w old took =
     let f = took.is_found in
     let kept = entries_from old.folded old.count in
@@ -332,14 +332,14 @@ stays_free v w z old at new made took number none same makes gave =
 -- ## The child
 
 -- once it was started the child has its workers
-started : (n : ℕ) → threads_of (state_of (stage_at (suc n))) 0 ≡ 2
-started n = by (stage_at n)
+started : (n : ℕ) → threads_of (state_at (suc n)) 0 ≡ 2
+started n = by (stage_at n) (round_at n)
   where
-    by : (s : ToyStage) → threads_of (state_of (next_stage s)) 0 ≡ 2
-    by Starts = refl
-    by Takes = refl
-    by Signals = refl
-    by Serves = refl
+    by : (s : ToyStage) (r : ℕ) → threads_of (state_of (next_stage s) (next_round s r)) 0 ≡ 2
+    by Starts r = refl
+    by Takes r = refl
+    by Signals r = refl
+    by Serves r = refl
 
 -- so the turn found them
 pub has_workers : {K : Type 0} (v w : Me (Option K) View) (old : SeenToy) (n : ℕ) → TookTurn v w (toy_ledger old)
@@ -349,7 +349,7 @@ has_workers v w old n took is some =
     subst (λ s. 2 ≡ threads_of s 0) (sym (state_found v w old took))
     (by (old.folded + old.count) (ap length (more_of old.folded old.count) ∙ length-append (first_of old.folded) (entries_from old.folded old.count)))
   where
-    by : (m : ℕ) → length (first_of m) ≡ length (first_of old.folded) + length (entries_from old.folded old.count) → 2 ≡ threads_of (state_of (stage_at m)) 0
+    by : (m : ℕ) → length (first_of m) ≡ length (first_of old.folded) + length (entries_from old.folded old.count) → 2 ≡ threads_of (state_at m) 0
     by zero e = absurd (empty (length (first_of old.folded)) (length (entries_from old.folded old.count)) e is)
       where
         empty : (p q : ℕ) → 0 ≡ p + q → n ≡ 0 + p + q → ⊥

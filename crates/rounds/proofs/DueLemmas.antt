@@ -1,10 +1,11 @@
 -- That no connection is served at its deadline: the service of one leaves each other one as it was, and none signalled behind it that waits.
-use Rattle.std.proofs.Common.{◌≡◌, ◌≢◌, inl, inr, ◌⊎◌, ℕ, ◌<◌, ◌≤◌, zero, suc, Bool, true, false, not, ◌&&◌, ◌||◌, List, [], ◌∷◌, ◌++◌, map, nat_le, nat_lt, Option, None, Some, slice_get, slice_set, slice_index_or, refl, sym, ap, subst, ◌∙◌, arith}
+use Rattle.std.proofs.Common.{◌≡◌, ◌≢◌, inl, inr, ◌⊎◌, ℕ, ◌<◌, zero, suc, Bool, true, false, not, ◌&&◌, ◌||◌, List, [], ◌∷◌, ◌++◌, nat_le, nat_lt, None, Some, slice_get, slice_set, slice_index_or, refl, sym, ap, subst, ◌∙◌, arith}
 use Rattle.std.proofs.lemmas.Bool.{and_parts, cases_eq}
 use Rattle.std.proofs.lemmas.Bool.Decides.{nat_tests}
 use Rattle.std.specs.List.{list_any}
 use Rattle.mpm_base.specs.declared.conn.Ask.{Ask}
 use Rattle.mpm_base.specs.declared.conn.ConnName.{ConnName}
+use Rattle.mpm_base.specs.declared.conn.Tail.TheVariants.{Direct}
 use Rattle.conn_machine.specs.declared.child.Child.{Child}
 use Rattle.conn_machine.specs.declared.event.Event.{Event}
 use Rattle.conn_machine.specs.declared.event.Event.TheVariants as event
@@ -12,25 +13,25 @@ use Rattle.conn_machine.specs.declared.row.Row.{Row}
 use Rattle.conn_machine.specs.declared.state.State.{State}
 use Rattle.conn_machine.specs.Children.{is_empty}
 use Rattle.conn_machine.specs.Lists.{update}
-use Rattle.conn_machine.specs.Rows.{is_lingering, is_parked, live_row, lives_and}
+use Rattle.conn_machine.specs.Rows.{carried_count, is_lingering, is_parked, lives_and}
 use Rattle.conn_machine.specs.Runs.{after}
-use Rattle.conn_machine.specs.States.{is_overdue, is_signalled}
-use Rattle.conn_machine.specs.Table.{lingering_row, next}
+use Rattle.conn_machine.specs.States.{child_of, is_overdue, is_signalled}
+use Rattle.conn_machine.specs.Table.{lingering_row, may_be_queued, next}
 use Rattle.board.specs.Book.{SeenBook}
 use Rattle.board.specs.Board.{SeenBoard}
 use Rattle.board.specs.Finds.{FindsRow, is_due}
 use Rattle.worker_group.specs.declared.service.Exit.{Exit}
 use Rattle.worker_group.specs.declared.service.Exit.TheVariants as exit
 use Rattle.worker_group.specs.Acts.{Acts, ActsInSteps}
-use Rattle.worker_group.specs.Service.{HasServed, answer_events, left_events}
+use Rattle.worker_group.specs.Service.{HasServed, answer_events, given_up_cause, left_events}
 use Rattle.rounds.specs.ClosingInside.{state_by}
 use Rattle.rounds.specs.PartsInside.{StaysTimely}
 use Rattle.rounds.specs.TableInside.{NoneDueLate, NoneOverdue}
-use Rattle.rounds.specs.Timely.{IsTimely, is_at_its_end, is_staffed}
+use Rattle.rounds.specs.Timely.{is_at_its_end, is_staffed}
 use Rattle.rounds.proofs.ClosingLemmas.{GoesOnFrom, acts-state}
 use Rattle.rounds.proofs.FoundLemmas.{found-at, lives, passes-found}
 use Rattle.rounds.proofs.PassLemmas.{service-acts}
-use Rattle.rounds.proofs.TimelyLemmas.{ArePlain, AreTimelyFrom, not-at_end, plain-both, plain-children, plain-left, plain-timely, stays-timely}
+use Rattle.rounds.proofs.TimelyLemmas.{ArePlain, not-at_end, plain-both, plain-children, plain-left, plain-timely, stays-timely}
 
 -- ## Other connections
 
@@ -128,7 +129,7 @@ pub left-others : LeavesOthers → (s : State) (name : ConnName) (way : Exit) �
 left-others law s name (exit.Park kind) = others-park law s name kind
 left-others law s name (exit.Linger why) = others-linger law s name why
 left-others law s name (exit.Close why how) = others-close law s name why how
-left-others law s name (exit.GiveUp fault) = others-close law s name _ _
+left-others law s name (exit.GiveUp fault) = others-close law s name (given_up_cause fault) Direct
 
 pub left-quiet : (s : State) (name : ConnName) (way : Exit) → is_signalled s name.slot ≡ false → IsLeftQuiet name.slot (state_by s (left_events way name))
 left-quiet s name (exit.Park kind) none = inl none
@@ -194,11 +195,12 @@ plain-service name asks way = (refl, plain-both (answer_events name asks) (left_
 due-found : (s : State) (name : ConnName) → FindsRow (is_due s) s (Some name) → NoneDueLate s → lives_and (λ (r : Row). nat_lt s.moment r.deadline) s.rows name ≡ true
 due-found s name found soon =
     let live = lives (is_due s name.slot) s.rows name found in
-    let parts = and_parts (is_signalled s name.slot) _ live.passes in
-    let waits = and_parts (is_parked live.row.place) _ parts.1 in
-    let serves = and_parts (not (is_lingering live.row)) _ waits.1 in
+    let parts = and_parts (is_signalled s name.slot) (may_be_queued s live.row) live.passes in
+    let free = nat_lt (carried_count s.rows live.row.child) (child_of s live.row).shape.threads in
+    let waits = and_parts (is_parked live.row.place && not (is_lingering live.row)) free parts.1 in
+    let serves = and_parts (is_parked live.row.place) (not (is_lingering live.row)) waits.0 in
     let later : s.moment < live.row.deadline =
-    soon name.slot live.row (found-at s.rows name live.row live.found) parts.0 waits.0 (not-set (is_lingering live.row) serves.0) in
+    soon name.slot live.row (found-at s.rows name live.row live.found) parts.0 serves.0 (not-set (is_lingering live.row) serves.1) in
     passes-found (λ (r : Row). nat_lt s.moment r.deadline) s.rows name live.row live.found (grind (arith, nat_tests))
   where
     not-set : (b : Bool) → not b ≡ true → b ≡ false
@@ -216,7 +218,8 @@ pub serves-in_time : GoesOnFrom → ActsInSteps → LeavesOthers → (who : ℕ)
     → NoneDueLate a.book.state → is_staffed a.book.state ≡ true → ServesInTime a.book b.book
 serves-in_time joins steps law who name a b served here there found soon staffed =
     let s = a.book.state in
-    let es : List Event = event.Queue name ∷ (event.Start name ∷ answer_events name served.asks) ++ left_events served.left.way name in
+    let rest : List Event = (event.Start name ∷ answer_events name served.asks) ++ left_events served.left.way name in
+    let es : List Event = event.Queue name ∷ rest in
     let acts : Acts who es None a.book b.book =
     subst (λ (n : ConnName). Acts who (event.Queue name ∷ (event.Start name ∷ answer_events name served.asks) ++ left_events served.left.way n) None a.book b.book)
     served.named (service-acts steps who name a b served) in
@@ -227,12 +230,12 @@ serves-in_time joins steps law who name a b served here there found soon staffed
       timely =
           stays-timely who es None a.book b.book acts here (
             record { asked = due-found s name found soon; within = λ over. refl; before = before },
-            plain-timely (next s (event.Queue name)) _ plain before,
+            plain-timely (next s (event.Queue name)) rest plain before,
           );
       soon = subst NoneDueLate (sym state) (due-by name s (state_by s es) (service-quiet law s name served.asks served.left.way) soon);
       staffed =
           ap is_staffed state
-          ∙ ap (list_any (λ (c : Child). not (is_empty c.phase))) (plain-children (next s (event.Queue name)) _ plain) ∙ staffed;
+          ∙ ap (list_any (λ (c : Child). not (is_empty c.phase))) (plain-children (next s (event.Queue name)) rest plain) ∙ staffed;
     }
 
 -- ## Where none is late

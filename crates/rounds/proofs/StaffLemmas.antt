@@ -1,5 +1,5 @@
 -- That some child isn't gone, behind those that are started; and what is left of a state where only children are moved and commands done.
-use Rattle.std.proofs.Common.{◌≡◌, ℕ, ◌+◌, ◌<◌, ◌≤◌, zero, suc, Bool, true, false, not, ◌&&◌, ◌||◌, cond, List, [], ◌∷◌, ◌++◌, length, map, find, nat_le, nat_lt, count_by, Option, None, Some, slice_get, slice_index_or, refl, sym, ap, subst, ◌∙◌, arith}
+use Rattle.std.proofs.Common.{◌≡◌, ℕ, ◌+◌, ◌<◌, zero, suc, Bool, true, false, not, ◌&&◌, ◌||◌, cond, List, [], ◌∷◌, ◌++◌, length, map, find, nat_le, nat_lt, Option, None, Some, slice_get, slice_index_or, refl, sym, ap, subst, ◌∙◌, arith}
 use Rattle.std.proofs.lemmas.Bool.{and_parts}
 use Rattle.std.proofs.lemmas.Bool.Decides.{nat_tests}
 use Rattle.std.proofs.lemmas.List.{length-map}
@@ -15,7 +15,7 @@ use Rattle.conn_machine.specs.declared.event.Commanded.TheVariants.{Graceful, Re
 use Rattle.conn_machine.specs.declared.event.Event.{Event}
 use Rattle.conn_machine.specs.declared.event.Event.TheVariants as event
 use Rattle.conn_machine.specs.declared.state.State.{State}
-use Rattle.conn_machine.specs.Children.{all_stopped, is_empty, is_running, running_count, started_child, stopped_child}
+use Rattle.conn_machine.specs.Children.{is_empty, is_running, running_count, started_child, stopped_child}
 use Rattle.conn_machine.specs.Lists.{update}
 use Rattle.conn_machine.specs.Runs.{after}
 use Rattle.conn_machine.specs.States.{is_halted, is_serving}
@@ -52,12 +52,13 @@ any-updated : (children : List Child) (k : ℕ) (change : Child → Child) → (
     → list_any is_there (update children k change) ≡ true
 any-updated [] k change there some = some
 any-updated (c ∷ children) zero change there some = rw (there c) refl
-any-updated (c ∷ children) (suc k) change there some = by (is_there c) refl where
-  by : (b : Bool) → is_there c ≡ b → (is_there c || list_any is_there (update children k change)) ≡ true
-  by true is = rw is refl
-  by false is =
+any-updated (c ∷ children) (suc k) change there some = by (is_there c) refl (any-updated children k change there) where
+  by : (b : Bool) → is_there c ≡ b → (list_any is_there children ≡ true → list_any is_there (update children k change) ≡ true)
+      → (is_there c || list_any is_there (update children k change)) ≡ true
+  by true is more = rw is refl
+  by false is more =
       let rest : list_any is_there children ≡ true = sym (ap (λ (x : Bool). x || list_any is_there children) is) ∙ some in
-      ap (λ (x : Bool). x || list_any is_there (update children k change)) is ∙ any-updated children k change there rest
+      ap (λ (x : Bool). x || list_any is_there (update children k change)) is ∙ more rest
 
 pub staffed-start : (s : State) (k : ℕ) → is_staffed s ≡ true → is_staffed (next s (event.StartChild k)) ≡ true
 staffed-start s k staffed = any-updated s.children k (started_child s.newest s.shape) (λ c. refl) staffed
@@ -72,12 +73,12 @@ gone-child Stopping gone = absurd (cc gone)
 -- none runs where each is gone
 none-run : (children : List Child) → list_any is_there children ≡ false → running_count children ≡ 0
 none-run [] gone = refl
-none-run (c ∷ children) gone = by (is_there c) refl where
-  by : (b : Bool) → is_there c ≡ b → running_count (c ∷ children) ≡ 0
-  by true is = absurd (cc (sym (ap (λ (x : Bool). x || list_any is_there children) is) ∙ gone))
-  by false is =
+none-run (c ∷ children) gone = by (is_there c) refl (none-run children) where
+  by : (b : Bool) → is_there c ≡ b → (list_any is_there children ≡ false → running_count children ≡ 0) → running_count (c ∷ children) ≡ 0
+  by true is more = absurd (cc (sym (ap (λ (x : Bool). x || list_any is_there children) is) ∙ gone))
+  by false is more =
       let rest : list_any is_there children ≡ false = sym (ap (λ (x : Bool). x || list_any is_there children) is) ∙ gone in
-      count-cons (λ (x : Child). is_running x.phase) c children ∙ rw (gone-child c.phase is) (omega (arith, none-run children rest))
+      count-cons (λ (x : Child). is_running x.phase) c children ∙ rw (gone-child c.phase is) (omega (arith, more rest))
 
 -- the first child is gone
 first-gone : (c : Child) (children : List Child) → list_any is_there (c ∷ children) ≡ false → is_empty c.phase ≡ true

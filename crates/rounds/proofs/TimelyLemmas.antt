@@ -1,7 +1,7 @@
 -- That it is time for what the parts of a round add.
-use Rattle.std.proofs.Common.{◌≡◌, ℕ, ◌<◌, ◌≤◌, zero, suc, Bool, true, false, not, ◌&&◌, ◌||◌, cond, List, [], ◌∷◌, ◌++◌, map, Option, None, Some, slice_get, IfErr, OnErr, OnOk, Result, Ok, Err, refl, sym, ap, subst, ◌∙◌, arith}
+use Rattle.std.proofs.Common.{◌≡◌, ℕ, ◌<◌, ◌≤◌, zero, suc, Bool, true, false, not, ◌&&◌, ◌||◌, cond, List, [], ◌∷◌, ◌++◌, Option, None, Some, slice_get, IfErr, OnErr, OnOk, Result, Ok, Err, refl, sym, ap, subst, ◌∙◌, arith}
 use Rattle.std.specs.Prelude.{⊤}
-use Rattle.std.specs.List.{flat_map, list_any}
+use Rattle.std.specs.List.{list_any}
 use Rattle.std.specs.Option.{option_map_or}
 use Rattle.mpm_base.specs.Moment.{greatest_moment}
 use Rattle.mpm_base.specs.declared.conn.ConnName.{ConnName}
@@ -16,7 +16,7 @@ use Rattle.conn_machine.specs.declared.event.Event.TheVariants as event
 use Rattle.conn_machine.specs.declared.event.Why.{Why}
 use Rattle.conn_machine.specs.declared.event.Why.TheVariants as why
 use Rattle.conn_machine.specs.declared.state.State.{State}
-use Rattle.conn_machine.specs.Children.{all_stopped, is_empty, is_running, is_stopping, stopped_child}
+use Rattle.conn_machine.specs.Children.{all_stopped, is_empty, is_stopping, stopped_child}
 use Rattle.conn_machine.specs.Runs.{after}
 use Rattle.conn_machine.specs.States.{is_halted, is_over, is_serving}
 use Rattle.conn_machine.specs.Table.{child_passes, may_retire, next}
@@ -388,7 +388,7 @@ departs-until_in_time law steps fault a b until here there staffed =
     let acts : Acts 0 es None a b =
     steps.more 0 (departures_events lets.departures) given None None a until.book b lets.acts
     (steps.more 0 (event.Hold last.name ∷ []) (lingering_give_up_events fault last.ending last.name) (Some last.name) None until.book last.book b last.held last.acts) in
-    let plain : ArePlain es = plain-both (departures_events lets.departures) given (plain-departures lets.departures) (refl, refl, tt) in
+    let plain : ArePlain es = plain-both (departures_events lets.departures) given (plain-departures lets.departures) (refl, (refl, tt)) in
     record {
       timely = stays-plain 0 es None a b acts here plain (not-at_end a.state staffed);
       staffed = staffed-plain law 0 es None a b acts here there plain staffed;

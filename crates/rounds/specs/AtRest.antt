@@ -1,5 +1,5 @@
 -- When nothing is left to be done.
-use Rattle.std.specs.Prelude.{◌≡◌, ℕ, true, false, None, Some, slice_get, ⊤}
+use Rattle.std.specs.Prelude.{◌≡◌, ℕ, true, false, None, Some, slice_get}
 use Rattle.conn_machine.specs.declared.row.Row.{Row}
 use Rattle.conn_machine.specs.declared.state.State.{State}
 use Rattle.conn_machine.specs.Table.{may_retire}

@@ -1,5 +1,5 @@
 -- The events that the listener adds by the parts of a round, and how a server goes down.
-use Rattle.std.specs.Prelude.{◌≡◌, ℕ, Bool, true, false, List, [], ◌∷◌, ◌++◌, length, map, Option, None, Some, Result, Ok, Err, ⊤}
+use Rattle.std.specs.Prelude.{◌≡◌, ℕ, Bool, true, false, List, [], ◌∷◌, ◌++◌, length, map, Option, None, Some, Result, Ok, Err}
 use Rattle.std.specs.List.{flat_map}
 use Rattle.mpm_base.specs.declared.conn.ConnName.{ConnName}
 use Rattle.mpm_base.specs.declared.conn.Cause.TheVariants as cause
@@ -23,7 +23,6 @@ use Rattle.rounds.specs.ClosedDown.{IsClosedDown}
 use Rattle.rounds.specs.EndsInside.{HaltsAs, why_of}
 use Rattle.rounds.specs.AtRest.{NoneDue}
 use Rattle.rounds.specs.declared.ends.End.{End}
-use Rattle.rounds.specs.declared.ends.End.TheVariants as end
 use Rattle.rounds.specs.Timely.{AreTimely}
 use Rattle.rounds.specs.Moments.{known_slots, ticks_to}
 

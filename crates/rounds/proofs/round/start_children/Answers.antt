@@ -88,7 +88,7 @@ returns-in_err-start_child-clause-children g c =
 pub returns-clause-staffed : goal.returns-clause-staffed
 returns-clause-staffed g c up before some =
     staffed-behind c.args.board.now.book.state c.loop-child.board.book.state c.loop-child.invariant.going up c.loop-child.invariant.staffed before
-    (sym c.can_start.ensures ∙ c.in_default.is) c.show-then.ensures.sound.children.newest some
+    (sym c.can_start.ensures ∙ c.in_default.is) c.show-2.ensures.sound.children.newest some
 
 pub returns-clause-before : goal.returns-clause-before
 returns-clause-before g c =
