@@ -144,12 +144,13 @@ StaysWatching told told' old new =
 abbrev pub HandedOut : Option FrontTold → State → Type 0
 HandedOut told s = IfSome told (TakesLinks s)
 
--- a front that tells has told no wait and no watch, handed nothing out, given no line, and listens
+-- a front that tells has told no wait and no watch, handed nothing out, given no line and no answer, and listens
 pub record HasNotBegun (t : FrontTold) : Type 0 where
   pub waits : t.waits ≡ []
   pub watches : t.watches ≡ []
   pub accepted : t.accepted ≡ 0
   pub read : t.read ≡ 0
+  pub answers : t.answers ≡ []
   pub hushed : t.hushed ≡ false
 
 -- nothing has come of a front that tells, and of the table nothing was asked: no time has passed, that a patient one tells

@@ -1,7 +1,7 @@
 -- What the listener keeps of its generations on its way, and what it does for a command line.
 use Rattle.std.specs.Prelude.{◌≡◌, ◌⊎◌, ℕ, ◌+◌, Bool, true, false, List, [], ◌∷◌, ◌++◌, map, if◌then◌else◌, Option, None, Some, option_map}
 use Rattle.mpm_base.specs.CommandWord.{command_word}
-use Rattle.mpm_base.specs.Front.{Commands, FrontSeen, after_hush}
+use Rattle.mpm_base.specs.Front.{Answers, Commands, FrontSeen, after_hush}
 use Rattle.mpm_base.specs.Store.{StoreSeen, StoreTold}
 use Rattle.mpm_base.specs.declared.script_line.CommandWord.{CommandWord}
 use Rattle.mpm_base.specs.declared.script_line.CommandWord.TheVariants as word
@@ -151,3 +151,14 @@ pub record AnswersRefused (c : NamedConfig) (store : StoreSeen) (old new : SeenB
 -- a restart by the next edition of this store is answered by the event that the listener made for it
 abbrev pub AnswersRestart : NamedConfig → StoreSeen → SeenBook → SeenBook → List ℕ → Type 0
 AnswersRestart c store old new answer = AnswersBegin old new answer ⊎ AnswersRefused c store old new answer
+
+-- ## The next line
+
+-- the sender of the line before was answered, where that is still to be done
+abbrev pub AnswersIf : Option (List ℕ) → FrontSeen → FrontSeen → Type 0
+AnswersIf None old new = new ≡ old
+AnswersIf (Some text) old new = Answers old new text
+
+-- so it was, and then the front gave this line, or none
+abbrev pub GivesNext : Option (List ℕ) → FrontSeen → FrontSeen → Option (List ℕ) → Type 0
+GivesNext answer old new line = (mid : FrontSeen) × AnswersIf answer old mid × Commands mid new line

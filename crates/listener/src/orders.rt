@@ -23,7 +23,7 @@ ghost use Rattle.listener.specs.CountedInside.{CountsOn, CountsUntil};
 ghost use Rattle.listener.specs.Orders as spec;
 ghost use Rattle.command_answers.specs.Answers.{open_line, status_answer};
 ghost use Rattle.run_report.specs.EndingsInside.{WritesOn};
-ghost use Rattle.listener.specs.OrdersInside.{AnswersPlan, AnswersRestart, BreaksBehind, Carries, EndingBreaks, EndingStands, IsHushedIf, KnowsComing, MakesOrders, MayHush, Refuses, ServesNewest, StandsBehind, end_if, owed_by};
+ghost use Rattle.listener.specs.OrdersInside.{AnswersPlan, AnswersRestart, BreaksBehind, Carries, EndingBreaks, EndingStands, GivesNext, IsHushedIf, KnowsComing, MakesOrders, MayHush, Refuses, ServesNewest, StandsBehind, end_if, owed_by};
 ghost use Rattle.listener.specs.OrdersInside as inside;
 ghost use Rattle.listener.specs.RoundInside.{DoesOrders, DoesUntil};
 ghost use Rattle.listener.specs.ShareInside.{DoesAllButOne, DoesAsked, HushesFor, stop_if};
@@ -43,7 +43,7 @@ use command_answers::{
 use conn_machine::laws_of_runs::histories_join;
 use conn_machine::{BoxedShape, Commanded, Refusal};
 use conn_state::Known;
-use mpm_base::{Bell, Front, GREATEST_MOMENT, Gate, Link, Moment, Sink, Store};
+use mpm_base::{Bell, Front, GREATEST_MOMENT, Gate, Line, Link, Moment, Sink, Store};
 use mpm_config::shape_of;
 use restart_control::{Command, Plan, ReloadFault, read_command, reload};
 use rounds::LISTENER;
@@ -122,22 +122,20 @@ impl<'a, 'c, L: Link + Send, N: Known, B: Bell, G: Gate> Listener<'a, 'c, L, N, 
     {
         generations_keep_their_editions();
         passes_act_in_steps();
+        let mut answer = None;
         for _ in rt.forever() {
-            let Some(line) = front.command() else {
+            let Some(line) = next_line(front, answer) else {
                 return Ok(false);
             };
             match read_command(line.as_str()) {
                 Ok(Command::Stop) => return Ok(true),
-                Ok(Command::Graceful) => {
-                    let answer = self.restart(store)?;
-                    front.answer(answer.as_slice());
+                Ok(Command::Graceful) => answer = Some(self.restart(store)?),
+                Ok(Command::GracefulStop) => answer = Some(ending_answer(self.end(front)?)),
+                Ok(Command::Status) => {
+                    self.tell_state(front, out);
+                    answer = None;
                 }
-                Ok(Command::GracefulStop) => {
-                    let begins = self.end(front)?;
-                    front.answer(ending_answer(begins).as_slice());
-                }
-                Ok(Command::Status) => self.tell_state(front, out),
-                Err(_) => front.answer(unknown_answer().as_slice()),
+                Err(_) => answer = Some(unknown_answer()),
             }
         }
         unreachable!()
@@ -318,6 +316,16 @@ impl<'a, 'c, L: Link + Send, N: Known, B: Bell, G: Gate> Listener<'a, 'c, L, N, 
         front.hush();
         Ok(true)
     }
+}
+
+/// The next command line, once the sender of the one before it was answered, where that is still to be done.
+fn next_line<F: Front>(front: &mut F, answer: Option<AnswerText>) -> Option<Line>
+    ensures { GivesNext answer (F.seen front.old) (F.seen front.new) result }
+{
+    if let Some(text) = answer {
+        front.answer(text.as_slice());
+    }
+    front.command()
 }
 
 /// Why a restart is refused for the fault.
