@@ -196,15 +196,13 @@ impl<'a, 'c, L: Link + Send, N: Known, B: Bell, G: Gate> Listener<'a, 'c, L, N, 
         self.show();
         if !self.may_begin() {
             store.renew();
-            self.refuse(Refusal::Late)?;
-            return Ok(late_answer());
+            return self.refuse(Refusal::Late, late_answer());
         }
         match reload(self.alloc, store, self.config.name, self.config.config) {
             Ok(plan) => self.begin(plan),
             Err(fault) => {
                 let answer = refused_answer(&fault);
-                self.refuse(reason_for(fault))?;
-                Ok(answer)
+                self.refuse(reason_for(fault), answer)
             }
         }
     }
@@ -243,8 +241,7 @@ impl<'a, 'c, L: Link + Send, N: Known, B: Bell, G: Gate> Listener<'a, 'c, L, N, 
             Arc::new(self.alloc, site),
             BoxedShape::make(self.alloc, shape_of(&config)),
         ) else {
-            self.refuse(Refusal::NoMemory)?;
-            return Ok(memory_answer());
+            return self.refuse(Refusal::NoMemory, memory_answer());
         };
         self.board.command(LISTENER, Commanded::Graceful(shape))?;
         self.edition = LoadedEdition {
@@ -255,17 +252,19 @@ impl<'a, 'c, L: Link + Send, N: Known, B: Bell, G: Gate> Listener<'a, 'c, L, N, 
         Ok(generation_answer(self.board.state().newest))
     }
 
-    /// Refuses a restart for the reason: all goes on as it was.
-    fn refuse(&mut self, reason: Refusal) -> Result<(), BoardFault>
+    /// Refuses a restart for the reason: all goes on as it was. The answer comes back where that was done.
+    fn refuse(&mut self, reason: Refusal, answer: AnswerText) -> Result<AnswerText, BoardFault>
         requires passes { 0 < self.old.board.book.passes }
         requires free { row_in 0 self.old.board.book ≡ None }
         ensures refuses { OnOk result (Refuses reason self.old.board.book self.new.board.book) }
+        ensures says { IfOk result (λ says. says ≡ answer) }
         ensures same { OnErr result (self.new ≡ self.old) }
         ensures others { self.new ≡ record self.old { board = self.new.board } }
         ensures why { IfErr result (λ fault. IsRefusedFor fault self.old.board.book) }
     {
         passes_act_in_steps();
-        self.board.command(LISTENER, Commanded::Refused(reason))
+        self.board.command(LISTENER, Commanded::Refused(reason))?;
+        Ok(answer)
     }
 
     /// Takes no further connection, and lets those that are open go on until the time of the newest generation's configuration is over.
