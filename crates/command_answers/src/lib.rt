@@ -4,8 +4,8 @@
 //! no memory.
 #![tactic(auto)]
 
-mod answers;
 mod answer_text;
+mod answers;
 pub mod laws;
 
 pub use answer_text::AnswerText;

@@ -1,3 +1,4 @@
+pub mod AnswerLemmas
 pub mod BrokenLemmas
 pub mod BroughtLemmas
 pub mod CommandLemmas

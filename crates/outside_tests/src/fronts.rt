@@ -4,8 +4,7 @@ use crate::by_hand::script_by_hand;
 use crate::calls::calls_of;
 use crate::links::show_link_call;
 use mpm_base::{
-    Addr, Arrival, Bell, ConnName, Front, Line, MOST_ANSWER, Moment, NoMemory, Octets, Ready,
-    Woke,
+    Addr, Arrival, Bell, ConnName, Front, Line, MOST_ANSWER, Moment, NoMemory, Octets, Ready, Woke,
 };
 use script_front::{FailingFront, ScriptBell, ScriptFront};
 use stand_ins::ScriptLink;

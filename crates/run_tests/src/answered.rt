@@ -6,9 +6,7 @@ ghost use Rattle.mpm_base.specs.Link.{telling_link};
 ghost use Rattle.script_front.specs.FailingFront.{failing_front_seen};
 ghost use Rattle.stand_ins.specs.ScriptLink.{SeenScriptLink};
 
-use mpm_base::{
-    Addr, Arrival, ConnName, Front, Line, Moment, NoMemory, Octets, Ready, Woke,
-};
+use mpm_base::{Addr, Arrival, ConnName, Front, Line, Moment, NoMemory, Octets, Ready, Woke};
 use script_front::{FailingFront, ScriptBell};
 use stand_ins::ScriptLink;
 use std::alloc::Global;

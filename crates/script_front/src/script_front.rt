@@ -23,8 +23,8 @@ use crate::watch_end::WatchEnd;
 use crate::word_log::log_of;
 use http_server::Log;
 use mpm_base::{
-    Addr, Arrival, ConnName, Front, GivenAnswers, GivenWords, Line, Link, Moment, NoMemory,
-    Octets, Ready, ScriptLine, Woke,
+    Addr, Arrival, ConnName, Front, GivenAnswers, GivenWords, Line, Link, Moment, NoMemory, Octets,
+    Ready, ScriptLine, Woke,
 };
 use mpm_script::Script;
 use stand_ins::ScriptLink;

@@ -44,33 +44,33 @@ pub ends-answered : (call : Call) (f f' : FrontSeen) (text : List ℕ) (status :
 ends-answered call f f' text status dialled shows =
     elim (cases_Bool (says_refused text)) [
       | inl yes ↦
-        let so = shows.refused yes in
-        record {
-          known = inr (inr (inr (inr (inr (inr (inr so.0))))));
-          front = inr (inl (record { text = text; dialled = dialled; status_is = inl (yes, so.0) }));
-          sent = λ zero. absurd (omega (arith, so.0, zero));
-          misconfigured = λ one. absurd (omega (arith, so.0, one));
-          unread = λ three. absurd (omega (arith, so.0, three));
-          undialled = λ four. absurd (omega (arith, so.0, four));
-          unwritten = λ five. absurd (omega (arith, so.0, five));
-          silent = λ six. absurd (omega (arith, so.0, six));
-          uncontrolled = λ ten. absurd (omega (arith, so.0, ten));
-          restart_refused = λ twelve. record { text = text; dialled = dialled; refused = yes; written = so.1 };
-        }
+          let so = shows.refused yes in
+          record {
+            known = inr (inr (inr (inr (inr (inr (inr so.0))))));
+            front = inr (inl (record { text = text; dialled = dialled; status_is = inl (yes, so.0) }));
+            sent = λ zero. absurd (omega (arith, so.0, zero));
+            misconfigured = λ one. absurd (omega (arith, so.0, one));
+            unread = λ three. absurd (omega (arith, so.0, three));
+            undialled = λ four. absurd (omega (arith, so.0, four));
+            unwritten = λ five. absurd (omega (arith, so.0, five));
+            silent = λ six. absurd (omega (arith, so.0, six));
+            uncontrolled = λ ten. absurd (omega (arith, so.0, ten));
+            restart_refused = λ twelve. record { text = text; dialled = dialled; refused = yes; written = so.1 };
+          }
       | inr no ↦
-        let so = shows.answered no in
-        record {
-          known = elim so [ inl zero ↦ inl zero | inr five ↦ inr (inr (inr (inr (inl five)))) ];
-          front = inr (inl (record { text = text; dialled = dialled; status_is = inr (no, so) }));
-          sent = λ zero. record { text = text; answered = record { dialled = dialled; well = no }; written = shows.written zero };
-          misconfigured = λ one. absurd (omega (arith, so, one));
-          unread = λ three. absurd (omega (arith, so, three));
-          undialled = λ four. absurd (omega (arith, so, four));
-          unwritten = λ five. record { text = text; answered = record { dialled = dialled; well = no }; unwritten = shows.unwritten five };
-          silent = λ six. absurd (omega (arith, so, six));
-          uncontrolled = λ ten. absurd (omega (arith, so, ten));
-          restart_refused = λ twelve. absurd (omega (arith, so, twelve));
-        }
+          let so = shows.answered no in
+          record {
+            known = elim so [ inl zero ↦ inl zero | inr five ↦ inr (inr (inr (inr (inl five)))) ];
+            front = inr (inl (record { text = text; dialled = dialled; status_is = inr (no, so) }));
+            sent = λ zero. record { text = text; answered = record { dialled = dialled; well = no }; written = shows.written zero };
+            misconfigured = λ one. absurd (omega (arith, so, one));
+            unread = λ three. absurd (omega (arith, so, three));
+            undialled = λ four. absurd (omega (arith, so, four));
+            unwritten = λ five. record { text = text; answered = record { dialled = dialled; well = no }; unwritten = shows.unwritten five };
+            silent = λ six. absurd (omega (arith, so, six));
+            uncontrolled = λ ten. absurd (omega (arith, so, ten));
+            restart_refused = λ twelve. absurd (omega (arith, so, twelve));
+          }
     ]
 
 -- memory lacked for one, and nothing was done
