@@ -31,22 +31,23 @@ fn stopping_letter(serves: bool) -> u8
 }
 
 /// Whether the letter says that a worker serves a connection.
-pub(crate) fn is_busy_letter(letter: u8) -> bool
+fn is_busy_letter(letter: u8) -> bool
     ensures { result ≡ spec.is_busy_letter letter }
 {
     matches!(letter, b'R' | b'W' | b'C' | b'G')
 }
 
 /// Whether the letter says that a worker may be given one.
-pub(crate) fn is_idle_letter(letter: u8) -> bool
+fn is_idle_letter(letter: u8) -> bool
     ensures { result ≡ spec.is_idle_letter letter }
 {
     letter == b'_'
 }
 
 /// How many of the letters say that a worker serves a connection.
-fn busy_letter_count(letters: &[u8]) -> usize
-    ensures { result ≡ count_by spec.is_busy_letter letters.now }
+pub(crate) fn busy_letter_count(letters: &[u8]) -> usize
+    ensures is { result ≡ count_by spec.is_busy_letter letters.now }
+    ensures few { result ≤ length letters.now }
 {
     letters
         .iter()
@@ -55,8 +56,9 @@ fn busy_letter_count(letters: &[u8]) -> usize
 }
 
 /// How many of the letters say that a worker may be given one.
-fn idle_letter_count(letters: &[u8]) -> usize
-    ensures { result ≡ count_by spec.is_idle_letter letters.now }
+pub(crate) fn idle_letter_count(letters: &[u8]) -> usize
+    ensures is { result ≡ count_by spec.is_idle_letter letters.now }
+    ensures few { result ≤ length letters.now }
 {
     letters
         .iter()

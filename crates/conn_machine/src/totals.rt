@@ -1,12 +1,13 @@
 //! The numbers of a status page, without its letters and without memory.
-ghost use Rattle.std.specs.Prelude.{◌≡◌, ◌≤◌, ◌+◌, ◌<◌, ◌^◌, count_by, length};
-ghost use Rattle.conn_machine.specs.CountsInside.{one_if};
+ghost use Rattle.std.specs.Prelude.{◌≡◌, ◌≤◌, ◌+◌, ◌++◌, length};
+ghost use Rattle.arrayvec.specs.ArrayVec.{array_vec_len};
 ghost use Rattle.conn_machine.specs.Shown as spec;
 ghost use Rattle.conn_machine.specs.Sound.{IsSound};
 
 use crate::child::Child;
-use crate::shown::{is_busy_letter, is_idle_letter};
+use crate::shown::{busy_letter_count, idle_letter_count};
 use crate::state::State;
+use arrayvec::ArrayVec;
 
 /// The numbers that a status page shows of a state.
 #[derive(Clone, Copy, Debug, PartialEq, Eq)]
@@ -27,58 +28,50 @@ pub struct Totals {
     pub closing: u32,
 }
 
-/// How many workers serve a connection, and how many may be given one.
-#[derive(Clone, Copy)]
-struct WorkerCounts {
-    busy: u32,
-    idle: u32,
-}
-
-impl WorkerCounts {
-    /// Counts the letter of a worker.
-    fn add(&mut self, letter: u8)
-        requires few_busy { self.old.busy + 1 < 2 ^ 32 }
-        requires few_idle { self.old.idle + 1 < 2 ^ 32 }
-        ensures busy { self.new.busy ≡ self.old.busy + one_if (spec.is_busy_letter letter) }
-        ensures idle { self.new.idle ≡ self.old.idle + one_if (spec.is_idle_letter letter) }
-    {
-        if is_busy_letter(letter) {
-            self.busy += 1;
-        }
-        if is_idle_letter(letter) {
-            self.idle += 1;
-        }
-    }
-}
+/// How many letters a state has at most: 32 children have 64 each.
+const MOST_LETTERS: usize = 2048;
 
 impl State {
-    /// Counts the workers of the child.
-    fn count_workers(&self, counts: &mut WorkerCounts, number: u32, child: &Child)
-        ensures busy { counts.new.busy ≡ counts.old.busy
-            + count_by spec.is_busy_letter (spec.child_letters self.now (number, child.now)) }
-        ensures idle { counts.new.idle ≡ counts.old.idle
-            + count_by spec.is_idle_letter (spec.child_letters self.now (number, child.now)) }
+    /// Puts the letters of the child behind the others.
+    fn fill_child(&self, letters: &mut ArrayVec<u8, MOST_LETTERS>, number: u32, child: &Child)
+        requires fits { array_vec_len letters.old + spec.cells_of self.now child.now ≤ 2048 }
+        ensures made { letters.new.items
+            ≡ letters.old.items ++ spec.child_letters self.now (number, child.now) }
+        ensures len { array_vec_len letters.new
+            ≡ array_vec_len letters.old + spec.cells_of self.now child.now }
     {
         for cell in 0..self.cells_of(child) {
-            counts.add(self.letter(number, child.phase, cell));
+            letters.push(self.letter(number, child.phase, cell));
         }
     }
 
-    /// The numbers that a status page shows of the state. It goes over the cells, and over no rows.
+    /// The letters of all cells, child by child.
+    fn all_letters(&self) -> ArrayVec<u8, MOST_LETTERS>
+        requires sound { IsSound self.now }
+        requires few_children { length self.now.children ≤ 32 }
+        ensures letters { result.items ≡ spec.letters self.now }
+        ensures few { length result.items ≤ 2048 }
+    {
+        let mut letters = ArrayVec::new();
+        for (number, child) in self.children.as_slice().iter().enumerate() {
+            self.fill_child(&mut letters, number as u32, child);
+        }
+        letters
+    }
+
+    /// The numbers that a status page shows of the state. It goes over the cells, and over no rows, and takes no memory.
+    #[tactic(auto, unfolding(crate::specs::Shown::snapshot_of, crate::specs::Shown::totals_of))]
     pub fn totals(&self) -> Totals
         requires sound { IsSound self.now }
         requires few_rows { length self.now.rows ≤ 8192 }
         requires few_children { length self.now.children ≤ 32 }
         ensures { result ≡ spec.totals_of self.now }
     {
-        let mut counts = WorkerCounts { busy: 0, idle: 0 };
-        for (number, child) in self.children.as_slice().iter().enumerate() {
-            self.count_workers(&mut counts, number as u32, child);
-        }
+        let letters = self.all_letters();
         Totals {
             generation: self.newest,
-            busy: counts.busy,
-            idle: counts.idle,
+            busy: busy_letter_count(letters.as_slice()) as u32,
+            idle: idle_letter_count(letters.as_slice()) as u32,
             total: self.rows.live_count() as u32,
             writing: self.rows.writing_count() as u32,
             keep_alive: self.rows.keep_alive_count() as u32,
