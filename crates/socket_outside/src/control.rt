@@ -87,7 +87,7 @@ impl ControlPort {
     }
 
     /// Keeps the descriptors in reserve, where they are not there and the system has some to give. It is done before a client is taken, and
-    /// not where a line was given: so what its command opens finds the descriptor that was given up for that.
+    /// behind the answer of a restart, but not before that: so what the restart opens finds the descriptor that was given up for it.
     pub(crate) fn restock(&mut self, registry: &Registry)
         ensures kept { is_some self.old.reserve ≡ true → self.new.reserve ≡ self.old.reserve }
         ensures spared { is_some self.old.spare ≡ true → self.new.spare ≡ self.old.spare }
@@ -102,20 +102,24 @@ impl ControlPort {
         }
     }
 
-    /// The line that waited longest. Its connection stays open until it is answered; that of the line before is closed. Where there is one, a
-    /// descriptor is given up, for what its command opens.
+    /// The line that waited longest. Its connection stays open until it is answered; that of the line before is closed.
     pub(crate) fn take_line(&mut self) -> Option<Line>
         ensures line { map (λ (waiting : WaitingLine). waiting.line) self.old.lines.queue.items
             ≡ option_to_list result
             ++ map (λ (waiting : WaitingLine). waiting.line) self.new.lines.queue.items }
         ensures asked { is_some self.new.asked ≡ is_some result }
-        ensures given_up { is_some result ≡ true → self.new.spare ≡ None }
     {
         self.asked = None;
         let WaitingLine { line, sender } = self.lines.take()?;
         self.asked = Some(sender);
-        self.spare = None;
         Some(line)
+    }
+
+    /// Gives up the descriptor that is kept for what a command opens.
+    pub(crate) fn give_up_spare(&mut self)
+        ensures { self.new ≡ record self.old { spare = None } }
+    {
+        self.spare = None;
     }
 
     /// The sender of the line that was given last gets the text, as far as its connection takes it at once, and then that is closed.

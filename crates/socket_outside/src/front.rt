@@ -178,9 +178,13 @@ impl<'a, R: Net + time::Clock + Eprint> Front for SocketFront<'a, R> {
         self.sockets.hush();
     }
 
+    /// A restart finds the descriptor that is kept for what it opens.
     fn command(&mut self) -> Option<Line> {
         let line = self.sockets.take_line();
         self.restarts = asks_to_restart(&line);
+        if self.restarts {
+            self.sockets.give_up_spare();
+        }
         self.counters.command(&line);
         line
     }
@@ -190,6 +194,7 @@ impl<'a, R: Net + time::Clock + Eprint> Front for SocketFront<'a, R> {
         self.sockets.answer(text);
         if self.restarts {
             self.operator.hear_of_answer(text);
+            self.sockets.restock();
         }
         self.restarts = false;
         self.counters.answer(text);

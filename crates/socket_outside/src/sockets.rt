@@ -223,6 +223,11 @@ impl Sockets {
         self.control.take_line()
     }
 
+    /// Gives up the descriptor that is kept for what a command opens.
+    pub(crate) fn give_up_spare(&mut self) {
+        self.control.give_up_spare();
+    }
+
     /// The sender of the line that was given last gets the text.
     pub(crate) fn answer(&mut self, text: &[u8]) {
         self.control.answer(text);
