@@ -2,6 +2,7 @@
 read, many at once, and a deployment that goes by the answers."""
 
 import concurrent.futures
+import contextlib
 import os
 
 from real_server import (
@@ -142,10 +143,11 @@ def a_caller_that_never_reads_keeps_nobody_waiting():
 def callers_whose_lines_are_whole_are_all_answered_however_many_speak():
     with serving() as server:
         # 17 whose lines aren't whole: the oldest one is closed, and each other one is answered.
-        callers = [connect(server.control) for _ in range(MOST_CALLERS + 1)]
+        callers = [connect(server.control) for _ in range(MOST_CALLERS)]
         for caller in callers:
             caller.send(b"hal")
-            until("a server that has heard it", lambda: not caller.has_come())
+        callers.append(connect(server.control))
+        callers[-1].send(b"hal")
         callers[0].expect_answer(b"")
         for caller in callers[1:]:
             caller.send(b"t\n")
@@ -216,19 +218,15 @@ def a_page_that_is_asked_for_behind_a_restart_is_the_new_one_in_each_of_100_rest
         stopped = []
 
         def ask_again_and_again():
-            """Asks over one connection behind the other, as often as each is kept, until it is told to stop."""
-            asked = 0
+            """Asks over one connection behind the other, as often as each is kept, until it is told to stop. How many responses came."""
+            came = 0
             while not stopped:
-                with connect(server.port) as client:
+                # A request may cross the end of a connection that a restart lets go of: then there is no response to it.
+                with contextlib.suppress(ConnectionError, Wrong), connect(server.port) as client:
                     for _ in range(20):
                         client.send(GET)
-                        if not client.incoming.readline().startswith(b"HTTP/1.1 200 OK"):
-                            break
-                        while client.incoming.readline() != b"\r\n":
-                            pass
-                        client.incoming.readline()
-                        asked += 1
-            return asked
+                        came += client.reply().startswith(b"HTTP/1.1 200 OK")
+            return came
 
         with concurrent.futures.ThreadPoolExecutor(8) as pool:
             load = [pool.submit(ask_again_and_again) for _ in range(8)]
