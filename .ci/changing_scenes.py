@@ -138,22 +138,31 @@ def calls_of_restart(server, system):
     return {name: getattr(system, name).made for name in READING}
 
 
+def restart_held_at(server, system, name, number, change):
+    """Makes the change while a restart is held at that call, and what the restart is answered once it went on."""
+    system.hold(name, number)
+    with connect(server.control) as caller:
+        caller.send(b"graceful\n")
+        until(f"a restart that is held at {name} {number}", lambda: system.is_held(name))
+        change()
+        system.let_go(name)
+        return caller.answer()
+
+
 def change_at(server, system, change, name, number):
-    """Makes the change at that call of a restart, and looks at what is served behind it. The restart is held there and goes on."""
+    """Makes the change at that call of a restart, and looks at what is served behind it."""
     what = f"{change.what} before {name} {number}"
     with connect(server.port) as client:
         before = generation_of(client)
-    system.hold(name, number)
-    server.tell(b"graceful\n")
-    until(f"a restart that is held: {what}", lambda: system.is_held(name))
-    change.make(server.folder)
-    system.let_go(name)
+    answered = restart_held_at(server, system, name, number, lambda: change.make(server.folder))
     with connect(server.port) as client:
         behind = generation_of(client)
         if behind == before:
             expect(f"whether the restart may be refused: {what}", change.refused, True)
+            expect(f"the beginning of what is answered: {what}", answered[:9], b"refused: ")
         else:
             expect(f"the generation: {what}", behind, before + 1)
+            expect(f"what is answered: {what}", answered, b"generation %d\n" % behind)
         found = served(client)
         for file, came in found.items():
             if came != FILES[file] and (behind == before or not change.may(file, came)):
@@ -214,15 +223,13 @@ def what_loses_its_rights_while_a_restart_reads_it_refuses_that():
                 mode = os.stat(f"{folder}/{name}").st_mode
                 said = len(server.told_operator())
                 # Before the first call of a restart.
-                system.hold("statx", 1)
-                server.tell(b"graceful\n")
-                until("a restart that is held", lambda: system.is_held("statx"))
-                os.chmod(f"{folder}/{name}", 0)
-                system.let_go("statx")
+                answered = restart_held_at(server, system, "statx", 1, lambda: os.chmod(f"{folder}/{name}", 0))
+                expect(f"what is answered without rights to {name}", answered, b"refused: store\n")
                 with connect(server.port) as client:
                     expect(f"the generation behind a restart without rights to {name}", generation_of(client), 0)
                     expect("what is served", served(client), FILES)
-                expect("what the operator is told", server.told_operator()[said:], [f"{why}{os.strerror(errno.EACCES)} (os error {errno.EACCES})"])
+                why = f"{why}{os.strerror(errno.EACCES)} (os error {errno.EACCES})"
+                expect("what the operator is told", server.told_operator()[said:], [why, "refused: store"])
                 os.chmod(f"{folder}/{name}", mode)
             command(server, "graceful")
             with connect(server.port) as client:
@@ -275,7 +282,7 @@ def a_site_has_as_many_bytes_as_one_may_and_one_more_is_too_many():
                 expect("the size of the last file", len(client.reply()), len(answer(b"")) + len(str(GREATEST)) - 1 + GREATEST)
             lay_out(folder, {"e": b"e"})
             # It is refused, and changes nothing.
-            command(server, "graceful")
+            command(server, "graceful", b"refused: site htdocs/e\n")
             with connect(server.port) as client:
                 expect("the generation", generation_of(client), 0)
                 client.send(get("e"))
