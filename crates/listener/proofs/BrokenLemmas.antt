@@ -1,5 +1,5 @@
 -- What was done where a round was broken off.
-use Rattle.std.proofs.Common.{◌≡◌, inl, inr, List, [], ◌∷◌, None, Some, refl, sym, subst}
+use Rattle.std.proofs.Common.{◌≡◌, inl, inr, List, [], ◌∷◌, None, Some, sym, subst}
 use Rattle.conn_machine.specs.declared.event.Event.{Event}
 use Rattle.conn_machine.specs.declared.event.Event.TheVariants as event
 use Rattle.board.specs.declared.faults.BoardFault.{BoardFault}

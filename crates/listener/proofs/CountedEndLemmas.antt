@@ -1,13 +1,12 @@
 -- What a front and a clock counted where a run opens, in the parts of its turns, and at its end.
 use Rattle.std.proofs.Common.{◌≡◌, ◌⊎◌, inl, inr, IsErrAnd, ◌≤◌, ◌+◌, ℕ, Bool, true, false, cond, List, [], ◌∷◌, None, Option, Some, Result, Ok, Err, max, refl, sym, ap, subst, ◌∙◌, arith}
 use Rattle.std.proofs.lemmas.List.Sums.{sum_by-cons}
-use Rattle.mpm_base.specs.Count.{CountsWhere, RisesJustBy}
+use Rattle.mpm_base.specs.Count.{CountsWhere}
 use Rattle.mpm_base.specs.Front.{FrontCounts, FrontSeen}
 use Rattle.mpm_base.specs.declared.front.Woke.{Woke}
 use Rattle.mpm_base.specs.declared.front.Woke.TheVariants as woke
 use Rattle.conn_machine.specs.declared.event.Commanded.TheVariants.{Stop}
 use Rattle.conn_machine.specs.declared.event.Entry.{Entry}
-use Rattle.conn_machine.specs.declared.event.Event.{Event}
 use Rattle.conn_machine.specs.declared.event.Event.TheVariants as event
 use Rattle.conn_machine.specs.declared.event.Why.{Why}
 use Rattle.conn_machine.specs.declared.event.Why.TheVariants as why

@@ -2,7 +2,7 @@
 use Rattle.std.proofs.Common.{◌≡◌, ◌≢◌, ◌⊎◌, inl, inr, ◌<◌, ℕ, ◌+◌, Bool, true, false, List, None, Option, Some, refl, sym, ap, subst, ◌∙◌, arith}
 use Rattle.mpm_base.specs.CommandWord.{command_word}
 use Rattle.mpm_base.specs.Count.{CountsWhere, NeverFalls, Rises, RisesByOne, RisesJustBy, greatest_count, next_count}
-use Rattle.mpm_base.specs.Front.{Accepts, Commands, FrontCounts, FrontSeen, Waits, after_hush, is_handed}
+use Rattle.mpm_base.specs.Front.{Accepts, Commands, FrontCounts, FrontSeen, Waits, is_handed}
 use Rattle.mpm_base.specs.GivenWords.{says_word}
 use Rattle.mpm_base.specs.Link.{LinkSeen}
 use Rattle.mpm_base.specs.declared.front.Arrival.{Arrival}
@@ -11,14 +11,13 @@ use Rattle.mpm_base.specs.declared.front.Woke.{Woke}
 use Rattle.mpm_base.specs.declared.given_words.GivenWords.{GivenWords}
 use Rattle.mpm_base.specs.declared.script_line.CommandWord.{CommandWord}
 use Rattle.mpm_base.specs.declared.script_line.CommandWord.TheVariants as word
-use Rattle.conn_machine.specs.declared.state.State.{State}
 use Rattle.conn_machine.specs.States.{is_serving}
 use Rattle.board.specs.Book.{SeenBook}
 use Rattle.board.specs.Editions.{orders_in}
-use Rattle.listener.specs.CountedInside.{CountsBroken, CountsOn, CountsSo, CountsUntil, LacksLink}
+use Rattle.listener.specs.CountedInside.{CountsOn, CountsUntil, LacksLink}
 use Rattle.listener.specs.OrdersInside.{MayHush}
 use Rattle.listener.proofs.LineLemmas.{other-word}
-use Rattle.run_report.proofs.CountLemmas.{rises-behind, rises-before}
+use Rattle.run_report.proofs.CountLemmas.{rises-behind}
 
 -- ## Counts
 

@@ -1,5 +1,5 @@
 -- A turn whose history was folded at its end, or wasn't.
-use Rattle.std.proofs.Common.{◌≡◌, ℕ, Option, ◌∙◌, ap, sym, subst}
+use Rattle.std.proofs.Common.{ℕ, Option, ◌∙◌, ap, sym, subst}
 use Rattle.conn_machine.specs.declared.state.State.{State}
 use Rattle.conn_state.specs.Known.{KnownOutside}
 use Rattle.board.specs.Board.{SeenBoard}
@@ -10,7 +10,6 @@ use Rattle.listener.specs.FoldsInside.{ListensOn}
 use Rattle.listener.specs.ListenInside.{IsAtStart, IsInStep, TookAll}
 use Rattle.rounds.specs.AtRest.{IsAtRest}
 use Rattle.rounds.specs.TableInside.{StandsInTime}
-use Rattle.listener.specs.Patient.{IsPatientRun}
 use Rattle.listener.specs.StandingInside.{IsOpenedBy, KnowsLater}
 use Rattle.listener.specs.TurnsInside.{SeenListener}
 use Rattle.listener.proofs.OverLemmas.{IsBeforeTurn}

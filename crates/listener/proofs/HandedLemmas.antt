@@ -1,7 +1,7 @@
 -- How many connections the front handed out, and what was made of them.
-use Rattle.std.proofs.Common.{◌≡◌, ◌⊎◌, inl, inr, ◌<◌, ◌≤◌, ◌+◌, ◌-◌, ℕ, List, [], ◌∷◌, ◌++◌, replicate, Option, None, Some, option_map, refl, sym, ap, subst, ◌∙◌, append-nil, append_assoc, arith}
+use Rattle.std.proofs.Common.{◌≡◌, ◌⊎◌, inl, inr, ◌+◌, ◌-◌, ℕ, List, [], ◌∷◌, ◌++◌, replicate, Option, None, Some, option_map, refl, sym, ap, subst, ◌∙◌, append-nil, append_assoc, arith}
 use Rattle.std.proofs.lemmas.List.{replicate-append-replicate}
-use Rattle.mpm_base.specs.Count.{greatest_count, next_count}
+use Rattle.mpm_base.specs.Count.{next_count}
 use Rattle.mpm_base.specs.Front.{FrontTold, TellsOn, after_accept, after_turning_away, after_watch}
 use Rattle.mpm_base.specs.Link.{LinkTold}
 use Rattle.mpm_base.specs.declared.conn.ConnName.{ConnName}

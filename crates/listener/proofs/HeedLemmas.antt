@@ -1,9 +1,9 @@
 -- How the listener heeds its command lines, one behind the other.
-use Rattle.std.proofs.Common.{◌≡◌, ◌≢◌, ◌<◌, ◌≤◌, inl, inr, ℕ, ◌+◌, Bool, true, false, not, List, [], ◌∷◌, ◌++◌, map, Option, None, Some, option_map, IfSome, refl, sym, ap, subst, ◌∙◌, append-nil, append_assoc, arith}
+use Rattle.std.proofs.Common.{◌≡◌, ◌≢◌, ◌≤◌, inl, inr, ℕ, Bool, true, false, not, List, [], ◌∷◌, ◌++◌, map, Option, None, Some, option_map, IfSome, refl, sym, ap, subst, ◌∙◌, append-nil, append_assoc, arith}
 use Rattle.std.proofs.lemmas.List.{map-append}
 use Rattle.std.specs.Str.{bytes_eq}
 use Rattle.mpm_base.specs.CommandWord.{command_word}
-use Rattle.mpm_base.specs.Count.{Rises, greatest_count}
+use Rattle.mpm_base.specs.Count.{Rises}
 use Rattle.mpm_base.specs.Front.{Commands, FrontSeen, FrontTold, GivesLine, TellsOn, after_command, hushed_front}
 use Rattle.mpm_base.specs.Store.{StoreSeen, StoreTold}
 use Rattle.mpm_base.specs.declared.script_line.CommandWord.{CommandWord}
@@ -17,10 +17,10 @@ use Rattle.conn_state.specs.Known.{KnownOutside}
 use Rattle.board.specs.Book.{SeenBook, row_in}
 use Rattle.board.specs.Editions.{GenerationsKeepTheirEditions, orders_in}
 use Rattle.worker_group.specs.Acts.{Acts, ActsInSteps}
-use Rattle.listener.specs.Commands.{asked_by, asked_in, asks_to_end, stop_line}
+use Rattle.listener.specs.Commands.{asked_in, asks_to_end, stop_line}
 use Rattle.listener.specs.ListenInside.{Follows, HasNoneToHeed, HasOneToHeed, IsInStep, OnlyReads, StaysWatching}
 use Rattle.listener.specs.OrdersInside.{IsHushedIf, KnowsComing, MakesOrders, MayHush, ServesNewest, StandsBehind, end_if}
-use Rattle.listener.specs.Pace.{Brought, brought, lines_between, ordered}
+use Rattle.listener.specs.Pace.{Brought, brought, ordered}
 use Rattle.listener.specs.ShareInside.{DoesAsked, HushesFor, ReadsFor}
 use Rattle.rounds.specs.TableInside.{StandsInTime}
 use Rattle.conn_machine.specs.States.{is_serving}
@@ -35,7 +35,7 @@ use Rattle.run_report.proofs.CountLemmas.{rises-behind}
 use Rattle.listener.proofs.EditionLemmas.{newest-acts}
 use Rattle.listener.proofs.FrontLemmas.{follows-same, follows-trans}
 use Rattle.listener.proofs.FrontCallLemmas.{follows-command, follows-hushed, reads-command, reads-same, reads-trans}
-use Rattle.listener.proofs.LineLemmas.{HasRead, HasReadSo, asks-ending, asks-graceful, asks-nothing, asks-stop, ends-not, is_off, reads-ended, reads-ending, reads-line, reads-none}
+use Rattle.listener.proofs.LineLemmas.{HasRead, asks-ending, asks-graceful, asks-nothing, asks-stop, ends-not, is_off, reads-ended, reads-ending, reads-line, reads-none}
 use Rattle.listener.proofs.OrderStandLemmas.{stands-front, stands-line}
 use Rattle.listener.proofs.StandingLemmas.{stands-more}
 use Rattle.listener.proofs.WatchLemmas.{nobody-ordered, watched-as, watched-reads}

@@ -1,5 +1,5 @@
 -- What a connection that was taken, and left, leaves of the table, and what it brings.
-use Rattle.std.proofs.Common.{◌≡◌, ◌≢◌, ℕ, ◌≤◌, ◌+◌, suc, Bool, true, false, ◌&&◌, cond, not, List, [], ◌∷◌, ◌++◌, map, replicate, Option, None, Some, is_some, Result, Ok, Err, IfErr, OnOk, refl, sym, ap, subst, ◌∙◌, append-nil, arith}
+use Rattle.std.proofs.Common.{◌≡◌, ℕ, Bool, true, false, ◌&&◌, cond, not, List, [], ◌∷◌, ◌++◌, Option, None, Some, is_some, Result, Ok, Err, IfErr, OnOk, refl, sym, ap, subst, ◌∙◌, append-nil, arith}
 use Rattle.std.proofs.lemmas.Bool.{and_parts}
 use Rattle.std.specs.List.{list_any}
 use Rattle.mpm_base.specs.declared.conn.ConnName.{ConnName}
@@ -15,7 +15,6 @@ use Rattle.conn_machine.specs.declared.state.Going.TheVariants.{Serving}
 use Rattle.conn_machine.specs.Children.{is_empty}
 use Rattle.conn_machine.specs.States.{is_halted, is_over, is_serving, pick_child}
 use Rattle.conn_machine.specs.Table.{next}
-use Rattle.board.specs.Board.{SeenBoard}
 use Rattle.board.specs.Book.{SeenBook}
 use Rattle.board.specs.Finds.{acceptable}
 use Rattle.board.specs.declared.faults.BoardFault.{BoardFault}

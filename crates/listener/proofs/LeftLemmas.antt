@@ -1,5 +1,5 @@
 -- What is left of a run.
-use Rattle.std.proofs.Common.{◌≡◌, inl, inr, ℕ, List, Option, None, Some, IfSome, sym, subst, arith, ◌++◌, option_map}
+use Rattle.std.proofs.Common.{◌≡◌, inl, inr, ℕ, List, Option, Some, IfSome, sym, subst, arith, ◌++◌, option_map}
 use Rattle.mpm_base.specs.Front.{FrontSeen}
 use Rattle.conn_machine.specs.declared.event.Why.TheVariants as why
 use Rattle.conn_machine.specs.declared.state.Going.{Going}

@@ -1,5 +1,5 @@
 -- That a listener goes on over a fold of its history as it did.
-use Rattle.std.proofs.Common.{◌≡◌, ◌||◌, ℕ, ◌+◌, Bool, true, List, [], ◌∷◌, length, map, Option, None, Some, Result, Ok, Err, OnOk, OnErr, refl, sym, ap, subst, ◌∙◌, eq-eqb, arith}
+use Rattle.std.proofs.Common.{◌≡◌, ◌||◌, ℕ, Bool, true, List, map, Option, None, Some, Result, Ok, Err, OnOk, OnErr, refl, sym, ap, subst, ◌∙◌, eq-eqb, arith}
 use Rattle.std.specs.List.{list_any}
 use Rattle.http_read.specs.declared.request.Limits.{Limits}
 use Rattle.file_table.specs.Site.{SeenSite}

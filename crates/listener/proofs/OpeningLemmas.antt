@@ -1,5 +1,5 @@
 -- How a run stands as it opens, what the type knows of its editions then, and by which of them it serves.
-use Rattle.std.proofs.Common.{◌≡◌, inl, ℕ, suc, ◌+◌, true, List, [], Option, None, Some, option_map, IfSome, refl, sym, ap, subst, arith}
+use Rattle.std.proofs.Common.{◌≡◌, inl, ℕ, suc, ◌+◌, true, [], Option, None, Some, option_map, refl, sym, ap, subst, arith}
 use Rattle.mpm_base.specs.Front.{Binds, FrontSeen}
 use Rattle.mpm_base.specs.Store.{StoreSeen, StoreTold}
 use Rattle.conn_state.specs.Known.{KnownOutside}

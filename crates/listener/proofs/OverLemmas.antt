@@ -1,5 +1,5 @@
 -- When the turns of the listener are over, and how one goes on to the next.
-use Rattle.std.proofs.Common.{◌≡◌, IfSome, IsErrAnd, OnErr, OnOk, Option, None, Some, Result, Ok, Err, [], false, is_some, refl, ap, sym, subst, ◌∙◌}
+use Rattle.std.proofs.Common.{◌≡◌, IfSome, IsErrAnd, Option, None, Some, Result, Ok, Err, [], false, is_some, refl, ap, sym, subst, ◌∙◌}
 use Rattle.mpm_base.specs.Count.{RisesExactlyWhere, RisesWhere}
 use Rattle.mpm_base.specs.Front.{GoesForward, TellsOn, is_ended, moments_in, wait_failed}
 use Rattle.mpm_base.specs.declared.front.Woke.{Woke}

@@ -1,5 +1,5 @@
 -- What a restart and a graceful stop do: what was recorded, and how the run stands then.
-use Rattle.std.proofs.Common.{◌≡◌, inl, inr, ◌≤◌, ◌+◌, ℕ, zero, suc, Bool, true, false, not, ◌&&◌, cond, nat_le, nat_lt, List, [], ◌∷◌, ◌++◌, Option, None, Some, option_map, IfSome, Result, Ok, Err, OnErr, OnOk, refl, sym, ap, subst, ◌∙◌, arith}
+use Rattle.std.proofs.Common.{◌≡◌, ◌==◌, ◌<◌, inl, inr, ◌≤◌, ◌+◌, ℕ, suc, Bool, true, false, ◌&&◌, cond, nat_le, nat_lt, List, [], ◌∷◌, ◌++◌, Option, None, Some, option_map, IfSome, Result, Ok, Err, OnErr, OnOk, refl, sym, ap, subst, ◌∙◌, arith}
 use Rattle.std.proofs.lemmas.Bool.Decides.{nat_tests}
 use Rattle.std.proofs.lemmas.List.Sums.{sum_by-cons}
 use Rattle.mpm_base.specs.CommandWord.{command_word}
@@ -394,13 +394,21 @@ in_time-carried plan a b e e' (inr lacks) here in_time = in_time-refused refusal
 
 -- a graceful stop that has just begun is out of time only where moments end
 just-begun : (moment ms : ℕ) → moment ≤ greatest_moment → is_over moment (Ending (ending_moment moment ms)) ≡ true → moment ≡ greatest_moment
-just-begun moment zero within over = absurd (cc over)
-just-begun moment (suc ms) within over =
-    let until : later moment (suc ms) ≤ moment = reached (later moment (suc ms)) moment over in
-    omega (arith, until, within)
+just-begun moment ms within over = by (ms == 0) refl
   where
     reached : (until moment : ℕ) → nat_le until moment ≡ true → until ≤ moment
     reached until moment is = grind (arith, nat_tests)
+
+    more : (n : ℕ) → (n == 0) ≡ false → 0 < n
+    more n is = grind (arith, nat_tests)
+
+    by : (b : Bool) → (ms == 0) ≡ b → moment ≡ greatest_moment
+    by true is = absurd (cc (rw is at over))
+    by false is =
+        let limited : nat_le (later moment ms) moment ≡ true = rw is at over in
+        let until : later moment ms ≤ moment = reached (later moment ms) moment limited in
+        let some : 0 < ms = more ms is in
+        omega (arith, until, some, within)
 
 pub in_time-ending : (ms : ℕ) (s : State) → s.moment ≤ greatest_moment → is_staffed s ≡ true
     → StandsInTime (next s (event.Command (commanded.GracefulStop (ending_moment s.moment ms))))

@@ -12,10 +12,10 @@ use Rattle.worker_group.specs.Acts.{Acts, ActsInSteps}
 use Rattle.worker_group.specs.Service.{left_events}
 use Rattle.rounds.specs.ClosingInside.{IsLateWay, LetsGo}
 use Rattle.listener.specs.RoundInside.{AllLeft, BreaksOff, DoesOrders, EndsRound, GoesRound, IsLeftAsWatched, Round, RoundEnds, Intake, TakesSome, round_events, intake_events}
-use Rattle.rounds.specs.PartsInside.{LetsGoOfConns, PassesTime, RetiresSome, SignalsFirst, StartsSome, gone_events, signal_events}
+use Rattle.rounds.specs.PartsInside.{LetsGoOfConns, PassesTime, RetiresSome, SignalsFirst, StartsSome, signal_events}
 use Rattle.rounds.specs.Moments.{known_slots, ticks_to}
 use Rattle.rounds.specs.declared.ends.End.TheVariants as end
-use Rattle.rounds.proofs.ActLemmas.{acts-spelled, retires-none, starts-none}
+use Rattle.rounds.proofs.ActLemmas.{acts-spelled}
 
 -- ## Connections that are taken
 
@@ -128,8 +128,32 @@ breaks-behind steps fault to slots a b c d e f h i x time signals lets does reti
 pub ends-asked : ActsInSteps → (to : ℕ) (slots : List ℕ) (a b c d e : SeenBook) → PassesTime to a b → Acts 0 (signal_events b slots) None b c
     → LetsGoOfConns c d → DoesOrders d e → RoundEnds (Some end.Asked) to slots a e
 ends-asked steps to slots a b c d e time signals lets does =
-    let row = does.acts.row in (
-      goes-round steps to slots a b c d e e e e time signals lets does (retires-none steps e row) (starts-none steps e row) (takes-none steps e row),
+    let none = steps.none 0 None e does.acts.row in (
+      record {
+        round =
+            record {
+              early = time.early;
+              ticks = ticks_to a.state.moment to;
+              late = time.late;
+              signals = known_slots (length b.base.rows) slots;
+              departures = lets.departures;
+              orders = does.orders;
+              retired = [];
+              starts = [];
+              takes = [];
+            };
+        soon = time.soon;
+        ticks = refl;
+        signals = ap (λ (s : _). known_slots (length s.rows) slots) time.acts.base;
+        ways = record { early = time.early_ways; late = time.late_ways; departures = lets.ways; orders = does.none };
+        left = tt;
+        acts =
+            steps.more 0 _ _ None None a e e
+            (steps.more 0 _ _ None None a e e
+            (steps.more 0 _ _ None None a e e
+            (steps.more 0 _ _ None None a d e
+            (steps.more 0 _ _ None None a c d (steps.more 0 _ _ None None a b c time.acts signals) lets.acts) does.acts) none) none) none;
+      },
       record { retired = refl; starts = refl; takes = refl },
     )
 
@@ -137,8 +161,32 @@ ends-asked steps to slots a b c d e time signals lets does =
 pub ends-gone : ActsInSteps → (to : ℕ) (slots : List ℕ) (a b c d e f : SeenBook) → PassesTime to a b → Acts 0 (signal_events b slots) None b c
     → LetsGoOfConns c d → DoesOrders d e → RetiresSome e f → RoundEnds (Some end.Gone) to slots a f
 ends-gone steps to slots a b c d e f time signals lets does retires =
-    let row = retires.acts.row in (
-      goes-round steps to slots a b c d e f f f time signals lets does retires (starts-none steps f row) (takes-none steps f row),
+    let none = steps.none 0 None f retires.acts.row in (
+      record {
+        round =
+            record {
+              early = time.early;
+              ticks = ticks_to a.state.moment to;
+              late = time.late;
+              signals = known_slots (length b.base.rows) slots;
+              departures = lets.departures;
+              orders = does.orders;
+              retired = retires.children;
+              starts = [];
+              takes = [];
+            };
+        soon = time.soon;
+        ticks = refl;
+        signals = ap (λ (s : _). known_slots (length s.rows) slots) time.acts.base;
+        ways = record { early = time.early_ways; late = time.late_ways; departures = lets.ways; orders = does.none };
+        left = tt;
+        acts =
+            steps.more 0 _ _ None None a f f
+            (steps.more 0 _ _ None None a f f
+            (steps.more 0 _ _ None None a e f
+            (steps.more 0 _ _ None None a d e
+            (steps.more 0 _ _ None None a c d (steps.more 0 _ _ None None a b c time.acts signals) lets.acts) does.acts) retires.acts) none) none;
+      },
       record { starts = refl; takes = refl },
     )
 

@@ -1,7 +1,6 @@
 -- What the parts of a round make of what came with a wait.
-use Rattle.std.proofs.Common.{◌≡◌, ◌≤◌, ◌+◌, ℕ, Bool, true, false, List, [], ◌∷◌, ◌++◌, length, map, replicate, Option, None, Some, Result, Ok, Err, refl, sym, ap, subst, ◌∙◌, append-nil, append_assoc, arith}
+use Rattle.std.proofs.Common.{◌≡◌, ◌+◌, ℕ, List, [], ◌∷◌, ◌++◌, length, map, replicate, Option, None, Some, refl, sym, ap, subst, ◌∙◌, append-nil, append_assoc, arith}
 use Rattle.std.proofs.lemmas.List.{map-append}
-use Rattle.mpm_base.specs.Count.{greatest_count}
 use Rattle.mpm_base.specs.Front.{FrontTold, TellsOn}
 use Rattle.mpm_base.specs.declared.script_line.CommandWord.{CommandWord}
 use Rattle.mpm_base.specs.declared.script_line.CommandWord.TheVariants as word
@@ -12,12 +11,11 @@ use Rattle.worker_group.specs.Acts.{Acts}
 use Rattle.rounds.specs.ClosingInside.{IsLateWay, LetsGo}
 use Rattle.rounds.specs.Moments.{known_slots, moment_for, ticks_to}
 use Rattle.rounds.specs.PartsInside.{LetsGoOfConns, LetsGoUntil, PassesTime, RetiresSome, SignalsFirst, StartsSome, signal_events}
-use Rattle.rounds.specs.declared.ends.End.{End}
 use Rattle.rounds.specs.declared.ends.End.TheVariants as end
 use Rattle.listener.specs.ListenInside.{OnlyReads, OnlyTakes}
 use Rattle.listener.specs.Pace.{Brought, Share, brought, made_of, moved, ordered, signalled, taken, ticked}
 use Rattle.listener.specs.ShareInside.{ComesWith, CutsShare, DoesAllButOne, DoesAsked, HandsMany, HushesFor, MakesShare, ReadsFor, TakesAllButOne, TakesHanded}
-use Rattle.listener.proofs.BroughtLemmas.{brings-readies, brings-retires, brings-starts, brings-time, brought-as, brought-kept, moves-both, unbrought-departures, unbrought-gone, unbrought-held}
+use Rattle.listener.proofs.BroughtLemmas.{brings-readies, brings-retires, brings-starts, brings-time, brought-as, brought-kept, moves-both, unbrought-departures, unbrought-gone}
 use Rattle.listener.proofs.HandedLemmas.{counts-both, counts-same}
 use Rattle.listener.proofs.LineLemmas.{read-none}
 
@@ -134,7 +132,9 @@ comes-taken answer slots a words moves handed told told' told'' asked reads coun
   answer_is = refl;
   signals = refl;
   asked = reads-takes words told told' told'' asked takes;
-  counted = counts-both 0 handed told told' told'' (counts-reads told told' reads) counted;
+  counted =
+      let same : 0 + handed ≡ handed = omega arith in
+      subst (λ (n : ℕ). TellsOn (HandsMany n) told told'') same (counts-both 0 handed told told' told'' (counts-reads told told' reads) counted);
 }
 
 -- ## Rounds that were broken off

@@ -1,12 +1,11 @@
 -- That what came with a wait is a share of the front, and of the clock.
-use Rattle.std.proofs.Common.{◌≡◌, ◌<◌, ◌≤◌, ◌+◌, ◌||◌, ℕ, Bool, true, false, List, [], ◌∷◌, ◌++◌, length, map, max, nat_lt, replicate, take, Option, None, Some, is_some, option_map, IfSome, refl, sym, ap, subst, ◌∙◌, append-nil, length-append, arith}
+use Rattle.std.proofs.Common.{◌≡◌, ◌<◌, ◌≤◌, ◌||◌, ℕ, Bool, true, false, List, [], ◌∷◌, ◌++◌, length, map, max, nat_lt, replicate, take, Option, None, Some, is_some, IfSome, refl, sym, ap, subst, ◌∙◌, append-nil, length-append, arith}
 use Rattle.std.proofs.lemmas.Bool.Decides.{nat_tests}
 use Rattle.std.proofs.lemmas.List.{map-append, take-append-le}
 use Rattle.std.proofs.lemmas.List.Folds.{list_any-append}
 use Rattle.std.specs.List.{list_any}
-use Rattle.mpm_base.specs.Clock.{Answers}
 use Rattle.mpm_base.specs.Count.{greatest_count}
-use Rattle.mpm_base.specs.Front.{Backlog, FrontTold, GoesForward, TellsOn, WaitTold, is_woken, progress_of}
+use Rattle.mpm_base.specs.Front.{FrontTold, GoesForward, TellsOn, WaitTold, is_woken, progress_of}
 use Rattle.mpm_base.specs.declared.front.Woke.{Woke}
 use Rattle.mpm_base.specs.declared.front.Woke.TheVariants as woke
 use Rattle.mpm_base.specs.declared.script_line.CommandWord.{CommandWord}

@@ -1,5 +1,5 @@
 -- What a front tells of a connection that the table took, or refused.
-use Rattle.std.proofs.Common.{◌≡◌, ◌⊎◌, inl, inr, ℕ, option_map, IfSome, true, Option, None, Some, refl, sym, ap, subst, ◌∙◌}
+use Rattle.std.proofs.Common.{◌≡◌, ◌⊎◌, inl, inr, option_map, IfSome, true, Option, None, Some, refl, sym, ap, subst, ◌∙◌}
 use Rattle.mpm_base.specs.Front.{FrontTold, FrontSeen, HasNoneToTake, Hands, Accepts, after_accept}
 use Rattle.mpm_base.specs.Link.{LinkSeen}
 use Rattle.mpm_base.specs.declared.front.Arrival.{Arrival}

@@ -1,5 +1,5 @@
 -- What holds of a listener between two turns, and how a turn keeps it.
-use Rattle.std.proofs.Common.{◌≡◌, ◌≢◌, ℕ, List, [], Option, None, Some, IfSome, Result, Ok, Err, ap, sym, subst, refl, true, false, max, ◌∙◌}
+use Rattle.std.proofs.Common.{◌≡◌, ℕ, List, [], Option, None, Some, IfSome, ap, sym, subst, refl, true, false, max, ◌∙◌}
 use Rattle.mpm_base.specs.Front.{TellsOn}
 use Rattle.conn_machine.specs.declared.event.Event.{Event}
 use Rattle.conn_state.specs.Known.{KnownOutside}

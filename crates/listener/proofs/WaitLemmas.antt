@@ -1,18 +1,13 @@
 -- A wait of the listener.
 use Rattle.std.proofs.Common.{◌≡◌, ℕ, List, [], Option, is_some, subst}
-use Rattle.mpm_base.specs.Front.{FrontSeen, GivesOnlyAwake, Waits, moments_in}
-use Rattle.mpm_base.specs.Store.{StoreSeen}
+use Rattle.mpm_base.specs.Front.{GivesOnlyAwake, Waits, moments_in}
 use Rattle.mpm_base.specs.declared.front.Woke.{Woke}
 use Rattle.mpm_base.specs.declared.front.Woke.TheVariants as woke
 use Rattle.conn_machine.specs.Runs.{after}
 use Rattle.conn_machine.specs.Sound.{IsSound}
-use Rattle.board.specs.Board.{SeenBoard}
-use Rattle.listener.specs.declared.edition.LoadedEdition.{LoadedEdition}
-use Rattle.listener.specs.declared.edition.NamedConfig.{NamedConfig}
 use Rattle.listener.specs.declared.listen.Pause.{Pause}
 use Rattle.rounds.specs.declared.ends.Rest.{Rest}
 use Rattle.listener.specs.ListenInside.{AsksFor}
-use Rattle.listener.specs.StandingInside.{Standing, standing}
 use Rattle.listener.specs.TurnsInside.{SeenListener}
 
 -- the wait was told this and answered that, the moment is the clock's behind the answer, which tells where it did, and the board is the

@@ -1,7 +1,6 @@
 -- What command lines ask for: each `graceful` for one order, taken or refused; the first `graceful-stop` for a graceful stop; and `stop` for
 -- a stop, behind which nothing is read. Each other line is dropped. When it is done stands in `Pace.antt`.
-use Rattle.std.specs.Prelude.{◌≡◌, ◌≢◌, ◌⊎◌, ◌<◌, ℕ, Bool, true, false, not, ◌&&◌, ◌||◌, List, [], ◌∷◌, ◌++◌, take, bytes_eq, if◌then◌else◌, ⊤}
-use Rattle.std.specs.List.{flat_map}
+use Rattle.std.specs.Prelude.{◌≡◌, ◌≢◌, ◌<◌, ℕ, Bool, true, false, not, ◌&&◌, ◌||◌, List, [], ◌∷◌, ◌++◌, take, bytes_eq, if◌then◌else◌, ⊤}
 use Rattle.mpm_base.specs.CommandWord.{command_word}
 use Rattle.mpm_base.specs.Count.{greatest_count}
 use Rattle.mpm_base.specs.Front.{FrontSeen, FrontTold}
@@ -18,7 +17,6 @@ use Rattle.conn_machine.specs.declared.state.Going.TheVariants.{Halted}
 use Rattle.conn_machine.specs.Events.{count_events}
 use Rattle.board.specs.Book.{HasEntryOf, SeenBook}
 use Rattle.listener.specs.Stores.{RisesBy}
-use Rattle.rounds.specs.ClosedDown.{IsBrokenOff}
 
 -- ## What was read
 

@@ -42,6 +42,6 @@ EndsLinks s ended = s.accepted < greatest_count → EndsEachOnce s ended
 
 -- what became of the links that the front handed out: the table took each but for one at most, which was turned away, and each that it took
 -- is that of one connection that ended
-pub record KeepsLinks (s : State) (ended : List SeenEnded) (t : FrontTold) : Type 0 where
+pub record KeepsLinks (s : State) (ends : List SeenEnded) (t : FrontTold) : Type 0 where
   pub taken : TakesLinks s t
-  pub ended : EndsLinks s ended
+  pub ended : EndsLinks s ends

@@ -1,6 +1,6 @@
 -- What a run's history and its connections are, and how it ends.
 -- Why it is so stands in docs/DECISIONS.md: 74, What is said of folded entries.
-use Rattle.std.specs.Prelude.{◌≡◌, ℕ, ◌+◌, List, length, map}
+use Rattle.std.specs.Prelude.{◌≡◌, ◌+◌, List, length, map}
 use Rattle.conn_machine.specs.Events.{count_events, is_accept}
 use Rattle.conn_machine.specs.Runs.{Run, after, first_row, IsInPassOrderFrom}
 use Rattle.conn_machine.specs.Folds.{fold_of}

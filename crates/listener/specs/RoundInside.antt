@@ -9,7 +9,6 @@ use Rattle.conn_machine.specs.declared.event.Commanded.{Commanded}
 use Rattle.conn_machine.specs.declared.event.Commanded.TheVariants as commanded
 use Rattle.conn_machine.specs.declared.event.Event.{Event}
 use Rattle.conn_machine.specs.declared.event.Event.TheVariants as event
-use Rattle.conn_machine.specs.declared.event.Why.TheVariants as why
 use Rattle.conn_machine.specs.declared.state.State.{State}
 use Rattle.conn_machine.specs.Runs.{after}
 use Rattle.conn_state.specs.Conn.{IsFrontOf}

@@ -1,5 +1,5 @@
 -- What is seen of a listener with all that it works on, what it needs to take turns, and what its turns do.
-use Rattle.std.specs.Prelude.{◌≡◌, ◌<◌, ℕ, List, [], ◌++◌, length, replicate, Option, Result, is_some, false, IfSome, OnErr, OnOk}
+use Rattle.std.specs.Prelude.{◌≡◌, ◌<◌, ℕ, List, [], ◌++◌, length, replicate, Option, Result, is_some, IfSome, OnErr, OnOk}
 use Rattle.mpm_base.specs.Front.{FrontCounts, FrontSeen}
 use Rattle.mpm_base.specs.Store.{StoreSeen}
 use Rattle.conn_machine.specs.Events.{count_events}

@@ -1,6 +1,6 @@
 -- What a connection that nothing disturbed was answered.
-use Rattle.std.proofs.Common.{◌≡◌, ◌⊎◌, inl, inr, ◌<◌, ℕ, suc, List, [], ◌∷◌, ◌++◌, length, Option, None, Some, IfSome, refl, sym, ap, subst, ◌∙◌, append-nil, arith}
-use Rattle.mpm_base.specs.Link.{LinkCounts, LinkTold}
+use Rattle.std.proofs.Common.{◌≡◌, inl, inr, ◌<◌, ℕ, suc, List, [], ◌∷◌, length, Option, None, Some, IfSome, refl, sym, ap, subst, ◌∙◌, append-nil, arith}
+use Rattle.mpm_base.specs.Link.{LinkTold}
 use Rattle.mpm_base.specs.declared.conn.Cause.{Cause}
 use Rattle.mpm_base.specs.declared.conn.Cause.TheVariants as cause
 use Rattle.mpm_base.specs.declared.note.Note.{Note}
@@ -8,8 +8,8 @@ use Rattle.http_read.specs.declared.request.Limits.{Limits}
 use Rattle.http_read.specs.RequestParts.{RequestParts}
 use Rattle.http_read.specs.Requests.{BeginsRefusal, ReadRefusal, SpellsRequests, WaitsForRequest}
 use Rattle.file_table.specs.Site.{SeenSite}
-use Rattle.conn_state.specs.Answered.{HasAll, HasAnswered, IsAnswered, IsEnded, LicensesCause, SeenEnded, SentFor, SentReplies, SentWhole}
-use Rattle.conn_state.specs.Items.{AreFirst, BeginsItem, Item, items_of}
+use Rattle.conn_state.specs.Answered.{HasAll, HasAnswered, IsEnded, LicensesCause, SeenEnded, SentFor, SentReplies, SentWhole}
+use Rattle.conn_state.specs.Items.{BeginsItem, Item, items_of}
 use Rattle.conn_state.specs.Replies.{AreNotesOf}
 use Rattle.board.specs.Board.{AreEnded}
 use Rattle.run_laws.specs.Undisturbed.{AnswersEachRequest, AreServedWhole, IsAnsweredWhole, IsServedCause, IsServedWhole, NoneFailed}

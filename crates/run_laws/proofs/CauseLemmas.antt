@@ -1,5 +1,5 @@
 -- For which causes the connections of a run ended.
-use Rattle.std.proofs.Common.{◌≡◌, ◌==◌, ◌+◌, ℕ, Bool, true, false, cond, ◌||◌, List, [], ◌∷◌, ◌++◌, length, map, count_by, replicate, slice_index, Option, None, Some, refl, sym, ap, subst, ◌∙◌, eq-eqb, arith}
+use Rattle.std.proofs.Common.{◌≡◌, ◌==◌, ◌+◌, Bool, true, false, cond, List, [], ◌∷◌, ◌++◌, replicate, slice_index, refl, sym, ap, subst, ◌∙◌, eq-eqb, arith}
 use Rattle.std.proofs.lemmas.Bool.{both_ways, or_from, or_parts}
 use Rattle.std.proofs.lemmas.List.Folds.{list_any-append}
 use Rattle.std.proofs.lemmas.List.Sums.{sum_by-cons}
@@ -20,7 +20,6 @@ use Rattle.conn_machine.specs.Table.{next}
 use Rattle.conn_state.specs.Answered.{SeenEnded}
 use Rattle.board.specs.Board.{AreClosed, ClosesFirst}
 use Rattle.board.specs.Book.{SeenBook}
-use Rattle.listener.specs.FirstNumbers.{folded_by, opened_by}
 use Rattle.listener.specs.Listen.{HasFolded}
 use Rattle.listener.specs.declared.run_numbers.RunNumbers.{RunNumbers}
 use Rattle.run_laws.specs.Undisturbed.{ended_for}

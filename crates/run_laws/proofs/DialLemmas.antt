@@ -9,7 +9,7 @@ use Rattle.command_words.specs.Invocations.{sends, serves}
 use Rattle.server_run.specs.Ends.{HasDialled, LeavesFront}
 use Rattle.run_laws.specs.Exact.{EndsWith}
 use Rattle.run_laws.specs.Outcomes.{IsOutcome, SeenOutcome}
-use Rattle.run_laws.proofs.WayLemmas.{OneForm, holds-of, some-of, unbound, undialled}
+use Rattle.run_laws.proofs.WayLemmas.{OneForm, holds-of, some-of}
 
 -- ## Dials that a front tells
 

@@ -1,5 +1,5 @@
 -- That a run ends gracefully, or is stopped, only where a command line asks for it.
-use Rattle.std.proofs.Common.{◌≡◌, ◌≢◌, ◌==◌, ◌<◌, ◌≤◌, ◌+◌, ◌-◌, ℕ, zero, suc, Bool, true, false, not, cond, ◌&&◌, ◌||◌, List, [], ◌∷◌, ◌++◌, map, replicate, take, Option, Some, inl, inr, refl, sym, ap, subst, ◌∙◌, append-nil, append_assoc, arith}
+use Rattle.std.proofs.Common.{◌≡◌, ◌≢◌, ◌==◌, ◌<◌, ◌≤◌, ◌-◌, ℕ, zero, suc, Bool, true, false, not, cond, drop, ◌&&◌, ◌||◌, List, [], ◌∷◌, ◌++◌, map, replicate, take, Option, Some, inl, inr, refl, sym, ap, subst, ◌∙◌, append-nil, append_assoc, arith}
 use Rattle.std.proofs.lemmas.Bool.{both_ways, cases_Bool, or_from, or_parts}
 use Rattle.std.proofs.lemmas.List.Folds.{list_any-append}
 use Rattle.std.proofs.lemmas.List.Sums.{sum_by-cons}
@@ -142,12 +142,14 @@ none-first (line ∷ lines) (suc few) (suc many) less none = (none.0, none-first
 
 none-between : (lines : List (List ℕ)) (from to many : ℕ) → from ≤ to → to ≤ many → NoneAsksStop (take many lines)
     → NoneAsksStop (lines_between lines from to)
-none-between lines zero to many first less none = none-first lines to many less none
+none-between lines zero to many first less none = none-first lines (to - 0) many (omega (arith, less)) none
 none-between [] (suc from) to many first less none = none-nothing (to - suc from)
 none-between (line ∷ lines) (suc from) zero many first less none = absurd (omega (arith, first))
 none-between (line ∷ lines) (suc from) (suc to) zero first less none = absurd (omega (arith, less))
 none-between (line ∷ lines) (suc from) (suc to) (suc many) first less none =
-    none-between lines from to many (omega (arith, first)) (omega (arith, less)) none.1
+    let rest : NoneAsksStop (lines_between lines from to) = none-between lines from to many (omega (arith, first)) (omega (arith, less)) none.1 in
+    let same : to - from ≡ suc to - suc from = omega arith in
+    subst (λ (n : ℕ). NoneAsksStop (take n (drop from lines))) same rest
 
 -- ## What a listener makes of them
 
@@ -164,7 +166,7 @@ none-asked rows t (wait ∷ waits) [] each few none = absurd each
 none-asked rows t (wait ∷ waits) (s ∷ shares) each few none =
     let next = progress_at t waits in
     let later = none-asked rows t waits shares each.1 few none in
-    let reads = each.0.reads in
+    let reads = each.0.reads few in
     let lines = none-between t.lines wait.began.read next.read t.read reads later.1 none in
     let here : list_any ends_word s.orders ≡ false =
     ap (λ (words : List CommandWord). list_any ends_word words) (each.0.orders few)

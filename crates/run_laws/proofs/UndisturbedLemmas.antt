@@ -1,5 +1,5 @@
 -- What a run answers that nothing disturbs.
-use Rattle.std.proofs.Common.{◌≡◌, ◌≢◌, ◌<◌, ◌⊎◌, inl, inr, ℕ, Bool, true, false, List, [], ◌∷◌, ◌++◌, length, map, Option, None, Some, IfSome, IsSome, refl, sym, ap, subst, ◌∙◌}
+use Rattle.std.proofs.Common.{◌≡◌, ◌≢◌, ◌<◌, inl, inr, ℕ, false, List, ◌++◌, map, Option, Some, IsSome, refl, sym, ap, subst, ◌∙◌}
 use Rattle.std.specs.List.{list_any}
 use Rattle.mpm_base.specs.Count.{Rises, greatest_count}
 use Rattle.mpm_base.specs.Front.{FrontSeen, FrontTold}
@@ -9,7 +9,6 @@ use Rattle.mpm_config.specs.Config.{Configuration}
 use Rattle.conn_machine.specs.declared.event.Entry.{Entry}
 use Rattle.conn_machine.specs.declared.event.Why.TheVariants as why
 use Rattle.conn_machine.specs.declared.folded.Folded.{Folded}
-use Rattle.conn_machine.specs.declared.state.Going.{Going}
 use Rattle.conn_machine.specs.declared.state.Going.TheVariants.{Halted}
 use Rattle.conn_machine.specs.declared.state.State.{State}
 use Rattle.conn_machine.specs.Folds.{fold_of}
@@ -17,8 +16,7 @@ use Rattle.conn_machine.specs.HistoryLaws.{FoldsAreOneFold, HistoriesJoin, MadeH
 use Rattle.conn_machine.specs.Made.{AreMade}
 use Rattle.conn_machine.specs.Runs.{Run, after}
 use Rattle.conn_machine.specs.States.{unused_row}
-use Rattle.conn_state.specs.Answered.{SeenEnded}
-use Rattle.board.specs.Board.{AreClosed, AreEnded, SeenBoard}
+use Rattle.board.specs.Board.{AreClosed, SeenBoard}
 use Rattle.board.specs.BoardLaws.{EndedConnectionsJoin}
 use Rattle.board.specs.ReportLine.{line_of}
 use Rattle.listener.specs.Commands.{HeedsLines, is_graceful_stop, lines_read}

@@ -1,5 +1,5 @@
 -- That in the run of a script time passes only where each signal that the front had given was taken up.
-use Rattle.std.proofs.Common.{◌≡◌, ◌==◌, ◌+◌, ℕ, Bool, true, List, [], ◌∷◌, ◌++◌, map, replicate, Option, None, Some, is_some, refl, sym, ap, subst, ◌∙◌}
+use Rattle.std.proofs.Common.{◌≡◌, ◌==◌, ℕ, true, List, [], ◌∷◌, ◌++◌, map, replicate, Option, None, Some, is_some, refl, sym, ap, subst, ◌∙◌}
 use Rattle.std.proofs.lemmas.Grind.{flat_map-append}
 use Rattle.std.proofs.lemmas.List.{map-append}
 use Rattle.std.proofs.lemmas.List.Elements.{filter-append}
@@ -18,9 +18,8 @@ use Rattle.conn_machine.specs.declared.state.State.{State}
 use Rattle.conn_machine.specs.Table.{next}
 use Rattle.listener.specs.FirstNumbers.{folded_by, numbers_of, opened_by}
 use Rattle.listener.specs.Pace.{AreSharesOf, Brought, Share, answer_if, answers_in, brought, brought_in, moved, ticked}
-use Rattle.listener.specs.Patient.{ArePatient, IsPatientEvent, PassesPatiently}
+use Rattle.listener.specs.Patient.{ArePatient, IsPatientEvent}
 use Rattle.listener.specs.Times.{answers_of}
-use Rattle.rounds.specs.Moments.{known_slots}
 use Rattle.rounds.specs.Timely.{AllAt}
 use Rattle.script_front.specs.ScriptFront.{comings_of}
 use Rattle.script_run.specs.Played.{HasPlayed}

@@ -1,5 +1,5 @@
 -- How a call of each form ends.
-use Rattle.std.proofs.Common.{◌≡◌, ◌≢◌, ◌⊎◌, inl, inr, ℕ, ◌++◌, true, false, List, Option, None, Some, IfSome, IsSome, IsSomeAnd, Ok, Err, option_map, is_some, refl, sym, subst, ◌∙◌, arith}
+use Rattle.std.proofs.Common.{◌≡◌, ◌⊎◌, inl, inr, ℕ, ◌++◌, true, false, List, Option, None, Some, IfSome, IsSome, IsSomeAnd, Ok, Err, option_map, refl, subst, arith}
 use Rattle.std.proofs.lemmas.Bool.{cases_eq}
 use Rattle.mpm_base.specs.CommandWord.{command_word}
 use Rattle.mpm_base.specs.Front.{Dials}
@@ -12,18 +12,18 @@ use Rattle.file_table.specs.Site.{SeenSite}
 use Rattle.restart_control.specs.Reload.{most_config}
 use Rattle.command_words.specs.Invocations.{AreOfForm, Form, IsNoInvocation, NamesConfig, loads, plays, sends, serves, tests}
 use Rattle.board.specs.Board.{SeenBoard}
-use Rattle.run_opening.specs.Calls.{Call, HadConfigAccepted, HasConfigAccepted, HasFile, HasSiteRefused, IsFileUnread, IsRefusedAsLarge, LoadsSite, StoreFailed}
+use Rattle.run_opening.specs.Calls.{HadConfigAccepted, HasConfigAccepted, HasFile, HasSiteRefused, IsFileUnread, IsRefusedAsLarge, LoadsSite, StoreFailed}
 use Rattle.run_opening.specs.Configured.{Configures, IsNoConfig, IsRefused, warnings_of}
 use Rattle.run_report.specs.Texts.{syntax_ok}
 use Rattle.run_report.specs.Written.{LeavesUnwritten}
 use Rattle.run_report.specs.declared.texts.ConfigRefusal.{ConfigRefusal}
 use Rattle.run_report.specs.declared.texts.ScriptRefusal.{ScriptRefusal}
 use Rattle.script_run.specs.Played.{HasPlayed}
-use Rattle.script_run.specs.ScriptRefusals.{EndsMisconfigured, EndsRefused, EndsScriptSiteRefused, fault_at}
-use Rattle.script_run.specs.Scripts.{HasConfig, HasScript, IsSiteRefused, MakesLoad, PlaysLines, ReadsScript, most_script}
+use Rattle.script_run.specs.ScriptRefusals.{EndsRefused, fault_at}
+use Rattle.script_run.specs.Scripts.{HasConfig, HasScript, IsSiteRefused, PlaysLines, most_script}
 use Rattle.script_run.specs.declared.scripted.Scripted.{Scripted}
 use Rattle.mpm_run.specs.ExitStatuses.{EndsConfigRefused, EndsFrontFault, EndsSiteRefused, IsExitStatus, LacksOutput, Succeeds}
-use Rattle.server_run.specs.Ends.{EndsUnread, HasDialled, HasRunServer, IsUnbound, Sends}
+use Rattle.server_run.specs.Ends.{EndsUnread, HasDialled, HasRunServer, IsUnbound}
 use Rattle.run_laws.specs.Outcomes.{IsOutcome, SeenOutcome}
 
 -- ## Options

@@ -13,7 +13,7 @@ use Rattle.mpm_config.specs.Config.{Configuration}
 use Rattle.server_run.specs.Ends.{HasDialled, HasRunServer, IsUnbound, texts_of_server}
 use Rattle.run_laws.specs.Grounds.{HasLargeScript, HasNoConfig, HasNoSite, HasUnfitScript, LacksNamed, SendsBy, ServesSite, TestsFit, WritesSite}
 use Rattle.run_laws.specs.Outcomes.{IsOutcome, SeenOutcome}
-use Rattle.run_opening.specs.Calls.{Call, StoreFailed}
+use Rattle.run_opening.specs.Calls.{StoreFailed}
 use Rattle.script_run.specs.Played.{HasPlayed, texts_of_play}
 use Rattle.run_opening.specs.Configured.{warnings_of}
 use Rattle.run_report.specs.Endings.{IsGoodEnd, Reports, run_text}
@@ -21,7 +21,7 @@ use Rattle.run_report.specs.Texts.{syntax_ok}
 use Rattle.run_report.specs.Written.{LeavesUnwritten}
 use Rattle.run_report.specs.declared.texts.ConfigRefusal.{ConfigRefusal}
 use Rattle.run_report.specs.declared.texts.ScriptRefusal.{ScriptRefusal}
-use Rattle.std.specs.Prelude.{◌≡◌, ◌⊎◌, ℕ, List, ◌++◌, Bool, true, false, Option, None, Some, IfSome, IsNone, IsSome, IsSomeAnd, option_map}
+use Rattle.std.specs.Prelude.{◌≡◌, ◌⊎◌, ℕ, List, ◌++◌, true, false, Option, None, Some, IfSome, IsNone, IsSome, IsSomeAnd, option_map}
 
 -- ## What may come before
 

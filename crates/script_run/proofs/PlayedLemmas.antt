@@ -28,7 +28,7 @@ use Rattle.file_table.specs.Site.{SeenSite}
 use Rattle.listener.specs.FirstNumbers.{numbers_of, opened_by}
 use Rattle.listener.specs.Generations.{Opening}
 use Rattle.listener.specs.Runs.{ended_of_run, entries_of_run}
-use Rattle.listener.specs.RunsInside.{BacksWaits, HasRunBy}
+use Rattle.listener.specs.RunsInside.{HasRunBy}
 use Rattle.listener.specs.Served.{whole_book}
 use Rattle.listener.specs.Tells.{AllReceive}
 use Rattle.listener.proofs.ServedLemmas.{ordered-reopened, served-reopened}

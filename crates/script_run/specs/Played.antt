@@ -50,11 +50,11 @@ pub record HasEnd (b : SeenBoard) (f : SeenFront) : Type 0 where
   pub taken : b.book.state.accepted ≡ f.told.accepted
 
 -- what a run of a script that opened so, by these numbers, of which these are all entries and all connections that ended, did with its front and its clock
-pub record IsLeftOfRun (o : Opening) (n : RunNumbers) (b : SeenBoard) (history : List Entry) (ended : List SeenEnded) (f : SeenFront)
+pub record IsLeftOfRun (o : Opening) (n : RunNumbers) (b : SeenBoard) (history : List Entry) (ends : List SeenEnded) (f : SeenFront)
     (calls : List (ℕ × ℕ)) : Type 0 where
   -- what it did with its front: the children were started before all else, each link was watched, taken, and is that of one connection that
   -- ended, and no line was read behind one that stops the server
-  pub front : KeepsFront n b.book.state history ended f.told
+  pub front : KeepsFront n b.book.state history ends f.told
   -- its clock was told what the waits of its front gave, all of which the front tells, and answered that
   pub asked : calls ≡ map echo (moments_of f.told.waits)
   -- what came with a wait was done behind it, and before the next one

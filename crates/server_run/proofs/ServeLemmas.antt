@@ -128,7 +128,7 @@ serves (Some b) call name c site loaded f f' calls status ready asked shows run 
 -- where no run opened the clock was asked nothing
 pub clock-unserved : (left : Option SeenBoard) (greatest : ℕ) → IsNone left → LeavesClock left greatest greatest
 clock-unserved None greatest none = refl
-clock-unserved (Some b) greatest none = absurd none
+clock-unserved (Some b) greatest none = absurd (cc none)
 
 -- the front could not be bound
 is-unbound : (call : Call) (name : List ℕ) (c : Configuration) (site : SeenSite) (f f' : FrontSeen) → IsReady call name c site → KeepsFiles call

@@ -1,4 +1,4 @@
-use Rattle.std.proofs.Common.{map, sym}
+use Rattle.std.proofs.Common.{map}
 use Rattle.board.specs.ReportLine.{line_of}
 use Rattle.listener.proofs.ListeningFoldLemmas.{listens-either, listens-folded}
 use Rattle.listener.proofs.folding.fold_history.Goals as goal

@@ -1,4 +1,4 @@
-use Rattle.std.proofs.Common.{◌≡◌, Option, refl, ap, sym, subst, ◌∙◌, rules}
+use Rattle.std.proofs.Common.{Option, refl, ap, sym, subst, ◌∙◌, rules}
 use Rattle.conn_state.specs.Known.{KnownOutside}
 use Rattle.board.specs.Board.{AreOfOutside, EndedOfOutside, SeenBoard}
 use Rattle.board.specs.Book.{SeenBook}

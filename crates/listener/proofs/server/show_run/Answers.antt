@@ -1,4 +1,4 @@
-use Rattle.std.proofs.Common.{◌++◌, subst, sym, List}
+use Rattle.std.proofs.Common.{◌++◌, subst, List}
 use Rattle.conn_machine.specs.declared.event.Entry.{Entry}
 use Rattle.conn_machine.specs.Made.{AreOfPasses}
 use Rattle.board.specs.Backed.{AllBacked}

@@ -1,4 +1,4 @@
-use Rattle.std.proofs.Common.{◌≡◌, ℕ, List, Option, IfSome, refl, sym, subst}
+use Rattle.std.proofs.Common.{◌≡◌, ℕ, List, Option, refl, sym, subst}
 use Rattle.std.specs.String.{string_bytes}
 use Rattle.mpm_base.specs.Front.{FrontSeen}
 use Rattle.mpm_base.specs.Sink.{SinkSeen}
@@ -9,7 +9,6 @@ use Rattle.command_words.specs.declared.invocation.Invocation.{Invocation}
 use Rattle.run_opening.specs.Calls.{seen_call}
 use Rattle.listener.specs.Counted.{LeavesClock}
 use Rattle.mpm_run.specs.ExitStatuses.{Causes, LeavesAll}
-use Rattle.script_run.specs.Played.{IsLeftOfRun}
 use Rattle.mpm_run.specs.declared.outcome.Outcome.{Outcome}
 use Rattle.script_run.specs.declared.scripted.Scripted.{Scripted}
 use Rattle.listener.proofs.CountedEndLemmas.{asks-as, asks-none}

@@ -1,10 +1,10 @@
-use Rattle.std.proofs.Common.{ℕ, List, None, Some, Ok, Err, refl, ap, subst, ◌∙◌}
+use Rattle.std.proofs.Common.{ℕ, List, None, Some, Ok, Err, ap, subst, ◌∙◌}
 use Rattle.mpm_script.specs.Script.{ScriptIs}
 use Rattle.script_run.specs.Scripts.{most_script}
 use Rattle.run_opening.specs.RefusalsInside.{RefusesRun}
 use Rattle.run_report.specs.Texts.{store_fault}
 use Rattle.run_opening.proofs.FileLemmas.{unread-failed, unread-missing}
-use Rattle.script_run.proofs.ScriptLemmas.{at-line, lacking-script, plays, reads-script, refused-large, refused-script, unread-script}
+use Rattle.script_run.proofs.ScriptLemmas.{at-line, plays, reads-script, refused-large, refused-script, unread-script}
 use Rattle.script_run.proofs.playing.run_script.Goals as goal
 
 pub returns-in-Ok-read_script : goal.returns-in-Ok-read_script

@@ -114,7 +114,7 @@ loop-preserved g c =
           (watched-accept _ _ _ c.loop.self.board.book c.accept.ensures.accepts.told_is) c.take.ensures.watched);
       handed =
           handed-more _ _ _ _ c.args.self.now.board.book c.loop.self.board.book c.take.new.self.board.book before.handed
-          (counts-link c.in-Some-accept.link _ _ c.accept.ensures.accepts.told_is) c.take.ensures.handed c.in_ok-take-in-Some-accept.ensures.makes;
+          (counts-link c.in-Some-accept.link _ _ c.in-Some-accept.ensures.accepts.told_is) c.take.ensures.handed c.in_ok-take-in-Some-accept.ensures.makes;
       timely = λ first. c.take.ensures.timely (before.timely first);
       children = c.take.ensures.children ∙ before.children;
       in_time = λ soon. c.take.ensures.in_time (before.in_time soon);
@@ -226,7 +226,7 @@ pub returns-in_err-take-in-Some-accept-clause-cut : goal.returns-in_err-take-in-
 returns-in_err-take-in-Some-accept-clause-cut g c =
     on-err c.from_residual.result _
     (handed-cut _ _ _ _ c.args.self.now.board.book c.loop.self.board.book c.take.new.self.board.book c.loop.invariant.handed
-    (counts-link c.in-Some-accept.link _ _ c.accept.ensures.accepts.told_is) c.take.ensures.handed c.in_err-take-in-Some-accept.ensures.made)
+    (counts-link c.in-Some-accept.link _ _ c.in-Some-accept.ensures.accepts.told_is) c.take.ensures.handed c.in_err-take-in-Some-accept.ensures.made)
 
 pub returns-in_err-take-in-Some-accept-clause-timely : goal.returns-in_err-take-in-Some-accept-clause-timely
 returns-in_err-take-in-Some-accept-clause-timely g c first = c.take.ensures.timely (c.loop.invariant.timely first)
