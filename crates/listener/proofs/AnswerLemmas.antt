@@ -1,7 +1,7 @@
 -- An answer changes nothing of a front but what was answered.
 use Rattle.std.proofs.Common.{◌≡◌, ◌≢◌, ℕ, List, [], ◌∷◌, ◌++◌, Option, None, Some, option_map, IfSome, refl, sym, ap, subst, ◌∙◌, append-nil, arith}
 use Rattle.mpm_base.specs.CommandWord.{command_word}
-use Rattle.mpm_base.specs.Front.{Answers, FrontCounts, FrontSeen, FrontTold, TellsOn, after_answer}
+use Rattle.mpm_base.specs.Front.{Answers, Commands, FrontCounts, FrontSeen, FrontTold, TellsOn, after_answer}
 use Rattle.mpm_base.specs.Store.{StoreSeen}
 use Rattle.mpm_base.specs.declared.script_line.CommandWord.{CommandWord}
 use Rattle.conn_machine.specs.declared.state.State.{State}
@@ -16,7 +16,7 @@ use Rattle.listener.specs.declared.edition.NamedConfig.{NamedConfig}
 use Rattle.listener.specs.StandingInside.{standing}
 use Rattle.listener.proofs.CountedLemmas.{CountsSame, alike-same, counts-alike, counts-more, same-words}
 use Rattle.listener.proofs.FrontLemmas.{clients-mapped, comings-mapped, follows-same}
-use Rattle.listener.proofs.HeedLemmas.{GoesOn, HasHeeded, ReadsOn, heeded-more, heeded-start}
+use Rattle.listener.proofs.HeedLemmas.{GoesOn, HasHeeded, ReadsOn, goes-command, goes-more, heeded-more, heeded-start}
 use Rattle.listener.proofs.LineLemmas.{HasRead, HasReadSo}
 use Rattle.listener.proofs.OrderStandLemmas.{stands-front}
 use Rattle.listener.proofs.WatchLemmas.{watched-reads}
@@ -130,3 +130,7 @@ heeded-mid steps known c ms ms' s s' answer f f' mid a b heeded given =
 pub counts-mid : (answer : Option (List ℕ)) (f f' mid : FrontSeen) (a b : SeenBook) → CountsOn 0 f.counts f'.counts a b → AnswersIf answer f' mid
     → CountsOn 0 f.counts mid.counts a b
 counts-mid answer f f' mid a b counts given = counts-more 0 f.counts f'.counts mid.counts a b b counts (counts-answered answer f' mid b given)
+
+-- and behind the line that the front gave then, or none
+pub goes-next : (f mid new : FrontSeen) (a b : SeenBook) (line : Option (List ℕ)) → GoesOn f mid a b → Commands mid new line → GoesOn f new a b
+goes-next f mid new a b line given gave = goes-more f mid new a b b given (goes-command mid new b line gave)

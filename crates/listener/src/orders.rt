@@ -8,7 +8,7 @@
 //! Why it is so stands in docs/DECISIONS.md: 93, Which command line stops a server; 96, A restart that comes too late; 98, Lines that ask
 //! for nothing; 110, Where a command line is answered.
 ghost use Rattle.std.specs.Prelude.{◌≡◌, ◌<◌, ◌≤◌, [], ◌∷◌, ◌+◌, None, Some, true, false, IfErr, IfOk, IfSome, MatchResult, OnErr, OnOk};
-ghost use Rattle.mpm_base.specs.Count.{Rises};
+ghost use Rattle.mpm_base.specs.Count.{NeverFalls, Rises};
 ghost use Rattle.mpm_base.specs.Front.{Answers, TellsOn};
 ghost use Rattle.mpm_base.specs.declared.script_line.CommandWord.TheVariants as word;
 ghost use Rattle.conn_machine.specs.Shown.{totals_of};
@@ -22,7 +22,7 @@ ghost use Rattle.listener.specs.ListenInside.{Follows, HasNoneToHeed, HasOneToHe
 ghost use Rattle.listener.specs.CountedInside.{CountsOn, CountsUntil};
 ghost use Rattle.listener.specs.Orders as spec;
 ghost use Rattle.command_answers.specs.Answers.{open_line, status_answer};
-ghost use Rattle.run_report.specs.EndingsInside.{WritesOn};
+ghost use Rattle.run_report.specs.EndingsInside.{WritesAll};
 ghost use Rattle.listener.specs.OrdersInside.{AnswersPlan, AnswersRestart, BreaksBehind, Carries, EndingBreaks, EndingStands, GivesNext, IsHushedIf, KnowsComing, MakesOrders, MayHush, Refuses, ServesNewest, StandsBehind, end_if, owed_by};
 ghost use Rattle.listener.specs.OrdersInside as inside;
 ghost use Rattle.listener.specs.RoundInside.{DoesOrders, DoesUntil};
@@ -132,7 +132,8 @@ impl<'a, 'c, L: Link + Send, N: Known, B: Bell, G: Gate> Listener<'a, 'c, L, N, 
                 Ok(Command::Graceful) => answer = Some(self.restart(store)?),
                 Ok(Command::GracefulStop) => answer = Some(ending_answer(self.end(front)?)),
                 Ok(Command::Status) => {
-                    self.tell_state(front, out);
+                    let whole = self.tell_state(front, out);
+                    self.written = self.written && whole;
                     answer = None;
                 }
                 Err(_) => answer = Some(unknown_answer()),
@@ -141,18 +142,17 @@ impl<'a, 'c, L: Link + Send, N: Known, B: Bell, G: Gate> Listener<'a, 'c, L, N, 
         unreachable!()
     }
 
-    /// Tells the sender of the line the numbers of the state, and the output too. It takes no memory, and leaves the table as it is.
-    fn tell_state<F: Front<L = L>, K: Sink>(&mut self, front: &mut F, out: &mut K)
+    /// Tells the sender of the line the numbers of the state, and the output too. Whether all of that was written. It takes no memory.
+    fn tell_state<F: Front<L = L>, K: Sink>(&self, front: &mut F, out: &mut K) -> bool
         ensures answers { Answers (F.seen front.old) (F.seen front.new)
-            (status_answer (totals_of self.old.board.book.state)) }
-        ensures writes { WritesOn (K.seen out.old) (K.seen out.new)
-            (open_line (totals_of self.old.board.book.state)) self.old.written self.new.written }
-        ensures others { self.new ≡ record self.old { written = self.new.written } }
+            (status_answer (totals_of self.now.board.book.state)) }
+        ensures writes { WritesAll (K.seen out.old) (K.seen out.new)
+            (open_line (totals_of self.now.board.book.state)) result }
+        ensures faults { NeverFalls (K.seen out.old).faults (K.seen out.new).faults }
     {
         let totals = self.board.totals();
         front.answer(status_answer(&totals).as_slice());
-        let whole = write_all(out, open_line(&totals).as_slice());
-        self.written = self.written && whole;
+        write_all(out, open_line(&totals).as_slice())
     }
 
     /// Begins a new generation by the next edition of the store, or refuses to, and answers what the sender of the line is told of that. The

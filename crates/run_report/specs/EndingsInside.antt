@@ -63,10 +63,3 @@ LacksReport sink sink' text status = ((status ≡ 6) × WritesText sink sink' te
 -- the server stopped for want of memory, and the report was written; or memory lacked for that, and the output is as it was
 abbrev pub LacksInRun : SinkSeen → SinkSeen → SeenBoard → Type 0
 LacksInRun sink sink' b = ((b.book.state.going ≡ Halted why.NoMemory) × WritesText sink sink' (board_report b)) ⊎ (sink' ≡ sink)
-
--- the text was written whole or not, and it is known whether it and each one before it was
-pub record WritesOn (old new : SinkSeen) (text : List ℕ) (written written' : Bool) : Type 0 where
-  pub whole : Bool
-  pub all : WritesAll old new text whole
-  pub faults : NeverFalls old.faults new.faults
-  pub written_is : written' ≡ (written && whole)

@@ -19,5 +19,5 @@ invariant-loop g l =
       up : IsUp l.self.board.book.state.going;
       step : IsInStep (g.F.Front.seen l.front).told l.self.board.book.state;
       none : IfSome (g.F.Front.seen l.front).told HasNoneToHeed;
-      others : l.self ≡ record l.fn.self { board = l.self.board; edition = l.self.edition };
+      others : l.self ≡ record l.fn.self { board = l.self.board; edition = l.self.edition; written = l.self.written };
     }
