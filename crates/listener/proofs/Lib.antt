@@ -14,6 +14,7 @@ pub mod FoldedTurnLemmas
 pub mod FrontCallLemmas
 pub mod FrontLemmas
 pub mod HandedLemmas
+pub mod HeardLemmas
 pub mod HeedLemmas
 pub mod IntakeLemmas
 pub mod LeftLemmas

@@ -6,6 +6,7 @@ pub mod FirstNumbersInside
 pub mod FoldsInside
 pub mod Generations
 pub mod Heard
+pub mod HeardInside
 pub mod LineAnswers
 pub mod Links
 pub mod Listen
