@@ -367,7 +367,8 @@ class Server:
 
     @contextlib.contextmanager
     def standing_still(self):
-        """The server does nothing up to the end of the block."""
+        """The server, once it waits, does nothing up to the end of the block."""
+        until("a server that waits", lambda: self.told()[0] == "S")
         self.process.send_signal(signal.SIGSTOP)
         until("a server that stands still", lambda: self.told()[0] == "T")
         yield
