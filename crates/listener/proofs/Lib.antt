@@ -28,6 +28,7 @@ pub mod PaceLemmas
 pub mod PartLemmas
 pub mod PatientLemmas
 pub mod PlanLemmas
+pub mod RefusalLemmas
 pub mod RestartLemmas
 pub mod RoundLemmas
 pub mod RoundShareLemmas
