@@ -1,6 +1,7 @@
 -- What a restart is answered: the number of the generation that began, or why none did.
 use Rattle.std.proofs.Common.{◌≡◌, ◌≢◌, ◌⊎◌, inl, inr, ◌<◌, ◌==◌, ℕ, ◌+◌, ◌-◌, suc, Bool, true, false, if◌then◌else◌, nat_lt, List, [], ◌∷◌, ◌++◌, length, slice_get, take, Option, None, Some, option_map, IfSome, Result, Ok, Err, IfOk, OnOk, refl, sym, ap, subst, ◌∙◌, arith}
-use Rattle.mpm_base.specs.Store.{File, Renews, StoreCounts, StoreSeen, StoreTold, after_renew, bytes_of}
+use Rattle.mpm_base.specs.Store.{Renews, StoreCounts, StoreSeen, StoreTold, after_renew, bytes_of}
+use Rattle.mpm_base.specs.declared.store.File.{File}
 use Rattle.mpm_config.specs.Config.{Configuration}
 use Rattle.mpm_config.specs.Form.{form_of}
 use Rattle.mpm_config.specs.Line.{Line, logical_lines}
@@ -29,7 +30,7 @@ use Rattle.run_opening.specs.Configured.{config_fault}
 use Rattle.run_opening.specs.Sites.{IsSiteRefusedOf}
 use Rattle.run_report.specs.Texts.{config_word}
 use Rattle.run_report.specs.declared.texts.ConfigRefusal.{ConfigRefusal}
-use Rattle.run_report.specs.declared.texts.ConfigRefusal.TheVariants as told
+use Rattle.run_report.specs.declared.texts.ConfigRefusal.TheVariants as no
 use Rattle.listener.specs.Generations.{Opening, renewed}
 use Rattle.listener.specs.LineAnswers.{RefusesConf, RefusesSite, TellsConf}
 use Rattle.listener.specs.OrdersInside.{AnswersPlan, AnswersRefusal, AnswersRestart, Carries, Refuses, reason_for}
@@ -121,12 +122,12 @@ pub record HasWord (f : ConfFault) : Type 0 where
   pub fault_is : f ≡ config_fault why number
 
 has-word : (f : ConfFault) → f ≢ conf.NoMemory → HasWord f
-has-word (conf.NotText n) other = record { why = told.NotText; number = n; fault_is = refl }
-has-word (conf.UnknownDirective n) other = record { why = told.UnknownDirective; number = n; fault_is = refl }
-has-word (conf.BadValue n) other = record { why = told.BadValue; number = n; fault_is = refl }
-has-word (conf.BadSection n) other = record { why = told.BadSection; number = n; fault_is = refl }
-has-word (conf.Unclosed n) other = record { why = told.Unclosed; number = n; fault_is = refl }
-has-word (conf.TooDeep n) other = record { why = told.TooDeep; number = n; fault_is = refl }
+has-word (conf.NotText n) other = record { why = no.NotText; number = n; fault_is = refl }
+has-word (conf.UnknownDirective n) other = record { why = no.UnknownDirective; number = n; fault_is = refl }
+has-word (conf.BadValue n) other = record { why = no.BadValue; number = n; fault_is = refl }
+has-word (conf.BadSection n) other = record { why = no.BadSection; number = n; fault_is = refl }
+has-word (conf.Unclosed n) other = record { why = no.Unclosed; number = n; fault_is = refl }
+has-word (conf.TooDeep n) other = record { why = no.TooDeep; number = n; fault_is = refl }
 has-word conf.NoMemory other = absurd (other refl)
 
 -- what is told of a renewed store, where the one that it was renewed from tells anything
@@ -155,12 +156,12 @@ mapped (Some t) each so = each t so
 
 -- the configuration is refused
 word-says : (why : ConfigRefusal) (number : ℕ) → conf_answer_for (config_fault why number) ≡ conf_line number (config_word why)
-word-says told.NotText number = refl
-word-says told.UnknownDirective number = refl
-word-says told.BadValue number = refl
-word-says told.BadSection number = refl
-word-says told.Unclosed number = refl
-word-says told.TooDeep number = refl
+word-says no.NotText number = refl
+word-says no.UnknownDirective number = refl
+word-says no.BadValue number = refl
+word-says no.BadSection number = refl
+word-says no.Unclosed number = refl
+word-says no.TooDeep number = refl
 
 conf-says : (o : Opening) (edition : ℕ) (next : Option StoreTold) (name : List ℕ) (counts counts' : StoreCounts) (f : ConfFault)
     → next ≡ option_map (renewed edition) o.store.told → o.name ≡ name → RefusesConfig next name counts counts' f → TellsConf o edition (conf_answer_for f)
@@ -168,10 +169,10 @@ conf-says o edition next name counts counts' f is named (inl large) =
     let named-so : (files : List File) (text : List ℕ) → bytes_of name files ≡ Some text → bytes_of o.name files ≡ Some text =
     λ files text found. subst (λ (x : List ℕ). bytes_of x files ≡ Some text) (sym named) found in
     record {
-      why = told.BadValue;
+      why = no.BadValue;
       number = 0;
       says = ap conf_answer_for large.fault_is;
-      refused = if-renewed (λ t. RefusesConf o t told.BadValue 0) edition o.store.told next is
+      refused = if-renewed (λ t. RefusesConf o t no.BadValue 0) edition o.store.told next is
           (mapped next
           (λ t found. record { text = found.0; found = named-so t.files found.0 found.1; refused = inl (record { many = found.2; why_is = refl; number_is = refl }) })
           large.large);
