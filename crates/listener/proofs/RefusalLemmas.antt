@@ -25,7 +25,7 @@ use Rattle.conn_machine.specs.declared.event.Refusal.{Refusal}
 use Rattle.conn_machine.specs.declared.event.Refusal.TheVariants as refusal
 use Rattle.conn_machine.specs.declared.state.State.{State}
 use Rattle.board.specs.Book.{SeenBook}
-use Rattle.command_answers.specs.Answers.{conf_answer_for, conf_line, late_answer, name_for, refused_answer}
+use Rattle.command_answers.specs.Answers.{conf_answer_for, conf_line, late_answer, memory_answer, name_for, refused_answer}
 use Rattle.run_opening.specs.Configured.{config_fault}
 use Rattle.run_opening.specs.Sites.{IsSiteRefusedOf}
 use Rattle.run_report.specs.Texts.{config_word}
@@ -251,3 +251,9 @@ answers-carried c store plan a b e e' (Ok text) (inr lacks) (inl newest) =
     absurd (omega (arith, newest.0, ap (λ (s : State). s.newest) lacks.refuses.state))
 answers-carried c store plan a b e e' (Ok text) carries (inr refused) =
     inr (record { reason = refusal.NoMemory; refuses = refused.0; says = λ o orders by told. refused.1 })
+
+-- memory lacked for a plan
+pub plan-refused : {E : Type 0} (a b : SeenBook) (text : List ℕ) (r : Result (List ℕ) E) → text ≡ memory_answer → OnOk r (Refuses refusal.NoMemory a b)
+    → IfOk r (λ says. says ≡ text) → IfOk r (AnswersPlan a b)
+plan-refused a b text (Err e) is refuses says = tt
+plan-refused a b text (Ok answer) is refuses says = inr (refuses, says ∙ is)
