@@ -207,6 +207,26 @@ def a_folder_that_changes_at_each_call_of_a_restart_is_served_as_it_was_or_becam
 
 
 @outside_scene
+def a_file_that_becomes_a_pipe_just_before_it_is_opened_holds_a_server_up_until_somebody_writes():
+    with outside() as system, serving(files=FILES, before=system.before) as server:
+        # The configuration is opened first, and then the files in the order of their names. What a name is was looked at before that.
+        system.hold("open", 2)
+        server.tell(b"graceful\n")
+        until("a restart that is held", lambda: system.is_held("open"))
+        put_in_place(server.folder, "a", os.mkfifo)
+        system.let_go("open")
+        with connect(server.port) as client:
+            client.send(get("a"))
+            expect("whether there is a response", client.has_come(0.2), False)
+            with open(path_in(server.folder, "a"), "wb") as pipe:
+                pipe.write(b"piped")
+            expect("the response", client.reply(), answer(b"piped"))
+            expect("the generation", generation_of(client), 1)
+        server.stop()
+        server.expect_report("1 ClientDone Direct 200,200", children=6, generation=1)
+
+
+@outside_scene
 def what_loses_its_rights_while_a_restart_reads_it_refuses_that():
     with outside() as system, tempfile.TemporaryDirectory() as folder:
         lay_out(folder, FILES)

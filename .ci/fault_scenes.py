@@ -27,11 +27,11 @@ ERRORS = {
     "setsockopt": errno.EINVAL, "getsockname": errno.EINVAL, "shutdown": errno.ENOTCONN,
     "fcntl": errno.EMFILE, "ioctl": errno.ENOTTY, "eventfd": errno.EMFILE, "epoll_create1": errno.EMFILE,
     "epoll_ctl": errno.ENOSPC, "epoll_wait": errno.EBADF, "recv": errno.ECONNRESET, "read": errno.EIO, "send": errno.EPIPE, "sendmsg": errno.EPIPE,
-    "write": errno.ENOSPC, "writev": errno.EPIPE, "open": errno.EMFILE, "openat": errno.EMFILE, "getdents64": errno.EIO, "statx": errno.EACCES,
-    "clock_gettime": errno.EINVAL, "malloc": errno.ENOMEM,
+    "write": errno.ENOSPC, "writev": errno.EPIPE, "open": errno.EMFILE, "openat": errno.EMFILE, "close": errno.EIO, "getdents64": errno.EIO,
+    "statx": errno.EACCES, "clock_gettime": errno.EINVAL, "sched_yield": errno.ENOSYS, "syscall": errno.EINTR, "malloc": errno.ENOMEM,
 }
 SOCKETS = "socket bind listen accept4 setsockopt getsockname shutdown fcntl ioctl eventfd epoll_create1 epoll_ctl epoll_wait recv read send sendmsg write writev".split()
-FILES = "open openat getdents64 statx clock_gettime".split()
+FILES = "open openat close getdents64 statx clock_gettime sched_yield syscall".split()
 ALL_BEHIND = 1_000_000_000
 NOT_ALLOWED = refusal("405 Method Not Allowed", "Allow: GET, HEAD, OPTIONS")
 # The same where a restart came before them.
@@ -83,6 +83,12 @@ class Play:
         until("a server, or its end", is_there)
         return self.process.poll() is None
 
+    def descriptors(self):
+        """How many descriptors it has, or none where it has ended."""
+        with contextlib.suppress(OSError):
+            return len(os.listdir(f"/proc/{self.process.pid}/fd"))
+        return 0
+
     def tell(self, word):
         """Sends the command line, whether it is heard or not."""
         with contextlib.suppress(OSError), connect(self.control) as caller:
@@ -129,6 +135,7 @@ class Play:
     def judge(self):
         """Goes on where it ended with a status that it may have, and with the text of that; answers the status and how many it took."""
         status, text = self.stop(), self.text(self.output)
+        expect("how many closes were of a descriptor that wasn't open", self.system.page.strayed, 0)
         said = told_lines(self.text(self.errors))
         if status in REFUSALS and re.fullmatch(REFUSALS[status], text):
             return status, 0
@@ -284,7 +291,7 @@ def soak_system(system, drawn):
     for name, each in [(name, 200) for name in KINDS] + [("clock_gettime", 50), ("epoll_wait", 20), ("malloc", 20_000)]:
         kind = getattr(system, name)
         # A wait that failed ends a server, so one is interrupted.
-        kind.error = errno.EINTR if name == "epoll_wait" else ERRORS[name]
+        kind.error = errno.EINTR if name in ("epoll_wait", "close") else ERRORS[name]
         kind.one_in = each
 
 
@@ -326,6 +333,9 @@ def soak(seconds, drawn):
     """Soaks one server in faults for these seconds. Its status, and how many it took."""
     wrongs = []
     with outside() as system, served(system) as play:
+        own = play.descriptors()
+        # Eight clients and a server want more time on a machine that has other work.
+        play.patience = 60
         soak_system(system, drawn)
         ends = time.monotonic() + seconds
         clients = [threading.Thread(target=soak_by, args=(play, ends, drawn * 100 + number, wrongs)) for number in range(8)]
@@ -334,6 +344,8 @@ def soak(seconds, drawn):
         for client in clients:
             client.join()
         failed = {name: getattr(system, name).failed for name in KINDS if getattr(system, name).failed}
+        system.heal()
+        until("a server without a descriptor that its start didn't have", lambda: play.descriptors() <= own)
         status, taken = play.judge()
         expect("what was wrong", wrongs[:3], [])
         expect("whether the status is one of a server that was soaked", status in (0, 6), True)

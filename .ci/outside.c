@@ -6,6 +6,8 @@
 #include <dlfcn.h>
 #include <errno.h>
 #include <fcntl.h>
+#include <linux/futex.h>
+#include <sched.h>
 #include <stdarg.h>
 #include <stdint.h>
 #include <stdlib.h>
@@ -13,6 +15,7 @@
 #include <sys/mman.h>
 #include <sys/socket.h>
 #include <sys/stat.h>
+#include <sys/syscall.h>
 #include <sys/uio.h>
 #include <time.h>
 #include <unistd.h>
@@ -33,6 +36,7 @@ struct kind {
 struct page {
     int64_t ahead; /* how many seconds the system's time is ahead of the true one */
     uint64_t drawn;
+    uint64_t strayed; /* how many closes were of a descriptor that wasn't open */
     struct kind kinds[];
 };
 
@@ -140,6 +144,7 @@ CALL(ssize_t, read, (int fd, void *to, size_t size), (fd, to, cut(NUMBER_read, s
 CALL(ssize_t, send, (int fd, const void *from, size_t size, int flags), (fd, from, cut(NUMBER_send, size), flags))
 CALL(ssize_t, write, (int fd, const void *from, size_t size), (fd, from, cut(NUMBER_write, size)))
 CALL(ssize_t, getdents64, (int fd, void *to, size_t size), (fd, to, size))
+CALL(int, sched_yield, (void), ())
 CALL(int, statx, (int folder, const char *restrict path, int flags, unsigned int mask, struct statx *restrict to), (folder, path, flags, mask, to))
 
 /* The C library's own name of write, by which some compilers call it. */
@@ -207,6 +212,32 @@ int ioctl(int fd, unsigned long what, ...) {
     va_end(rest);
     if (!real) real = (int (*)(int, unsigned long, ...))real_of("ioctl");
     return fails(NUMBER_ioctl) ? -1 : real(fd, what, argument);
+}
+
+/* A close that fails has closed all the same, as one of the system's has. */
+int close(int fd) {
+    static int (*real)(int);
+    if (!real) real = (int (*)(int))real_of("close");
+    int failed = fails(NUMBER_close), error = errno, answer = real(fd);
+    if (page && answer != 0 && errno == EBADF) __atomic_add_fetch(&page->strayed, 1, __ATOMIC_SEQ_CST);
+    if (!failed) return answer;
+    errno = error;
+    return -1;
+}
+
+/* Of the calls that have no function of their own those fail that wait for a word. */
+long syscall(long number, ...) {
+    static long (*real)(long, ...);
+    long words[6];
+    va_list rest;
+    va_start(rest, number);
+    for (int i = 0; i < 6; i++) words[i] = va_arg(rest, long);
+    va_end(rest);
+    if (!real) real = (long (*)(long, ...))real_of("syscall");
+    long what = words[1] & FUTEX_CMD_MASK;
+    int waits = number == SYS_futex && (what == FUTEX_WAIT || what == FUTEX_WAIT_BITSET);
+    if (waits && fails(NUMBER_syscall)) return -1;
+    return real(number, words[0], words[1], words[2], words[3], words[4], words[5]);
 }
 
 int clock_gettime(clockid_t clock, struct timespec *time) {

@@ -13,7 +13,7 @@ import threading
 # The kinds of calls, in the order of their numbers. `malloc` is `realloc` too.
 KINDS = (
     "socket bind listen accept4 connect setsockopt getsockname shutdown fcntl ioctl eventfd epoll_create1 epoll_ctl epoll_wait recv read send "
-    "sendmsg write writev open openat getdents64 statx clock_gettime malloc"
+    "sendmsg write writev open openat close getdents64 statx clock_gettime sched_yield syscall malloc"
 ).split()
 SOURCE = f"{os.path.dirname(os.path.abspath(__file__))}/outside.c"
 COMPILERS = ["cc", "gcc", "clang"]
@@ -29,7 +29,7 @@ class Kind(ctypes.Structure):
 class Page(ctypes.Structure):
     """What all kinds share: `struct page`."""
 
-    _fields_ = [("ahead", ctypes.c_int64), ("drawn", ctypes.c_uint64), ("kinds", Kind * len(KINDS))]
+    _fields_ = [("ahead", ctypes.c_int64), ("drawn", ctypes.c_uint64), ("strayed", ctypes.c_uint64), ("kinds", Kind * len(KINDS))]
 
 
 def compiler():

@@ -225,6 +225,27 @@ def responses_are_whole_where_the_system_moves_a_byte_at_a_time():
         server.expect_report("1 ClientDone Direct 200,200,405,200", children=6, generation=1)
 
 
+@outside_scene
+def waits_and_lines_that_ask_for_nothing_take_no_memory():
+    with serving_by() as (server, system):
+        server.tell(b"halt\n")
+        until("a server that stands in a wait", lambda: rests(server))
+        begun = system.malloc.made
+        for line in [b"halt\n", b"x" * 40, b"\xff\n", b""] * 20:
+            with connect(server.control) as caller:
+                if line:
+                    caller.send(line)
+                else:
+                    caller.half_close()
+                caller.expect_close()
+        until("a server that stands in a wait", lambda: rests(server))
+        expect("how many allocations were made", system.malloc.made - begun, 0)
+        command(server, "graceful")
+        expect("whether a restart makes some", system.malloc.made > begun, True)
+        server.stop()
+        server.expect_report(children=6, generation=1)
+
+
 def sent_with(name, number, error, count):
     """What -k comes to where these calls of it fail: its status, and the reasons that it says on standard error."""
     with outside() as system, serving() as server:

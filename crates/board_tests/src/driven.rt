@@ -195,6 +195,98 @@ fn fold(seen: &mut Seen, board: &mut ScriptBoard) -> Option<()>
     Some(())
 }
 
+/// The event is made, if it is none of a connection.
+fn record(seen: &mut Seen, board: &mut ScriptBoard, event: &Event) -> Option<()>
+    requires who { 0 < board.old.book.passes }
+    ensures who { OnSome result (0 < board.new.book.passes) }
+    ensures row { OnSome result (row_in 0 board.new.book ≡ row_in 0 board.old.book) }
+{
+    match *event {
+        Event::Ready(slot) => signal(board, slot),
+        Event::Tick(moment) => tick(board, moment),
+        Event::StartChild(child) => start_child(board, child),
+        Event::Retire(child) => retire(board, child),
+        Event::Command(_) => halt(board),
+        _ => None,
+    }?;
+    seen.look(board);
+    Some(())
+}
+
+/// The child starts.
+fn start_child(board: &mut ScriptBoard, child: u32) -> Option<()>
+    requires who { 0 < board.old.book.passes }
+    ensures who { OnSome result (0 < board.new.book.passes) }
+    ensures row { OnSome result (row_in 0 board.new.book ≡ row_in 0 board.old.book) }
+{
+    allow(board, &Event::StartChild(child))?;
+    board.start_child(0, child).ok()
+}
+
+/// Something may have come for the slot.
+fn signal(board: &mut ScriptBoard, slot: u32) -> Option<()>
+    requires who { 0 < board.old.book.passes }
+    ensures who { OnSome result (0 < board.new.book.passes) }
+    ensures row { OnSome result (row_in 0 board.new.book ≡ row_in 0 board.old.book) }
+{
+    allow(board, &Event::Ready(slot))?;
+    board.ready(0, slot).ok()
+}
+
+/// Time passes, to the moment.
+fn tick(board: &mut ScriptBoard, moment: Moment) -> Option<()>
+    requires who { 0 < board.old.book.passes }
+    ensures who { OnSome result (0 < board.new.book.passes) }
+    ensures row { OnSome result (row_in 0 board.new.book ≡ row_in 0 board.old.book) }
+{
+    allow(board, &Event::Tick(moment))?;
+    board.tick(0, moment).ok()
+}
+
+/// The server stops.
+fn halt(board: &mut ScriptBoard) -> Option<()>
+    requires who { 0 < board.old.book.passes }
+    ensures who { OnSome result (0 < board.new.book.passes) }
+    ensures row { OnSome result (row_in 0 board.new.book ≡ row_in 0 board.old.book) }
+{
+    allow(board, &Event::Command(Commanded::Stop(Why::Asked)))?;
+    board.halt(0, Why::Asked);
+    Some(())
+}
+
+/// The child is let go of.
+fn retire(board: &mut ScriptBoard, child: u32) -> Option<()>
+    requires who { 0 < board.old.book.passes }
+    ensures who { OnSome result (0 < board.new.book.passes) }
+    ensures row { OnSome result (row_in 0 board.new.book ≡ row_in 0 board.old.book) }
+{
+    allow(board, &Event::Retire(child))?;
+    board.retire(0, child);
+    Some(())
+}
+
+/// The command, which isn't `stop`, is given where the board allows it and where the server has stopped, and the board is folded where
+/// it may be. The board answers this.
+fn order(seen: &mut Seen, board: &mut ScriptBoard, command: Commanded) -> Option<Answer>
+    requires who { 0 < board.old.book.passes }
+    ensures who { OnSome result (0 < board.new.book.passes) }
+    ensures row { OnSome result (row_in 0 board.new.book ≡ row_in 0 board.old.book) }
+{
+    let event = Event::Command(command);
+    if !may_ask(board, &event) {
+        return Some(Answer::NotAllowed);
+    }
+    let order = order_of(event)?;
+    match board.command(0, order) {
+        Ok(()) => (),
+        Err(BoardFault::Halted) => return Some(Answer::Halted),
+        Err(BoardFault::NoMemory) => return None,
+    }
+    seen.look(board);
+    fold(seen, board)?;
+    Some(Answer::Taken)
+}
+
 impl Driven {
     /// A board of so many slots.
     pub fn make(alloc: Global, slots: u32) -> Result<Driven, NoMemory> {
@@ -226,65 +318,17 @@ impl Driven {
             Event::Hold(name) if self.board.cause(name).is_some() => self.drain(seen, name),
             Event::Hold(name) => self.let_go(seen, name),
             Event::Queue(name) => self.serve(seen, name),
-            Event::Ready(slot) => self.signal(seen, slot),
-            Event::Tick(moment) => self.tick(seen, moment),
-            Event::StartChild(child) => self.start_child(seen, child),
-            Event::Retire(child) => self.retire(seen, child),
-            Event::Command(_) => self.halt(seen),
-            _ => None,
+            _ => self.record(seen, event),
         };
-        next?.fold(seen)
-    }
-
-    /// The board is folded where it may be.
-    fn fold(self, seen: &mut Seen) -> Option<Driven> {
-        let Driven { mut board } = self;
+        let Driven { mut board } = next?;
         fold(seen, &mut board)?;
         Some(Driven { board })
     }
 
-    /// The child starts.
-    fn start_child(self, seen: &mut Seen, child: u32) -> Option<Driven> {
+    /// The event, which is none of a connection, is made.
+    fn record(self, seen: &mut Seen, event: &Event) -> Option<Driven> {
         let Driven { mut board } = self;
-        allow(&board, &Event::StartChild(child))?;
-        match board.start_child(0, child) {
-            Ok(()) => (),
-            Err(_) => return None,
-        }
-        seen.look(&board);
-        Some(Driven { board })
-    }
-
-    /// Something may have come for the slot.
-    fn signal(self, seen: &mut Seen, slot: u32) -> Option<Driven> {
-        let Driven { mut board } = self;
-        allow(&board, &Event::Ready(slot))?;
-        match board.ready(0, slot) {
-            Ok(()) => (),
-            Err(_) => return None,
-        }
-        seen.look(&board);
-        Some(Driven { board })
-    }
-
-    /// Time passes, to the moment.
-    fn tick(self, seen: &mut Seen, moment: Moment) -> Option<Driven> {
-        let Driven { mut board } = self;
-        allow(&board, &Event::Tick(moment))?;
-        match board.tick(0, moment) {
-            Ok(()) => (),
-            Err(_) => return None,
-        }
-        seen.look(&board);
-        Some(Driven { board })
-    }
-
-    /// The server stops.
-    fn halt(self, seen: &mut Seen) -> Option<Driven> {
-        let Driven { mut board } = self;
-        allow(&board, &Event::Command(Commanded::Stop(Why::Asked)))?;
-        board.halt(0, Why::Asked);
-        seen.look(&board);
+        record(seen, &mut board, event)?;
         Some(Driven { board })
     }
 
@@ -292,28 +336,8 @@ impl Driven {
     /// it may be. The board answers this.
     pub fn order(self, seen: &mut Seen, command: Commanded) -> Option<(Driven, Answer)> {
         let Driven { mut board } = self;
-        let event = Event::Command(command);
-        if !may_ask(&board, &event) {
-            return Some((Driven { board }, Answer::NotAllowed));
-        }
-        let order = order_of(event)?;
-        match board.command(0, order) {
-            Ok(()) => (),
-            Err(BoardFault::Halted) => return Some((Driven { board }, Answer::Halted)),
-            Err(BoardFault::NoMemory) => return None,
-        }
-        seen.look(&board);
-        let driven = Driven { board }.fold(seen)?;
-        Some((driven, Answer::Taken))
-    }
-
-    /// The child is let go of.
-    fn retire(self, seen: &mut Seen, child: u32) -> Option<Driven> {
-        let Driven { mut board } = self;
-        allow(&board, &Event::Retire(child))?;
-        board.retire(0, child);
-        seen.look(&board);
-        Some(Driven { board })
+        let answer = order(seen, &mut board, command)?;
+        Some((Driven { board }, answer))
     }
 
     /// A connection is taken, of the client of that number, and waits for its request.

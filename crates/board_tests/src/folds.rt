@@ -3,11 +3,10 @@ use crate::editions::{known_editions, order_in};
 use crate::moves::{LastBoard, show_seen};
 use crate::seen::{ScriptBoard, add_one};
 use board::report_line::lines_after;
-use conn_machine::{Editions, Event};
-use mpm_base::Octets;
+use conn_machine::Event;
+use mpm_base::{NoMemory, Octets};
 use std::alloc::Global;
-use std::io;
-use test_rows::grown;
+use test_rows::Sheet;
 
 /// What is counted of all entries of a board.
 #[derive(Clone, Copy, PartialEq, Eq)]
@@ -67,16 +66,17 @@ impl Counts {
 
 /// Shows what was seen of the first board, how often it was folded, and in what it differs from the second one.
 pub fn show_folded(
-    rt: &impl Print,
+    sheet: &mut Sheet,
     alloc: Global,
     row: &str,
     folding: &LastBoard,
     keeping: &LastBoard,
-) -> io::Result<()> {
-    show_seen(rt, row, &folding.seen)?;
+) -> Result<(), NoMemory> {
+    show_seen(sheet, row, &folding.seen);
     let (folds, in_hand) = folding.seen.folds();
     let what = difference(alloc, folding, keeping)?;
-    println!(rt; "folded {folds} times, {in_hand} of them in hand => {what} differs")
+    println!(sheet; "folded {folds} times, {in_hand} of them in hand => {what} differs");
+    Ok(())
 }
 
 /// In what the first board, which was folded, differs from the second one, which never was: how often its finds found something, what is
@@ -86,7 +86,7 @@ pub fn difference(
     alloc: Global,
     folding: &LastBoard,
     keeping: &LastBoard,
-) -> io::Result<&'static str> {
+) -> Result<&'static str, NoMemory> {
     if !folding.seen.found_as(&keeping.seen) {
         return Ok("a find");
     }
@@ -97,32 +97,50 @@ pub fn difference(
     if !keeping.history().ends_with(folding.history()) {
         return Ok("an entry");
     }
-    if state_text(alloc, folding)? != state_text(alloc, keeping)? {
+    if !has_same_state(alloc, folding, keeping)? {
         return Ok("the state");
     }
-    if lines_of(alloc, folding)?.as_slice() != lines_of(alloc, keeping)?.as_slice() {
+    if !has_same_lines(alloc, folding, keeping)? {
         return Ok("a line");
     }
-    if editions_of(alloc, folding)?.as_slice() != editions_of(alloc, keeping)?.as_slice() {
+    if !has_same_editions(alloc, folding, keeping)? {
         return Ok("an edition");
     }
     Ok("nothing")
 }
 
+/// Whether both boards have the same state, as texts.
+fn has_same_state(alloc: Global, one: &ScriptBoard, other: &ScriptBoard) -> Result<bool, NoMemory> {
+    let (one, other) = (state_text(alloc, one)?, state_text(alloc, other)?);
+    Ok(one == other)
+}
+
 /// The state of the board, as a text.
-fn state_text(alloc: Global, board: &ScriptBoard) -> io::Result<String> {
-    let text = format!(in alloc; "{:?}", board.state())?;
-    Ok(text)
+fn state_text(alloc: Global, board: &ScriptBoard) -> Result<String, NoMemory> {
+    match format!(in alloc; "{:?}", board.state()) {
+        Ok(text) => Ok(text),
+        Err(_) => Err(NoMemory),
+    }
+}
+
+/// Whether both boards have the same lines of the first connections that ended.
+fn has_same_lines(alloc: Global, one: &ScriptBoard, other: &ScriptBoard) -> Result<bool, NoMemory> {
+    let (one, other) = (lines_of(alloc, one)?, lines_of(alloc, other)?);
+    Ok(one.as_slice() == other.as_slice())
 }
 
 /// The lines of the first connections that ended.
-fn lines_of(alloc: Global, board: &ScriptBoard) -> io::Result<Octets> {
+fn lines_of(alloc: Global, board: &ScriptBoard) -> Result<Octets, NoMemory> {
     let folded = board.folded();
-    let lines = lines_after(alloc, &folded.lines, folded.closed, board.ended());
-    grown(lines)
+    lines_after(alloc, &folded.lines, folded.closed, board.ended())
 }
 
-/// The editions of the generations in use.
-fn editions_of(alloc: Global, board: &ScriptBoard) -> io::Result<Editions> {
-    grown(known_editions(alloc, board))
+/// Whether both boards have the same editions of the generations in use.
+fn has_same_editions(
+    alloc: Global,
+    one: &ScriptBoard,
+    other: &ScriptBoard,
+) -> Result<bool, NoMemory> {
+    let (one, other) = (known_editions(alloc, one)?, known_editions(alloc, other)?);
+    Ok(one.as_slice() == other.as_slice())
 }

@@ -28,28 +28,42 @@ mod passes;
 mod scans;
 mod seen;
 
+use mpm_base::NoMemory;
 use pairs::Given;
 use std::alloc::Global;
 use std::io;
 use std::sync::Wait;
-use test_rows::{Section, begin_section, sections_of};
+use test_rows::{Section, Sheet, grown, open_section, sections_of};
 
 fn main(rt: HostRuntime) -> io::Result<()> {
     let input = io::read_to_string(rt.alloc(), rt.reader())?;
     for text in sections_of(input.as_str()) {
-        let section = begin_section(&rt, text)?;
-        show_section(&rt, rt.alloc(), section)?;
+        let sheet = grown(sheet_of(&rt, rt.alloc(), text))?;
+        sheet.show(&rt)?;
     }
     Ok(())
 }
 
+/// What comes of the section of this text.
+fn sheet_of<R: Wait>(rt: &R, alloc: Global, text: &str) -> Result<Sheet, NoMemory> {
+    let mut sheet = Sheet::make(alloc);
+    let section = open_section(&mut sheet, text);
+    show_section(&mut sheet, rt, alloc, section)?;
+    Ok(sheet)
+}
+
 /// Shows what comes of the rows of the section.
-fn show_section<R: Print + Wait>(rt: &R, alloc: Global, section: Section<'_>) -> io::Result<()> {
+fn show_section<R: Wait>(
+    sheet: &mut Sheet,
+    rt: &R,
+    alloc: Global,
+    section: Section<'_>,
+) -> Result<(), NoMemory> {
     let Section { word, rest, rows } = section;
     match word {
-        "finds" => moves::show_finds(rt, alloc, rest, rows),
-        "folds" => pairs::show_pairs(rt, alloc, Given::Numbers, rest, rows),
-        "orders" => pairs::show_pairs(rt, alloc, Given::Steps, rest, rows),
-        _ => passes::show_passes(rt, alloc),
+        "finds" => moves::show_finds(sheet, alloc, rest, rows),
+        "folds" => pairs::show_pairs(sheet, alloc, Given::Numbers, rest, rows),
+        "orders" => pairs::show_pairs(sheet, alloc, Given::Steps, rest, rows),
+        _ => passes::show_passes(sheet, rt, alloc),
     }
 }

@@ -6,9 +6,8 @@ use conn_machine::{Commanded, Event, Place, Row, Why};
 use file_table::Site;
 use mpm_base::{ConnName, NoMemory};
 use std::alloc::Global;
-use std::io;
 use std::sync::Arc;
-use test_rows::{NumberStream, below, grown, number_of, out_of_memory, small_of, words};
+use test_rows::{NumberStream, Sheet, below, number_of, small_of, words};
 
 /// The most moves of a board.
 const MOVES: u32 = 4_000;
@@ -24,29 +23,34 @@ pub struct LastBoard {
 }
 
 /// Shows what is seen of boards of so many slots, for the seed and the number of calls of each row.
-pub fn show_finds(rt: &impl Print, alloc: Global, slots: &str, rows: &str) -> io::Result<()> {
+pub fn show_finds(
+    sheet: &mut Sheet,
+    alloc: Global,
+    slots: &str,
+    rows: &str,
+) -> Result<(), NoMemory> {
     let site = site_of(alloc)?;
     for row in rows.lines() {
-        let seen = grown(drive(alloc, &site, small_of(slots), row))?;
-        show_seen(rt, row, &seen)?;
+        let seen = drive(alloc, &site, small_of(slots), row)?;
+        show_seen(sheet, row, &seen);
     }
     Ok(())
 }
 
 /// Shows what was seen for the row.
-pub fn show_seen(rt: &impl Print, row: &str, seen: &Seen) -> io::Result<()> {
+pub fn show_seen(sheet: &mut Sheet, row: &str, seen: &Seen) {
     match seen.wrong() {
-        Some(find) => println!(rt; "{row} => {find} answers otherwise")?,
-        None => println!(rt; "{row} => equal behind {} calls", seen.made())?,
+        Some(find) => println!(sheet; "{row} => {find} answers otherwise"),
+        None => println!(sheet; "{row} => equal behind {} calls", seen.made()),
     }
-    seen.show(rt)
+    seen.show(sheet);
 }
 
 /// The site of each connection.
-pub fn site_of(alloc: Global) -> io::Result<Arc<Site>> {
+pub fn site_of(alloc: Global) -> Result<Arc<Site>, NoMemory> {
     match empty_site(alloc) {
         Ok(site) => Ok(Arc::new(alloc, site)?),
-        Err(_) => Err(out_of_memory()),
+        Err(_) => Err(NoMemory),
     }
 }
 

@@ -3,14 +3,13 @@ use crate::driven::{Answer, Driven};
 use crate::editions::known_editions;
 use crate::folds::difference;
 use crate::moves::LastBoard;
-use crate::seen::Seen;
+use crate::seen::{ScriptBoard, Seen};
 use conn_machine::{BoxedShape, Commanded, Edition, Event, Refusal, Why};
 use file_table::Site;
 use mpm_base::{NoMemory, Shape};
 use std::alloc::Global;
-use std::io;
 use std::sync::Arc;
-use test_rows::{grown, number_of, small_of, words};
+use test_rows::{Sheet, number_of, small_of, words};
 
 /// A shape of a new generation, but for its number of workers.
 const SHAPE: Shape = Shape {
@@ -123,25 +122,32 @@ pub fn behind(
 
 /// Shows what the first board answered and knows, and in what it differs from the second one.
 pub fn show_asked(
-    rt: &impl Print,
+    sheet: &mut Sheet,
     alloc: Global,
     row: &str,
     folding: &Asked,
     keeping: &Asked,
-) -> io::Result<()> {
-    let board = folding.last.driven.board();
-    println!(rt; "{row} => {}", answer_word(folding.answer))?;
-    print!(rt;
+) -> Result<(), NoMemory> {
+    println!(sheet; "{row} => {}", answer_word(folding.answer));
+    show_orders(sheet, alloc, folding.last.driven.board())?;
+    let (folds, _) = folding.last.seen.folds();
+    let what = difference(alloc, &folding.last, &keeping.last)?;
+    println!(sheet; ", folded {folds} times: {what} differs");
+    Ok(())
+}
+
+/// Shows what the board knows of orders, and the editions.
+fn show_orders(sheet: &mut Sheet, alloc: Global, board: &ScriptBoard) -> Result<(), NoMemory> {
+    let known = known_editions(alloc, board)?;
+    print!(sheet;
         "orders {}, newest {}, record",
         board.orders(),
         board.state().newest
-    )?;
-    show_editions(rt, board.folded().editions.as_slice())?;
-    print!(rt; ", in use")?;
-    show_editions(rt, grown(known_editions(alloc, board))?.as_slice())?;
-    let (folds, _) = folding.last.seen.folds();
-    let what = difference(alloc, &folding.last, &keeping.last)?;
-    println!(rt; ", folded {folds} times: {what} differs")
+    );
+    show_editions(sheet, board.folded().editions.as_slice());
+    sheet.print(", in use");
+    show_editions(sheet, known.as_slice());
+    Ok(())
 }
 
 /// What the board answered to the last order.
@@ -155,9 +161,8 @@ fn answer_word(answer: Option<Answer>) -> &'static str {
 }
 
 /// Shows each generation with its edition.
-fn show_editions(rt: &impl Print, editions: &[Edition]) -> io::Result<()> {
+fn show_editions(sheet: &mut Sheet, editions: &[Edition]) {
     for edition in editions {
-        print!(rt; " {}:{}", edition.generation, edition.edition)?;
+        print!(sheet; " {}:{}", edition.generation, edition.edition);
     }
-    Ok(())
 }

@@ -5,9 +5,8 @@ use crate::orders::{Asked, behind, show_asked};
 use file_table::Site;
 use mpm_base::NoMemory;
 use std::alloc::Global;
-use std::io;
 use std::sync::Arc;
-use test_rows::{grown, small_of};
+use test_rows::{Sheet, small_of};
 
 /// What a row gives to boards.
 #[derive(Clone, Copy)]
@@ -37,39 +36,44 @@ impl Given {
         }
     }
 
-    /// Shows what came of the first board, and in what it differs from the second one.
-    fn show_both(
+    /// Shows what came of the first board, and in what it differs from the second one; or that one can't go on.
+    fn show_row(
         self,
-        rt: &impl Print,
+        sheet: &mut Sheet,
         alloc: Global,
         row: &str,
-        folding: &Asked,
-        keeping: &Asked,
-    ) -> io::Result<()> {
-        match self {
-            Given::Numbers => show_folded(rt, alloc, row, &folding.last, &keeping.last),
-            Given::Steps => show_asked(rt, alloc, row, folding, keeping),
+        folding: Option<&Asked>,
+        keeping: Option<&Asked>,
+    ) -> Result<(), NoMemory> {
+        match (self, folding, keeping) {
+            (Given::Numbers, Some(folding), Some(keeping)) => {
+                show_folded(sheet, alloc, row, &folding.last, &keeping.last)
+            }
+            (Given::Steps, Some(folding), Some(keeping)) => {
+                show_asked(sheet, alloc, row, folding, keeping)
+            }
+            _ => {
+                println!(sheet; "{row} => a board can't go on");
+                Ok(())
+            }
         }
     }
 }
 
 /// Shows of each row what came of two boards of so many slots to which it is given, and in what they differ.
 pub fn show_pairs(
-    rt: &impl Print,
+    sheet: &mut Sheet,
     alloc: Global,
     given: Given,
     slots: &str,
     rows: &str,
-) -> io::Result<()> {
+) -> Result<(), NoMemory> {
     let site = site_of(alloc)?;
     let slots = small_of(slots);
     for row in rows.lines() {
-        let folding = grown(given.board(alloc, &site, slots, row, true))?;
-        let keeping = grown(given.board(alloc, &site, slots, row, false))?;
-        match (folding, keeping) {
-            (Some(folding), Some(keeping)) => given.show_both(rt, alloc, row, &folding, &keeping)?,
-            _ => println!(rt; "{row} => a board can't go on")?,
-        }
+        let folding = given.board(alloc, &site, slots, row, true)?;
+        let keeping = given.board(alloc, &site, slots, row, false)?;
+        given.show_row(sheet, alloc, row, folding.as_ref(), keeping.as_ref())?;
     }
     Ok(())
 }

@@ -10,10 +10,9 @@ use board_lock::{Pass, Shared, number};
 use conn_machine::{Entry, Event, Reply, may};
 use mpm_base::{NoMemory, Shape};
 use std::alloc::Global;
-use std::io;
 use std::sync::Wait;
 use table_rule::laws::values_stand_for_whole_histories;
-use test_rows::grown;
+use test_rows::Sheet;
 
 const SHAPE: Shape = Shape {
     threads: 2,
@@ -108,30 +107,37 @@ fn is_start(history: &[Entry]) -> bool {
 }
 
 /// Shows what both passes find behind the entry of pass 0.
-pub fn show_passes<R: Print + Wait>(rt: &R, alloc: Global) -> io::Result<()> {
-    match grown(take_turns(rt, alloc))? {
-        Some((started, one, zero)) => {
-            println!(rt; "pass 0 starts the child => {started}")?;
-            println!(rt; "pass 1 finds it => {one}, pass 0 finds it => {zero}")
-        }
-        None => println!(rt; "a pass is missing"),
+pub fn show_passes<R: Wait>(sheet: &mut Sheet, rt: &R, alloc: Global) -> Result<(), NoMemory> {
+    let (shared, mut passes) = opened(alloc)?;
+    match take_turns(rt, &shared, &mut passes) {
+        Some((started, one, zero)) => println!(sheet;
+            "pass 0 starts the child => {started}\npass 1 finds it => {one}, pass 0 finds it => {zero}"
+        ),
+        None => sheet.println("a pass is missing"),
     }
+    Ok(())
 }
 
 /// Pass 0 starts a child: whether it did, and whether pass 1 and pass 0 find that.
-fn take_turns<R: Wait>(rt: &R, alloc: Global) -> Result<Option<(bool, bool, bool)>, NoMemory> {
-    let (shared, mut passes) = opened(alloc)?;
-    let Some(mut one) = last_of(&shared, &mut passes) else {
-        return Ok(None);
-    };
-    let Some(mut zero) = last_of(&shared, &mut passes) else {
-        return Ok(None);
-    };
+fn take_turns<R: Wait>(
+    rt: &R,
+    shared: &Shared<ScriptBoard>,
+    passes: &mut Vec<Pass<ScriptBoard>>,
+) -> Option<(bool, bool, bool)>
+    requires own { (p : ℕ) (pass : _)
+        → slice_get passes.old.items p ≡ Some pass
+        → pass.seat.table_id ≡ shared.now.table.shared.table_id }
+    requires free { (p : ℕ) (pass : _)
+        → slice_get passes.old.items p ≡ Some pass
+        → HasNoTurn pass.seat.me }
+{
+    let mut one = last_of(shared, passes)?;
+    let mut zero = last_of(shared, passes)?;
     if number(&one) != 1 || number(&zero) != 0 {
-        return Ok(None);
+        return None;
     }
-    let started = starts(rt, &shared, &mut zero);
-    let found_by_one = finds(rt, &shared, &mut one);
-    let found_by_zero = finds(rt, &shared, &mut zero);
-    Ok(Some((started, found_by_one, found_by_zero)))
+    let started = starts(rt, shared, &mut zero);
+    let found_by_one = finds(rt, shared, &mut one);
+    let found_by_zero = finds(rt, shared, &mut zero);
+    Some((started, found_by_one, found_by_zero))
 }

@@ -7,7 +7,7 @@ use conn_machine::Event;
 use conn_state::Nothing;
 use mpm_base::ConnName;
 use stand_ins::ScriptLink;
-use std::io;
+use test_rows::Sheet;
 
 /// A board of scripted links.
 pub type ScriptBoard = Board<ScriptLink, Nothing>;
@@ -155,11 +155,11 @@ impl Seen {
     }
 
     /// Shows the counts.
-    pub fn show(&self, rt: &impl Print) -> io::Result<()> {
-        print!(rt; "made:")?;
-        show_counts(rt, &EVENTS, &self.events)?;
-        print!(rt; "found:")?;
-        show_counts(rt, &FINDS, &self.found)
+    pub fn show(&self, sheet: &mut Sheet) {
+        sheet.print("made:");
+        show_counts(sheet, &EVENTS, &self.events);
+        sheet.print("found:");
+        show_counts(sheet, &FINDS, &self.found);
     }
 }
 
@@ -173,11 +173,11 @@ const ROW_FINDS: [RowFind; 5] = [
 ];
 
 /// Shows each count behind its name.
-fn show_counts(rt: &impl Print, names: &[&str], counts: &[u64]) -> io::Result<()> {
+fn show_counts(sheet: &mut Sheet, names: &[&str], counts: &[u64]) {
     for (name, count) in names.iter().zip(counts.iter()) {
-        print!(rt; " {name} {count}")?;
+        print!(sheet; " {name} {count}");
     }
-    println!(rt; "")
+    sheet.println("");
 }
 
 /// Adds one to the count of that place.

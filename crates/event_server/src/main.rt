@@ -66,7 +66,9 @@ fn outcome_of<
 
 /// How the run of the words over these ends. Nothing is let go here, so that what `run` says isn't carried through the ends of them all.
 fn run_over<
-    'a,
+    'd,
+    'f,
+    'c,
     R: Alloc<A = Global>
         + Files
         + Eprint
@@ -82,9 +84,9 @@ fn run_over<
     rt: &R,
     alloc: Global,
     words: &Words,
-    folder: &mut Folder<'a, R>,
-    front: &mut SocketFront<'a, R>,
-    clock: &mut SystemClock<'a, R>,
+    folder: &mut Folder<'d, R>,
+    front: &mut SocketFront<'f, R>,
+    clock: &mut SystemClock<'c, R>,
     output: &mut Output<W>,
 ) -> Outcome<SocketLink> {
     run(rt, alloc, words, folder, front, clock, &OpenGate, output)

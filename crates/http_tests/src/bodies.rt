@@ -2,9 +2,9 @@
 ghost use Rattle.std.specs.Prelude.{◌<◌, ◌≤◌, length};
 
 use http_read::{BodyAnswer, BodyKind, BodyReader};
+use mpm_base::NoMemory;
 use std::alloc::Global;
-use std::io;
-use test_rows::{Marks, grown, number_of, text_of, words};
+use test_rows::{Marks, Sheet, number_of, text_of, words};
 
 /// Reads the text as it comes: first so many bytes of it, then piece by piece. Answers as one call that got all of it would.
 fn read_cut(kind: BodyKind, text: &[u8], first: usize, piece: usize) -> BodyAnswer
@@ -37,55 +37,67 @@ fn kind_of(text: &str) -> BodyKind {
 
 /// Shows the answer to each body, and each other one that it has byte by byte, in pieces of seven bytes, or cut behind one of its
 /// last 64 bytes.
-pub fn show_bodies(rt: &impl Print, alloc: Global, kind: &str, rows: &str) -> io::Result<()> {
+pub fn show_bodies(
+    sheet: &mut Sheet,
+    alloc: Global,
+    kind: &str,
+    rows: &str,
+) -> Result<(), NoMemory> {
     let kind = kind_of(kind);
     for row in rows.lines() {
-        let text = grown(text_of(alloc, row, Marks::Heads))?;
-        let bytes = text.as_slice();
-        let answer = read_cut(kind, bytes, bytes.len(), 1);
-        println!(rt; "{row} => {answer:?}")?;
-        show_other(rt, answer, read_cut(kind, bytes, 0, 1), 0)?;
-        show_other(rt, answer, read_cut(kind, bytes, 3, 7), 3)?;
-        show_cuts(rt, kind, bytes, answer)?;
+        let text = text_of(alloc, row, Marks::Heads)?;
+        show_body(sheet, kind, row, text.as_slice());
     }
     Ok(())
+}
+
+/// Shows that of the body of the row.
+fn show_body(sheet: &mut Sheet, kind: BodyKind, row: &str, text: &[u8]) {
+    let answer = read_cut(kind, text, text.len(), 1);
+    println!(sheet; "{row} => {answer:?}");
+    show_other(sheet, answer, read_cut(kind, text, 0, 1), 0);
+    show_other(sheet, answer, read_cut(kind, text, 3, 7), 3);
+    show_cuts(sheet, kind, text, answer);
 }
 
 /// Shows each other answer that the body has where it is cut behind one of its last 64 bytes.
-fn show_cuts(rt: &impl Print, kind: BodyKind, text: &[u8], answer: BodyAnswer) -> io::Result<()> {
+fn show_cuts(sheet: &mut Sheet, kind: BodyKind, text: &[u8], answer: BodyAnswer) {
     let near = text.len() - text.len().min(64);
     for cut in near..text.len() {
-        show_other(rt, answer, read_cut(kind, text, cut, 16384), cut)?;
+        show_other(sheet, answer, read_cut(kind, text, cut, 16384), cut);
     }
-    Ok(())
 }
 
 /// Shows the answer where it isn't that one.
-fn show_other(
-    rt: &impl Print,
-    answer: BodyAnswer,
-    found: BodyAnswer,
-    cut: usize,
-) -> io::Result<()> {
-    if found == answer {
-        return Ok(());
+fn show_other(sheet: &mut Sheet, answer: BodyAnswer, found: BodyAnswer, cut: usize) {
+    if found != answer {
+        println!(sheet; "but {found:?} where it is cut behind {cut}");
     }
-    println!(rt; "but {found:?} where it is cut behind {cut}")
 }
 
 /// Shows the last answer to bodies of a gibibyte, and how each of them begins.
-pub fn show_gibibyte(rt: &impl Print, alloc: Global, rows: &str) -> io::Result<()> {
-    let piece = grown(text_of(alloc, "`4096 0123456789abcdef`", Marks::Heads))?;
-    let bytes = piece.as_slice();
+pub fn show_gibibyte(sheet: &mut Sheet, alloc: Global, rows: &str) -> Result<(), NoMemory> {
+    let piece = text_of(alloc, "`4096 0123456789abcdef`", Marks::Heads)?;
     for row in rows.lines() {
         let (kind, front) = row.split_once(": ").unwrap_or((row, ""));
-        let front = grown(text_of(alloc, front, Marks::Heads))?;
-        if front.len() <= bytes.len() {
-            let answer = read_many(kind_of(kind), front.as_slice(), bytes, 16383);
-            println!(rt; "{row} => {answer:?}")?;
-        }
+        let front = text_of(alloc, front, Marks::Heads)?;
+        show_many(
+            sheet,
+            row,
+            kind_of(kind),
+            front.as_slice(),
+            piece.as_slice(),
+        );
     }
     Ok(())
+}
+
+/// Shows the last answer to a body of a gibibyte that begins with the front, where that is no longer than the piece.
+fn show_many(sheet: &mut Sheet, row: &str, kind: BodyKind, front: &[u8], piece: &[u8]) {
+    if front.len() <= piece.len() {
+        let answer = read_many(kind, front, piece, 16383);
+        println!(sheet; "{row} => {answer:?}");
+    }
 }
 
 /// The last answer, where the front is followed by so many pieces and one more.
@@ -126,10 +138,10 @@ fn looked_at(text: &[u8]) -> usize {
 }
 
 /// Shows how many bytes are looked at of each chunked body, and how many it has.
-pub fn show_looks(rt: &impl Print, alloc: Global, rows: &str) -> io::Result<()> {
+pub fn show_looks(sheet: &mut Sheet, alloc: Global, rows: &str) -> Result<(), NoMemory> {
     for row in rows.lines() {
-        let text = grown(text_of(alloc, row, Marks::Heads))?;
-        println!(rt; "{row} => {} of {}", looked_at(text.as_slice()), text.len())?;
+        let text = text_of(alloc, row, Marks::Heads)?;
+        println!(sheet; "{row} => {} of {}", looked_at(text.as_slice()), text.len());
     }
     Ok(())
 }

@@ -9,10 +9,9 @@ use file_table::Site;
 use mpm_base::{Cause, LinkCall, NoMemory, Octets, Tail};
 use stand_ins::{Calls, ScriptLink, Wire};
 use std::alloc::Global;
-use std::io::{self, ErrorKind};
 use std::str;
 use std::sync::Arc;
-use test_rows::{Marks, grown, number_of, out_of_memory, text_of, words};
+use test_rows::{Marks, Sheet, number_of, text_of, words};
 
 /// The second of the example in RFC 9110, section 5.6.7.
 pub const SECOND: u64 = 784_111_777;
@@ -35,85 +34,82 @@ pub fn conn_of(
     site: &Arc<Site>,
     text: &[u8],
     wire: &Arc<Wire>,
-) -> io::Result<TestConn<ScriptLink>> {
+) -> Result<TestConn<ScriptLink>, NoMemory> {
     let theirs = Arc::try_clone(wire)?;
     let ours = Arc::try_clone(site)?;
-    match link_of(alloc, text, theirs) {
-        Ok(link) => Ok(TestConn::new(alloc, ours, link)),
-        Err(NoMemory) => Err(out_of_memory()),
-    }
+    let link = link_of(alloc, text, theirs)?;
+    Ok(TestConn::new(alloc, ours, link))
 }
 
 /// The site of each connection.
-pub fn site_of(alloc: Global) -> io::Result<Arc<Site>> {
+pub fn site_of(alloc: Global) -> Result<Arc<Site>, NoMemory> {
     match digits_site(alloc) {
         Ok(site) => Ok(Arc::new(alloc, site)?),
-        Err(_) => Err(out_of_memory()),
+        Err(_) => Err(NoMemory),
     }
 }
 
 /// Shows what comes of each row of turns of a client that sends the text of the first row.
-pub fn show_turns(rt: &impl Print, alloc: Global, rows: &str) -> io::Result<()> {
+pub fn show_turns(sheet: &mut Sheet, alloc: Global, rows: &str) -> Result<(), NoMemory> {
     let site = site_of(alloc)?;
     let mut rows = rows.lines();
-    let text = grown(text_of(alloc, rows.next().unwrap_or(""), Marks::Heads))?;
+    let text = text_of(alloc, rows.next().unwrap_or(""), Marks::Heads)?;
     for row in rows {
-        show_row(rt, alloc, &site, text.as_slice(), row)?;
+        show_row(sheet, alloc, &site, text.as_slice(), row)?;
     }
     Ok(())
 }
 
 /// Shows what comes of the row of turns of a client that sends the text.
 fn show_row(
-    rt: &impl Print,
+    sheet: &mut Sheet,
     alloc: Global,
     site: &Arc<Site>,
     text: &[u8],
     row: &str,
-) -> io::Result<()> {
+) -> Result<(), NoMemory> {
+    let (turns, end) = row.rsplit_once("; ").unwrap_or(("", row));
     let wire = Arc::new(alloc, Wire::make())?;
-    let conn = conn_of(alloc, site, text, &wire)?;
-    show_conn(rt, &wire, conn, row)
+    let mut conn = conn_of(alloc, site, text, &wire)?;
+    show_each(sheet, &wire, &mut conn, turns);
+    let ended = end_as(conn, end);
+    show_end(sheet, ended.as_ref(), end);
+    Ok(())
 }
 
-/// Shows what each turn of the connection answers, and how it ends.
-fn show_conn(
-    rt: &impl Print,
-    wire: &Wire,
-    mut conn: TestConn<ScriptLink>,
-    row: &str,
-) -> io::Result<()> {
-    let (turns, end) = row.rsplit_once("; ").unwrap_or(("", row));
+/// Shows what each turn of the connection answers.
+fn show_each(sheet: &mut Sheet, wire: &Wire, conn: &mut TestConn<ScriptLink>, turns: &str) {
     for turn in turns.split("; ") {
-        show_turn(rt, wire, &mut conn, turn)?;
+        show_turn(sheet, wire, conn, turn);
     }
+}
+
+/// Ends the connection as the words say; none where it may not be ended so.
+fn end_as(conn: TestConn<ScriptLink>, end: &str) -> Option<Ended<ScriptLink>> {
     let (_, names) = words(end);
     let (cause, tail) = words(names);
-    match conn.end(cause_named(cause), tail_named(tail)) {
-        Some(ended) => show_ended(rt, &ended),
-        None => println!(rt; "{end} => may not be"),
+    conn.end(cause_named(cause), tail_named(tail))
+}
+
+/// Shows what came of a connection that was to be ended so.
+fn show_end(sheet: &mut Sheet, ended: Option<&Ended<ScriptLink>>, end: &str) {
+    match ended {
+        Some(ended) => show_ended(sheet, ended),
+        None => println!(sheet; "{end} => may not be"),
     }
 }
 
 /// Shows what a turn of the connection answers, or does what the word says of its link.
-fn show_turn(
-    rt: &impl Print,
-    wire: &Wire,
-    conn: &mut TestConn<ScriptLink>,
-    turn: &str,
-) -> io::Result<()> {
+fn show_turn(sheet: &mut Sheet, wire: &Wire, conn: &mut TestConn<ScriptLink>, turn: &str) {
     let (word, rest) = words(turn);
     match word {
-        "show" => conn.show(rt),
-        "brings" | "ends" | "allows" | "fails" => {
-            pace(wire, word, rest);
-            Ok(())
-        }
+        "show" => conn.show(sheet),
+        "brings" | "ends" | "allows" | "fails" => pace(wire, word, rest),
         _ => {
             if make_turn(conn, word, rest) {
-                println!(rt; "{turn} => {:?}, {:?}", conn.turn(), conn.linger())
+                println!(sheet; "{turn} => {:?}, {:?}", conn.turn(), conn.linger());
             } else {
-                println!(rt; "{turn} => may not be")
+                println!(sheet; "{turn} => may not be");
             }
         }
     }
@@ -144,89 +140,104 @@ fn make_turn(conn: &mut TestConn<ScriptLink>, word: &str, rest: &str) -> bool {
 }
 
 /// Shows what came of a connection.
-fn show_ended(rt: &impl Print, ended: &Ended<ScriptLink>) -> io::Result<()> {
+fn show_ended(sheet: &mut Sheet, ended: &Ended<ScriptLink>) {
     let link = &ended.link;
     let notes = ended.notes.len();
-    print!(rt; "{:?} {:?}, {notes} notes", ended.cause, ended.tail)?;
-    show_bytes(rt, ", sent", link.sent())?;
-    show_bytes(rt, ", left", link.left())?;
-    println!(rt;
+    print!(sheet; "{:?} {:?}, {notes} notes", ended.cause, ended.tail);
+    show_bytes(sheet, ", sent", link.sent());
+    show_bytes(sheet, ", left", link.left());
+    println!(sheet;
         ", {} shuts, {} closes, {} faults",
         link.shuts(),
         link.closes(),
         link.faults()
-    )
+    );
 }
 
-/// Prints the bytes under the name, in the same line; of more than 600 their number.
-pub fn show_bytes(rt: &impl Print, name: &str, bytes: &[u8]) -> io::Result<()> {
+/// Shows the bytes under the name, in the same line; of more than 600 their number.
+pub fn show_bytes(sheet: &mut Sheet, name: &str, bytes: &[u8]) {
     match str::from_utf8(bytes) {
-        Ok(text) if bytes.len() <= 600 => print!(rt; "{name} {text:?}"),
-        _ => print!(rt; "{name} {} bytes", bytes.len()),
+        Ok(text) if bytes.len() <= 600 => print!(sheet; "{name} {text:?}"),
+        _ => print!(sheet; "{name} {} bytes", bytes.len()),
     }
 }
 
 /// Shows what comes of each client, and what else comes of it where its bytes are cut behind one of them: so many come first.
-pub fn show_cuts(rt: &impl Print, alloc: Global, rows: &str) -> io::Result<()> {
+pub fn show_cuts(sheet: &mut Sheet, alloc: Global, rows: &str) -> Result<(), NoMemory> {
     let site = site_of(alloc)?;
     for row in rows.lines() {
-        show_client(rt, alloc, &site, row)?;
+        let text = text_of(alloc, row, Marks::Heads)?;
+        print!(sheet; "{row} => ");
+        show_client(sheet, alloc, &site, text.as_slice())?;
     }
     Ok(())
 }
 
-/// Shows what comes of the client of the row, and what else comes of it where its bytes are cut.
-fn show_client(rt: &impl Print, alloc: Global, site: &Arc<Site>, row: &str) -> io::Result<()> {
-    let text = grown(text_of(alloc, row, Marks::Heads))?;
-    let whole = talk_cut(alloc, site, text.as_slice(), 0)?;
-    print!(rt; "{row} => ")?;
-    show_ended(rt, &whole)?;
-    show_others(rt, alloc, site, text.as_slice(), &whole)
+/// Shows what comes of the client of that text, and what else comes of it where its bytes are cut.
+fn show_client(
+    sheet: &mut Sheet,
+    alloc: Global,
+    site: &Arc<Site>,
+    text: &[u8],
+) -> Result<(), NoMemory> {
+    let whole = talk_cut(alloc, site, text, 0)?;
+    show_talk(sheet, whole.as_ref());
+    show_others(sheet, alloc, site, text, whole.as_ref())
 }
 
 /// Shows what else than the whole comes of the client of that text where its bytes are cut.
 fn show_others(
-    rt: &impl Print,
+    sheet: &mut Sheet,
     alloc: Global,
     site: &Arc<Site>,
     text: &[u8],
-    whole: &Ended<ScriptLink>,
-) -> io::Result<()> {
+    whole: Option<&Ended<ScriptLink>>,
+) -> Result<(), NoMemory> {
     for count in 1..text.len() {
-        show_cut(rt, alloc, site, text, count, whole)?;
+        let ended = talk_cut(alloc, site, text, count)?;
+        show_cut(sheet, count, ended.as_ref(), whole);
     }
     Ok(())
 }
 
-/// Shows what comes of the client of that text where so many bytes come first, if it is something else than the whole.
+/// Shows what comes of a client of whose text so many bytes come first, if it is something else than the whole.
 fn show_cut(
-    rt: &impl Print,
-    alloc: Global,
-    site: &Arc<Site>,
-    text: &[u8],
+    sheet: &mut Sheet,
     count: usize,
-    whole: &Ended<ScriptLink>,
-) -> io::Result<()> {
-    let ended = talk_cut(alloc, site, text, count)?;
-    if differ(&ended, whole) {
-        print!(rt; "but {count} => ")?;
-        show_ended(rt, &ended)?;
+    ended: Option<&Ended<ScriptLink>>,
+    whole: Option<&Ended<ScriptLink>>,
+) {
+    if differ(ended, whole) {
+        print!(sheet; "but {count} => ");
+        show_talk(sheet, ended);
     }
-    Ok(())
+}
+
+/// Shows what came of a connection, or that it might not be ended.
+fn show_talk(sheet: &mut Sheet, ended: Option<&Ended<ScriptLink>>) {
+    match ended {
+        Some(ended) => show_ended(sheet, ended),
+        None => sheet.println("may not be"),
+    }
 }
 
 /// Whether the two connections sent other bytes, or ended for other causes.
-fn differ(one: &Ended<ScriptLink>, other: &Ended<ScriptLink>) -> bool {
-    one.link.sent() != other.link.sent() || one.cause != other.cause
+fn differ(one: Option<&Ended<ScriptLink>>, other: Option<&Ended<ScriptLink>>) -> bool {
+    match (one, other) {
+        (Some(one), Some(other)) => {
+            one.link.sent() != other.link.sent() || one.cause != other.cause
+        }
+        _ => one.is_some() != other.is_some(),
+    }
 }
 
-/// What comes of a client of whose text so many bytes come first, and then the others and the end.
+/// What comes of a client of whose text so many bytes come first, and then the others and the end; none where it may not be ended.
 fn talk_cut(
     alloc: Global,
     site: &Arc<Site>,
     text: &[u8],
     count: usize,
-) -> io::Result<Ended<ScriptLink>> {
+) -> Result<Option<Ended<ScriptLink>>, NoMemory> {
     let wire = Arc::new(alloc, Wire::make())?;
     let mut conn = conn_of(alloc, site, text, &wire)?;
     wire.bring(count as u64);
@@ -235,10 +246,7 @@ fn talk_cut(
     wire.end();
     let _ = conn.talk(SECOND);
     let cause = cause_after(conn.turn());
-    match conn.end(cause, Tail::Direct) {
-        Some(ended) => Ok(ended),
-        None => Err(io::Error::from(ErrorKind::Other)),
-    }
+    Ok(conn.end(cause, Tail::Direct))
 }
 
 /// For what a connection ends whose last turn answered so.

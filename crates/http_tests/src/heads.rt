@@ -2,9 +2,9 @@
 ghost use Rattle.std.specs.Prelude.{◌<◌, length};
 
 use http_read::{HeadAnswer, HeadReader, Limits, Request, next_head};
+use mpm_base::NoMemory;
 use std::alloc::Global;
-use std::io;
-use test_rows::{Marks, grown, small_of, text_of};
+use test_rows::{Marks, Sheet, small_of, text_of};
 
 /// The limits that the server has by default.
 pub const LIMITS: Limits = Limits {
@@ -38,33 +38,40 @@ fn limits_of(text: &str) -> Limits {
 
 /// Shows the code of each head, behind how many bytes it is there where they come one by one, how many bytes are looked at then,
 /// and the code then where it is another one.
-pub fn show_heads(rt: &impl Print, alloc: Global, limits: &str, rows: &str) -> io::Result<()> {
+pub fn show_heads(
+    sheet: &mut Sheet,
+    alloc: Global,
+    limits: &str,
+    rows: &str,
+) -> Result<(), NoMemory> {
     let limits = limits_of(limits);
     for row in rows.lines() {
-        let text = grown(text_of(alloc, row, Marks::Heads))?;
-        show_head(rt, alloc, row, limits, text.as_slice())?;
+        let text = text_of(alloc, row, Marks::Heads)?;
+        show_head(sheet, alloc, row, limits, text.as_slice());
     }
     Ok(())
 }
 
 /// Shows that of the head.
-fn show_head(
-    rt: &impl Print,
-    alloc: Global,
-    row: &str,
-    limits: Limits,
-    text: &[u8],
-) -> io::Result<()> {
+fn show_head(sheet: &mut Sheet, alloc: Global, row: &str, limits: Limits, text: &[u8]) {
     let code = code_of(&next_head(alloc, text, &limits));
-    print!(rt; "{row} => {code}")?;
+    print!(sheet; "{row} => {code}");
     if text.len() < 1_000_000 {
-        let (answer, end, looks) = read_by_byte(alloc, limits, text);
-        print!(rt; " behind {end} of {}, {looks} looked at", text.len())?;
-        if code_of(&answer) != code {
-            print!(rt; ", but {}", code_of(&answer))?;
-        }
+        show_by_byte(sheet, alloc, limits, text, code);
     }
-    println!(rt; "")
+    sheet.println("");
+}
+
+/// Shows the same where the bytes come one by one, and the code then where it is another one.
+fn show_by_byte(sheet: &mut Sheet, alloc: Global, limits: Limits, text: &[u8], code: u16)
+    requires { length text.now < 1000000 }
+{
+    let (answer, end, looks) = read_by_byte(alloc, limits, text);
+    print!(sheet; " behind {end} of {}, {looks} looked at", text.len());
+    let found = code_of(&answer);
+    if found != code {
+        print!(sheet; ", but {found}");
+    }
 }
 
 /// The answer to bytes that come one by one, how many there were then, and how many of them were looked at.
@@ -87,46 +94,50 @@ fn read_by_byte(alloc: Global, limits: Limits, text: &[u8]) -> (HeadAnswer, usiz
 }
 
 /// Shows what each head asks.
-pub fn show_requests(rt: &impl Print, alloc: Global, rows: &str) -> io::Result<()> {
+pub fn show_requests(sheet: &mut Sheet, alloc: Global, rows: &str) -> Result<(), NoMemory> {
     for row in rows.lines() {
-        let text = grown(text_of(alloc, row, Marks::Heads))?;
-        match next_head(alloc, text.as_slice(), &LIMITS) {
-            HeadAnswer::Whole(request, length) => {
-                println!(rt; "{row} => {length} of {}", text.len())?;
-                show_request(rt, alloc, &request)?;
-            }
-            answer => println!(rt; "{row} => {}", code_of(&answer))?,
-        }
+        let text = text_of(alloc, row, Marks::Heads)?;
+        show_asked(sheet, alloc, row, text.as_slice());
     }
     Ok(())
 }
 
+/// Shows what the head of the row asks.
+fn show_asked(sheet: &mut Sheet, alloc: Global, row: &str, text: &[u8]) {
+    match next_head(alloc, text, &LIMITS) {
+        HeadAnswer::Whole(request, length) => {
+            println!(sheet; "{row} => {length} of {}", text.len());
+            show_request(sheet, &request);
+        }
+        answer => println!(sheet; "{row} => {}", code_of(&answer)),
+    }
+}
+
 /// Shows what the request asks.
-fn show_request(rt: &impl Print, alloc: Global, request: &Request) -> io::Result<()> {
-    let method = String::from_utf8_lossy(alloc, request.method())?;
-    let target = String::from_utf8_lossy(alloc, request.target())?;
-    let host = String::from_utf8_lossy(alloc, request.host())?;
-    let range = String::from_utf8_lossy(alloc, request.range().unwrap_or(b"-"))?;
-    print!(rt;
-        "{method} {target} 1.{} of {host}, range {range}",
-        request.minor()
-    )?;
-    println!(rt;
+fn show_request(sheet: &mut Sheet, request: &Request) {
+    sheet.text(request.method());
+    sheet.print(" ");
+    sheet.text(request.target());
+    print!(sheet; " 1.{} of ", request.minor());
+    sheet.text(request.host());
+    sheet.print(", range ");
+    sheet.text(request.range().unwrap_or(b"-"));
+    println!(sheet;
         ", close {}, expects {}, {:?}",
         request.asked_close(),
         request.expects(),
         request.body()
-    )
+    );
 }
 
 /// Shows which bytes a host may have in its midst, and the codes of the others.
-pub fn show_hosts(rt: &impl Print, alloc: Global) -> io::Result<()> {
+pub fn show_hosts(sheet: &mut Sheet, alloc: Global) -> Result<(), NoMemory> {
     for byte in 0..=255u8 {
-        let mut text = grown(text_of(alloc, "GET / HTTP/1.1|Host: a", Marks::Heads))?;
-        grown(text.add(&[byte]))?;
-        grown(text.add(b"b\r\n\r\n"))?;
+        let mut text = text_of(alloc, "GET / HTTP/1.1|Host: a", Marks::Heads)?;
+        text.add(&[byte])?;
+        text.add(b"b\r\n\r\n")?;
         let code = code_of(&next_head(alloc, text.as_slice(), &LIMITS));
-        println!(rt; "{byte} => {code}")?;
+        println!(sheet; "{byte} => {code}");
     }
     Ok(())
 }

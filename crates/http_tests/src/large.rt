@@ -9,9 +9,8 @@ use file_table::Site;
 use mpm_base::{Cause, NoMemory, Octets, Tail};
 use stand_ins::{ScriptLink, Wire};
 use std::alloc::Global;
-use std::io;
 use std::sync::Arc;
-use test_rows::{Marks, grown, number_of, out_of_memory, text_of, words};
+use test_rows::{Marks, Sheet, number_of, text_of, words};
 
 /// The request for the large file.
 const REQUEST: &[u8] = b"GET /large.bin HTTP/1.1\r\nHost: a\r\n\r\n";
@@ -20,42 +19,47 @@ const REQUEST: &[u8] = b"GET /large.bin HTTP/1.1\r\nHost: a\r\n\r\n";
 const MOST_TURNS: u64 = 1_000_000;
 
 /// Shows what comes of each client that sends a front, a unit so many times, and a back.
-pub fn show_long(rt: &impl Print, alloc: Global, rows: &str) -> io::Result<()> {
+pub fn show_long(sheet: &mut Sheet, alloc: Global, rows: &str) -> Result<(), NoMemory> {
     let site = site_of(alloc)?;
     for row in rows.lines() {
-        let link = grown(long_link_of(alloc, row))?;
-        let mut conn = TestConn::new(alloc, Arc::try_clone(&site)?, link);
-        let _ = conn.talk(SECOND);
-        let cause = cause_after(conn.turn());
-        print!(rt; "{row} => ")?;
-        match conn.end(cause, Tail::Direct) {
-            Some(ended) => show_end(rt, &ended)?,
-            None => println!(rt; "may not be")?,
-        }
+        let link = long_link_of(alloc, row)?;
+        let conn = TestConn::new(alloc, Arc::try_clone(&site)?, link);
+        print!(sheet; "{row} => ");
+        show_talk(sheet, conn);
     }
     Ok(())
 }
 
+/// Shows what comes of a connection whose client sends all at once.
+fn show_talk(sheet: &mut Sheet, mut conn: TestConn<LongLink>) {
+    let _ = conn.talk(SECOND);
+    let cause = cause_after(conn.turn());
+    let ended = conn.end(cause, Tail::Direct);
+    show_end(sheet, ended.as_ref());
+}
+
 /// Shows by which calls of its link each file goes out to the client of the first row, which asks for it, and then sends until
 /// no more is dropped.
-pub fn show_calls(rt: &impl Print, alloc: Global, rows: &str) -> io::Result<()> {
+pub fn show_calls(sheet: &mut Sheet, alloc: Global, rows: &str) -> Result<(), NoMemory> {
     let mut rows = rows.lines();
     let client = rows.next().unwrap_or("");
     for row in rows {
-        let file = grown(text_of(alloc, row, Marks::Heads))?;
+        let file = text_of(alloc, row, Marks::Heads)?;
         let site = site_of_file(alloc, &file)?;
-        let link = grown(long_link_of(alloc, client))?;
-        let mut conn = TestConn::new(alloc, site, link);
-        let _ = conn.talk(SECOND);
-        let _ = conn.shut();
-        let _ = conn.drop_rest();
-        print!(rt; "{row} => ")?;
-        match conn.end(Cause::LastSent, Tail::Sated) {
-            Some(ended) => show_end(rt, &ended)?,
-            None => println!(rt; "may not be")?,
-        }
+        let link = long_link_of(alloc, client)?;
+        print!(sheet; "{row} => ");
+        show_lingering(sheet, TestConn::new(alloc, site, link));
     }
     Ok(())
+}
+
+/// Shows what comes of a connection that is half-closed behind its last response, and of which then no more is dropped.
+fn show_lingering(sheet: &mut Sheet, mut conn: TestConn<LongLink>) {
+    let _ = conn.talk(SECOND);
+    let _ = conn.shut();
+    let _ = conn.drop_rest();
+    let ended = conn.end(Cause::LastSent, Tail::Sated);
+    show_end(sheet, ended.as_ref());
 }
 
 /// The link of the client of the row.
@@ -70,39 +74,54 @@ fn long_link_of(alloc: Global, row: &str) -> Result<LongLink, NoMemory> {
 }
 
 /// Shows what came of a connection over such a link, and how the link was called.
-fn show_end(rt: &impl Print, ended: &Ended<LongLink>) -> io::Result<()> {
+fn show_end(sheet: &mut Sheet, ended: Option<&Ended<LongLink>>) {
+    let Some(ended) = ended else {
+        return sheet.println("may not be");
+    };
     let notes = ended.notes.len();
-    print!(rt; "{:?} {:?}, {notes} notes", ended.cause, ended.tail)?;
-    show_bytes(rt, ", sent", ended.link.sent())?;
-    show_use(rt, ended.link.calls())
+    print!(sheet; "{:?} {:?}, {notes} notes", ended.cause, ended.tail);
+    show_bytes(sheet, ", sent", ended.link.sent());
+    show_use(sheet, ended.link.calls());
 }
 
 /// Shows how a link was called.
-fn show_use(rt: &impl Print, calls: LinkUse) -> io::Result<()> {
+fn show_use(sheet: &mut Sheet, calls: LinkUse) {
     let LinkUse {
         reads,
         room,
         writes,
     } = calls;
-    println!(rt; ", {writes} writes, {reads} reads of {room} bytes at most")
+    println!(sheet; ", {writes} writes, {reads} reads of {room} bytes at most");
 }
 
 /// Shows what comes of each client that asks for a file of so many bytes, and whose link has room for so many bytes in each turn.
-pub fn show_slow(rt: &impl Print, alloc: Global, rows: &str) -> io::Result<()> {
+pub fn show_slow(sheet: &mut Sheet, alloc: Global, rows: &str) -> Result<(), NoMemory> {
     for row in rows.lines() {
         let (size, room) = words(row);
-        let file = grown(large_file(alloc, number_of(size)))?;
+        let file = large_file(alloc, number_of(size))?;
         let site = site_of_file(alloc, &file)?;
         let wire = Arc::new(alloc, Wire::make())?;
-        let mut conn = conn_of(alloc, &site, REQUEST, &wire)?;
-        let turns = send_slowly(&mut conn, &wire, number_of(room));
-        print!(rt; "{row} => {turns} turns, {:?}", conn.turn())?;
-        match conn.end(Cause::Stopped, Tail::Direct) {
-            Some(ended) => show_sent(rt, &ended, &file)?,
-            None => println!(rt; ", may not be")?,
-        }
+        let conn = conn_of(alloc, &site, REQUEST, &wire)?;
+        print!(sheet; "{row} => ");
+        show_turns(sheet, conn, &wire, number_of(room), &file);
     }
     Ok(())
+}
+
+/// Shows in how many turns the connection sends the file, and what it sent.
+fn show_turns(
+    sheet: &mut Sheet,
+    mut conn: TestConn<ScriptLink>,
+    wire: &Wire,
+    room: u64,
+    file: &Octets,
+) {
+    let turns = send_slowly(&mut conn, wire, room);
+    print!(sheet; "{turns} turns, {:?}", conn.turn());
+    match conn.end(Cause::Stopped, Tail::Direct) {
+        Some(ended) => show_sent(sheet, &ended, file),
+        None => println!(sheet; ", may not be"),
+    }
 }
 
 /// A file of so many bytes, at most 4,095 more.
@@ -116,10 +135,10 @@ fn large_file(alloc: Global, size: u64) -> Result<Octets, NoMemory> {
 }
 
 /// A site of the file.
-fn site_of_file(alloc: Global, file: &Octets) -> io::Result<Arc<Site>> {
+fn site_of_file(alloc: Global, file: &Octets) -> Result<Arc<Site>, NoMemory> {
     match large_site(alloc, file.as_slice()) {
         Ok(site) => Ok(Arc::new(alloc, site)?),
-        Err(_) => Err(out_of_memory()),
+        Err(_) => Err(NoMemory),
     }
 }
 
@@ -139,10 +158,10 @@ fn send_slowly(conn: &mut TestConn<ScriptLink>, wire: &Wire, room: u64) -> u64 {
 }
 
 /// Shows the head that was sent, how many bytes were, and whether they end with the file.
-fn show_sent(rt: &impl Print, ended: &Ended<ScriptLink>, file: &Octets) -> io::Result<()> {
+fn show_sent(sheet: &mut Sheet, ended: &Ended<ScriptLink>, file: &Octets) {
     let sent = ended.link.sent();
     let head = sent.len() - sent.len().min(file.len());
-    show_bytes(rt, ", head", &sent[..head])?;
+    show_bytes(sheet, ", head", &sent[..head]);
     let is_sent = sent.ends_with(file.as_slice());
-    println!(rt; ", sent {} bytes, the file is sent: {is_sent}", sent.len())
+    println!(sheet; ", sent {} bytes, the file is sent: {is_sent}", sent.len());
 }

@@ -27,37 +27,46 @@ mod responses;
 mod test_conn;
 mod turn_answers;
 
+use mpm_base::NoMemory;
 use std::alloc::Global;
 use std::io;
-use test_rows::{Section, begin_section, sections_of};
+use test_rows::{Section, Sheet, grown, open_section, sections_of};
 
 fn main(rt: HostRuntime) -> io::Result<()> {
     let input = io::read_to_string(rt.alloc(), rt.reader())?;
     for text in sections_of(input.as_str()) {
-        let section = begin_section(&rt, text)?;
-        show_section(&rt, rt.alloc(), section)?;
+        let sheet = grown(sheet_of(rt.alloc(), text))?;
+        sheet.show(&rt)?;
     }
     Ok(())
 }
 
+/// What comes of the section of this text.
+fn sheet_of(alloc: Global, text: &str) -> Result<Sheet, NoMemory> {
+    let mut sheet = Sheet::make(alloc);
+    let section = open_section(&mut sheet, text);
+    show_section(&mut sheet, alloc, section)?;
+    Ok(sheet)
+}
+
 /// Shows what comes of the rows of the section.
-fn show_section(rt: &impl Print, alloc: Global, section: Section<'_>) -> io::Result<()> {
+fn show_section(sheet: &mut Sheet, alloc: Global, section: Section<'_>) -> Result<(), NoMemory> {
     let Section { word, rest, rows } = section;
     match word {
-        "body" if rest == "looks" => bodies::show_looks(rt, alloc, rows),
-        "body" => bodies::show_bodies(rt, alloc, rest, rows),
-        "gibibyte" => bodies::show_gibibyte(rt, alloc, rows),
-        "heads" => heads::show_heads(rt, alloc, rest, rows),
-        "requests" => heads::show_requests(rt, alloc, rows),
-        "hosts" => heads::show_hosts(rt, alloc),
-        "answers" => responses::show_answers(rt, alloc, rest, rows),
-        "refusals" => responses::show_refusals(rt, alloc, rows),
-        "continue" => responses::show_continue(rt, alloc),
-        "conn" => conns::show_turns(rt, alloc, rows),
-        "cuts" => conns::show_cuts(rt, alloc, rows),
-        "long" => large::show_long(rt, alloc, rows),
-        "calls" => large::show_calls(rt, alloc, rows),
-        "slow" => large::show_slow(rt, alloc, rows),
-        _ => pages::show_pages(rt, alloc, rows),
+        "body" if rest == "looks" => bodies::show_looks(sheet, alloc, rows),
+        "body" => bodies::show_bodies(sheet, alloc, rest, rows),
+        "gibibyte" => bodies::show_gibibyte(sheet, alloc, rows),
+        "heads" => heads::show_heads(sheet, alloc, rest, rows),
+        "requests" => heads::show_requests(sheet, alloc, rows),
+        "hosts" => heads::show_hosts(sheet, alloc),
+        "answers" => responses::show_answers(sheet, alloc, rest, rows),
+        "refusals" => responses::show_refusals(sheet, alloc, rows),
+        "continue" => responses::show_continue(sheet, alloc),
+        "conn" => conns::show_turns(sheet, alloc, rows),
+        "cuts" => conns::show_cuts(sheet, alloc, rows),
+        "long" => large::show_long(sheet, alloc, rows),
+        "calls" => large::show_calls(sheet, alloc, rows),
+        "slow" => large::show_slow(sheet, alloc, rows),
+        _ => pages::show_pages(sheet, alloc, rows),
     }
 }

@@ -4,18 +4,18 @@ ghost use Rattle.std.specs.Prelude.{◌≡◌, IfOk, is_some};
 use mpm_base::{NoMemory, Octets, Page, Snapshot};
 use scoreboard::{page_auto, page_html};
 use std::alloc::Global;
-use std::io;
-use test_rows::{grown, small_of};
+use std::str::Split;
+use test_rows::{Sheet, small_of};
 
 /// Shows both pages of each snapshot, and how many bytes they have.
-pub fn show_pages(rt: &impl Print, alloc: Global, rows: &str) -> io::Result<()> {
+pub fn show_pages(sheet: &mut Sheet, alloc: Global, rows: &str) -> Result<(), NoMemory> {
     for row in rows.lines() {
-        let snapshot = grown(snapshot_of(alloc, row))?;
-        let text = grown(page_auto(alloc, &snapshot))?;
-        let page = grown(page_html(alloc, &snapshot))?;
-        println!(rt; "{row} => {} and {}", text.len(), page.len())?;
-        print!(rt; "{}", String::from_utf8_lossy(alloc, text.as_slice())?)?;
-        print!(rt; "{}", String::from_utf8_lossy(alloc, page.as_slice())?)?;
+        let snapshot = snapshot_of(alloc, row)?;
+        let text = page_auto(alloc, &snapshot)?;
+        let page = page_html(alloc, &snapshot)?;
+        println!(sheet; "{row} => {} and {}", text.len(), page.len());
+        sheet.text(text.as_slice());
+        sheet.text(page.as_slice());
     }
     Ok(())
 }
@@ -39,13 +39,18 @@ fn snapshot_of(alloc: Global, row: &str) -> Result<Snapshot, NoMemory> {
     let mut words = row.split(' ');
     let letters = Octets::of(alloc, words.next().unwrap_or("").as_bytes())?;
     Ok(Snapshot {
-        generation: small_of(words.next().unwrap_or("")),
-        busy: small_of(words.next().unwrap_or("")),
-        idle: small_of(words.next().unwrap_or("")),
-        total: small_of(words.next().unwrap_or("")),
-        writing: small_of(words.next().unwrap_or("")),
-        keep_alive: small_of(words.next().unwrap_or("")),
-        closing: small_of(words.next().unwrap_or("")),
+        generation: next_of(&mut words),
+        busy: next_of(&mut words),
+        idle: next_of(&mut words),
+        total: next_of(&mut words),
+        writing: next_of(&mut words),
+        keep_alive: next_of(&mut words),
+        closing: next_of(&mut words),
         letters,
     })
+}
+
+/// The number that the next word writes.
+fn next_of(words: &mut Split<'_, char>) -> u32 {
+    small_of(words.next().unwrap_or(""))
 }

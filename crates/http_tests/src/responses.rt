@@ -12,8 +12,7 @@ use http_read::{HeadAnswer, Request, next_head};
 use mpm_base::{Ask, NoMemory, Note, Octets, Page};
 use stand_ins::{Calls, Files, MemStore};
 use std::alloc::Global;
-use std::io;
-use test_rows::{Marks, grown, number_of, text_of, words};
+use test_rows::{Marks, Sheet, number_of, text_of, words};
 
 /// A site of the folder `htdocs`, whose index is `index.html`.
 fn htdocs(alloc: Global) -> Result<SiteOrder, NoMemory>
@@ -27,21 +26,29 @@ fn htdocs(alloc: Global) -> Result<SiteOrder, NoMemory>
 /// A site of an index, ten digits, an empty file and a folder.
 pub fn digits_site(alloc: Global) -> Result<Site, LoadFault> {
     let mut files = Files::make(alloc);
+    set_digits(&mut files)?;
+    site_with(alloc, files)
+}
+
+/// Sets an index, ten digits, an empty file and a folder.
+fn set_digits(files: &mut Files) -> Result<(), NoMemory> {
     files.set("htdocs/index.html", b"hello\n")?;
     files.set("htdocs/n.txt", b"0123456789")?;
     files.set("htdocs/docs/index.html", b"D")?;
-    files.set("htdocs/empty.gif", b"")?;
-    let mut store = MemStore::make(alloc, files, Calls::make(alloc));
-    let order = htdocs(alloc)?;
-    load(alloc, &mut store, &order)
+    files.set("htdocs/empty.gif", b"")
 }
 
 /// A site of one file, `large.bin`, with these bytes.
 pub fn large_site(alloc: Global, bytes: &[u8]) -> Result<Site, LoadFault> {
     let mut files = Files::make(alloc);
     files.set("htdocs/large.bin", bytes)?;
-    let mut store = MemStore::make(alloc, files, Calls::make(alloc));
+    site_with(alloc, files)
+}
+
+/// A site of these files.
+fn site_with(alloc: Global, files: Files) -> Result<Site, LoadFault> {
     let order = htdocs(alloc)?;
+    let mut store = MemStore::make(alloc, files, Calls::make(alloc));
     load(alloc, &mut store, &order)
 }
 
@@ -112,34 +119,63 @@ fn answer_of(
     Ok((ask.code, text))
 }
 
+/// The second of responses, and whether each is the last one.
+#[derive(Clone, Copy)]
+struct Dated {
+    second: u64,
+    last: bool,
+}
+
 /// Shows the response to each head. The words of the section say the second of its date, and whether it is the last.
-pub fn show_answers(rt: &impl Print, alloc: Global, kind: &str, rows: &str) -> io::Result<()> {
+pub fn show_answers(
+    sheet: &mut Sheet,
+    alloc: Global,
+    kind: &str,
+    rows: &str,
+) -> Result<(), NoMemory> {
     let (second, last) = words(kind);
+    let dated = Dated {
+        second: number_of(second),
+        last: last == "last",
+    };
     match digits_site(alloc) {
-        Ok(site) => show_answers_of(rt, alloc, &site, number_of(second), last == "last", rows),
-        Err(fault) => println!(rt; "{fault:?}"),
+        Ok(site) => show_answers_of(sheet, alloc, &site, dated, rows),
+        Err(_) => Err(NoMemory),
     }
 }
 
 /// Shows the response of the site to each head.
 fn show_answers_of(
-    rt: &impl Print,
+    sheet: &mut Sheet,
     alloc: Global,
     site: &Site,
-    second: u64,
-    last: bool,
+    dated: Dated,
     rows: &str,
-) -> io::Result<()> {
+) -> Result<(), NoMemory> {
     for row in rows.lines() {
-        let head = grown(text_of(alloc, row, Marks::Heads))?;
-        match next_head(alloc, head.as_slice(), &LIMITS) {
-            HeadAnswer::Whole(request, _) if second < 253_402_300_800 => {
-                let (code, text) = grown(answer_of(alloc, site, &request, second, last))?;
-                let text = String::from_utf8_lossy(alloc, text.as_slice())?;
-                println!(rt; "{row} => {code} {text:?}")?;
-            }
-            _ => println!(rt; "{row} => no request")?,
+        let head = text_of(alloc, row, Marks::Heads)?;
+        print!(sheet; "{row} => ");
+        show_answer(sheet, alloc, site, dated, head.as_slice())?;
+    }
+    Ok(())
+}
+
+/// Shows the response of the site to the head.
+fn show_answer(
+    sheet: &mut Sheet,
+    alloc: Global,
+    site: &Site,
+    dated: Dated,
+    head: &[u8],
+) -> Result<(), NoMemory> {
+    match next_head(alloc, head, &LIMITS) {
+        HeadAnswer::Whole(request, _) if dated.second < 253_402_300_800 => {
+            let (code, text) = answer_of(alloc, site, &request, dated.second, dated.last)?;
+            print!(sheet; "{code}");
+            sheet.bytes("", text.as_slice());
+            sheet.println("");
         }
+        _ => sheet.println("no request"),
     }
     Ok(())
 }
@@ -158,20 +194,22 @@ fn refusal_of(alloc: Global, code: u16) -> Result<Octets, NoMemory>
 }
 
 /// Shows the response to heads that are refused by these codes.
-pub fn show_refusals(rt: &impl Print, alloc: Global, rows: &str) -> io::Result<()> {
+pub fn show_refusals(sheet: &mut Sheet, alloc: Global, rows: &str) -> Result<(), NoMemory> {
     for row in rows.lines() {
         let code = row.parse::<u16>().unwrap_or(0);
         if matches!(code, 400 | 413 | 414 | 417 | 501 | 505) {
-            let text = grown(refusal_of(alloc, code))?;
-            let text = String::from_utf8_lossy(alloc, text.as_slice())?;
-            println!(rt; "{row} => {text:?}")?;
+            let text = refusal_of(alloc, code)?;
+            print!(sheet; "{row} =>");
+            sheet.bytes("", text.as_slice());
+            sheet.println("");
         }
     }
     Ok(())
 }
 
 /// Shows the text by which a body is asked for.
-pub fn show_continue(rt: &impl Print, alloc: Global) -> io::Result<()> {
+pub fn show_continue(sheet: &mut Sheet, alloc: Global) -> Result<(), NoMemory> {
     let text = String::from_utf8_lossy(alloc, continue_text())?;
-    println!(rt; "{text:?}")
+    println!(sheet; "{text:?}");
+    Ok(())
 }

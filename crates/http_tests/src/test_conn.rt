@@ -12,9 +12,9 @@ use conn_state::{Conn, Ended, LastLinger, LastTurn, LingerTurn, Nothing, ReadTur
 use file_table::Site;
 use mpm_base::{Ask, Cause, ConnName, Link, NoMemory, Note, Tail};
 use std::alloc::Global;
-use std::io;
 use std::marker::Model;
 use std::sync::Arc;
+use test_rows::Sheet;
 
 /// The name of each connection.
 const NAME: ConnName = ConnName { slot: 3, life: 1 };
@@ -69,11 +69,11 @@ impl<L: Link> TestConn<L> {
     }
 
     /// Shows what it says of itself.
-    pub fn show(&self, rt: &impl Print) -> io::Result<()> {
+    pub fn show(&self, sheet: &mut Sheet) {
         let conn = &self.conn;
-        print!(rt; "show => {:?}, child {}", conn.name(), conn.child())?;
-        print!(rt; ", pending {}, noted {}", conn.pending(), conn.noted())?;
-        println!(rt; ", rest empty {}, last {}", conn.rest_empty(), conn.last())
+        print!(sheet; "show => {:?}, child {}", conn.name(), conn.child());
+        print!(sheet; ", pending {}, noted {}", conn.pending(), conn.noted());
+        println!(sheet; ", rest empty {}, last {}", conn.rest_empty(), conn.last());
     }
 
     /// Whether nothing failed, and its link was not half-closed.

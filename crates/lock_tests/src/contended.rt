@@ -1,17 +1,17 @@
 //! Permits for which several threads contend.
-ghost use Rattle.std.specs.Prelude.{◌≤◌};
+ghost use Rattle.std.specs.Prelude.{◌≡◌, ◌≤◌, ℕ, Some, slice_get};
+ghost use Rattle.lock_examples.specs.Toy.{IsReadyPass};
 
 use crate::begins::begins;
-use board_lock::number;
+use board_lock::{Pass, Shared, number};
 use idle_workers::{idle, release, reserve, uncredit};
-use lock_examples::{Player, last_of, opened, players};
+use lock_examples::{Player, Toy, last_of, opened, players};
 use mpm_base::NoMemory;
 use std::alloc::Global;
-use std::io;
 use std::sync::Wait;
 use std::sync::atomic::{AtomicU64, Ordering};
 use std::thread::{self, Threads};
-use test_rows::grown;
+use test_rows::Sheet;
 
 /// How often each thread tries for a permit.
 const TRIES: u32 = 2_000;
@@ -37,31 +37,37 @@ struct Contention {
 }
 
 /// Shows what comes of so many threads that contend.
-pub fn show_contention<R: Print + Threads + Wait + Sync>(
+pub fn show_contention<R: Threads + Wait + Sync>(
+    sheet: &mut Sheet,
     rt: &R,
     alloc: Global,
     threads: u32,
-) -> io::Result<()> {
-    match grown(contend(rt, alloc, threads.min(64)))? {
-        Some(seen) => show_seen(rt, seen),
-        None => println!(rt; "a pass is missing, or the child has no workers"),
-    }
+) -> Result<(), NoMemory> {
+    let threads = threads.min(64);
+    let (shared, mut passes) = opened(alloc, threads + 1)?;
+    show_seen(sheet, contend(rt, alloc, &shared, &mut passes, threads))
 }
 
 /// So many threads reserve and release workers of child 0.
 fn contend<R: Threads + Wait + Sync>(
     rt: &R,
     alloc: Global,
+    shared: &Shared<Box<Toy>>,
+    passes: &mut Vec<Pass<Box<Toy>>>,
     threads: u32,
 ) -> Result<Option<Contention>, NoMemory>
-    requires { threads ≤ 64 }
+    requires own { (p : ℕ) (pass : _)
+        → slice_get passes.old.items p ≡ Some pass
+        → pass.seat.table_id ≡ shared.now.table.shared.table_id }
+    requires ready { (p : ℕ) (pass : _)
+        → slice_get passes.old.items p ≡ Some pass
+        → IsReadyPass pass.seat.me }
 {
-    let (shared, mut passes) = opened(alloc, threads + 1)?;
-    let jobs = players(alloc, &shared, &mut passes, threads)?;
-    let Some(mut zero) = last_of(&shared, &mut passes) else {
+    let jobs = players(alloc, shared, passes, threads)?;
+    let Some(mut zero) = last_of(shared, passes) else {
         return Ok(None);
     };
-    if number(&zero) != 0 || !begins(rt, &shared, &mut zero) {
+    if number(&zero) != 0 || !begins(rt, shared, &mut zero) {
         return Ok(None);
     }
     let out = AtomicU64::new(0);
@@ -70,9 +76,9 @@ fn contend<R: Threads + Wait + Sync>(
         return Err(NoMemory);
     };
     let (got, most) = seen_by(&all);
-    let idle_first = idle(&shared, &mut zero, 0);
-    let uncredited = uncredit(&shared, &mut zero, 0, 2);
-    let idle_behind = idle(&shared, &mut zero, 0);
+    let idle_first = idle(shared, &mut zero, 0);
+    let uncredited = uncredit(shared, &mut zero, 0, 2);
+    let idle_behind = idle(shared, &mut zero, 0);
     Ok(Some(Contention {
         threads: all.len(),
         got,
@@ -112,11 +118,23 @@ fn seen_by(all: &[Seen]) -> (u32, u64) {
 }
 
 /// Shows what the threads saw, as far as no schedule changes it.
-fn show_seen(rt: &impl Print, seen: Contention) -> io::Result<()> {
-    println!(rt; "{} threads tried", seen.threads)?;
-    println!(rt; "two were out at most => {}", seen.most <= 2)?;
-    println!(rt; "two or more were got => {}", 2 <= seen.got)?;
-    println!(rt; "idle => {}", seen.idle)?;
-    println!(rt; "credit taken back => {}", seen.uncredited)?;
-    println!(rt; "idle => {}", seen.idle_behind)
+fn show_seen(
+    sheet: &mut Sheet,
+    answer: Result<Option<Contention>, NoMemory>,
+) -> Result<(), NoMemory> {
+    let Some(seen) = answer? else {
+        sheet.println("a pass is missing, or the child has no workers");
+        return Ok(());
+    };
+    println!(sheet;
+        "{} threads tried\ntwo were out at most => {}\ntwo or more were got => {}",
+        seen.threads,
+        seen.most <= 2,
+        2 <= seen.got
+    );
+    println!(sheet;
+        "idle => {}\ncredit taken back => {}\nidle => {}",
+        seen.idle, seen.uncredited, seen.idle_behind
+    );
+    Ok(())
 }

@@ -15,6 +15,10 @@
 //!   queue, and lie down again as two other threads receive them.
 //! - `queue PLACES`: the calls `push NUMBER`, `pop` and `end TIMES` of a seat that is alone at a queue of so many places.
 //! - `relay PLACES`: a thread puts a thousand numbers into such a queue, and another one takes as many items.
+//! - `rounds KIND THREADS COUNT`: each of so many threads does so many rounds, and all of them are counted that found what they were to
+//!   find. A round of `board_lock` takes the turn, looks at the value and gives the turn back; one of `mutex` does the same with a `Mutex`
+//!   round the same value. A round of `fd_queue` puts an item into a queue of 64 places and takes one; one of `array_queue` does it with
+//!   the queue that `fd_queue` stands on. `bench/lock` times such sections from outside.
 #![tactic(auto)]
 
 mod begins;
@@ -24,42 +28,60 @@ mod perches;
 mod permits;
 mod posts;
 mod queues;
+mod rounds;
+mod rounds_of_queues;
+mod rounds_of_turns;
 mod sleeps;
 mod travels;
 mod turns;
 
+use mpm_base::NoMemory;
 use std::alloc::Global;
 use std::io;
 use std::sync::Wait;
 use std::thread::Threads;
 use std::time::Clock;
-use test_rows::{Section, begin_section, sections_of, small_of};
+use test_rows::{Section, Sheet, grown, open_section, sections_of, small_of};
 
 fn main(rt: HostRuntime) -> io::Result<()> {
     let input = io::read_to_string(rt.alloc(), rt.reader())?;
     for text in sections_of(input.as_str()) {
-        let section = begin_section(&rt, text)?;
-        show_section(&rt, rt.alloc(), section)?;
+        let sheet = grown(sheet_of(&rt, rt.alloc(), text))?;
+        sheet.show(&rt)?;
     }
     Ok(())
 }
 
+/// What comes of the section of this text.
+fn sheet_of<R: Threads + Wait + Clock + Sync>(
+    rt: &R,
+    alloc: Global,
+    text: &str,
+) -> Result<Sheet, NoMemory> {
+    let mut sheet = Sheet::make(alloc);
+    let section = open_section(&mut sheet, text);
+    show_section(&mut sheet, rt, alloc, section)?;
+    Ok(sheet)
+}
+
 /// Shows what comes of the section.
-fn show_section<R: Print + Threads + Wait + Clock + Sync>(
+fn show_section<R: Threads + Wait + Clock + Sync>(
+    sheet: &mut Sheet,
     rt: &R,
     alloc: Global,
     section: Section<'_>,
-) -> io::Result<()> {
+) -> Result<(), NoMemory> {
     let Section { word, rest, rows } = section;
     match word {
-        "passes" => passes::show_passes(rt, alloc),
-        "permits" => permits::show_permits(rt, alloc),
-        "perch" => perches::show_perch(rt, alloc),
-        "turns" => turns::show_turns(rt, alloc, small_of(rest)),
-        "sleep" => sleeps::show_sleep(rt, alloc),
-        "contend" => contended::show_contention(rt, alloc, small_of(rest)),
-        "queue" => queues::show_queue(rt, alloc, rest, rows),
-        "relay" => queues::show_relay(rt, alloc, rest),
-        _ => travels::show_travel(rt, alloc),
+        "passes" => passes::show_passes(sheet, rt, alloc),
+        "permits" => permits::show_permits(sheet, rt, alloc),
+        "perch" => perches::show_perch(sheet, alloc),
+        "turns" => turns::show_turns(sheet, rt, alloc, small_of(rest)),
+        "sleep" => sleeps::show_sleep(sheet, rt, alloc),
+        "contend" => contended::show_contention(sheet, rt, alloc, small_of(rest)),
+        "queue" => queues::show_queue(sheet, rt, alloc, rest, rows),
+        "relay" => queues::show_relay(sheet, rt, alloc, rest),
+        "rounds" => rounds::show_rounds(sheet, rt, alloc, rest),
+        _ => travels::show_travel(sheet, rt, alloc),
     }
 }

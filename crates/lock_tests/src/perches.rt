@@ -1,11 +1,13 @@
 //! A perch of two carriers, on one thread.
-use board_lock::number;
-use lock_examples::{last_looks, last_of, opened};
+ghost use Rattle.std.specs.Prelude.{◌≡◌, ℕ, Some, slice_get};
+ghost use Rattle.lock_examples.specs.Toy.{IsReadyPass};
+
+use board_lock::{Pass, Shared, number};
+use lock_examples::{Toy, last_looks, last_of, opened};
 use mpm_base::NoMemory;
 use recycle_perch::Perch;
 use std::alloc::Global;
-use std::io;
-use test_rows::grown;
+use test_rows::Sheet;
 
 /// What came of two carriers that lay down.
 #[derive(Clone, Copy)]
@@ -21,26 +23,34 @@ struct Rested {
 }
 
 /// Shows what comes of two carriers that lie down.
-pub fn show_perch(rt: &impl Print, alloc: Global) -> io::Result<()> {
-    match grown(rest(alloc))? {
-        Some(rested) => show_rested(rt, rested),
-        None => println!(rt; "a carrier is missing, or has no place"),
-    }
+pub fn show_perch(sheet: &mut Sheet, alloc: Global) -> Result<(), NoMemory> {
+    let (shared, mut passes) = opened(alloc, 3)?;
+    show_rested(sheet, rest(alloc, &shared, &mut passes))
 }
 
 /// Two carriers lie down and are taken, and the second one once more.
-fn rest(alloc: Global) -> Result<Option<Rested>, NoMemory> {
-    let (shared, mut passes) = opened(alloc, 3)?;
-    let Some(two) = last_of(&shared, &mut passes) else {
+fn rest(
+    alloc: Global,
+    shared: &Shared<Box<Toy>>,
+    passes: &mut Vec<Pass<Box<Toy>>>,
+) -> Result<Option<Rested>, NoMemory>
+    requires own { (p : ℕ) (pass : _)
+        → slice_get passes.old.items p ≡ Some pass
+        → pass.seat.table_id ≡ shared.now.table.shared.table_id }
+    requires ready { (p : ℕ) (pass : _)
+        → slice_get passes.old.items p ≡ Some pass
+        → IsReadyPass pass.seat.me }
+{
+    let Some(two) = last_of(shared, passes) else {
         return Ok(None);
     };
-    let Some(one) = last_of(&shared, &mut passes) else {
+    let Some(one) = last_of(shared, passes) else {
         return Ok(None);
     };
     if number(&one) == 0 || number(&two) == 0 {
         return Ok(None);
     }
-    let mut perch = Perch::make(alloc, &shared, 2)?;
+    let mut perch = Perch::make(alloc, shared, 2)?;
     let mut all = perch.looks(alloc, 1)?;
     let Ok(one) = perch.admit(&mut all, one) else {
         return Ok(None);
@@ -76,12 +86,22 @@ fn rest(alloc: Global) -> Result<Option<Rested>, NoMemory> {
 }
 
 /// Shows what came of it.
-fn show_rested(rt: &impl Print, rested: Rested) -> io::Result<()> {
+fn show_rested(
+    sheet: &mut Sheet,
+    answer: Result<Option<Rested>, NoMemory>,
+) -> Result<(), NoMemory> {
+    let Some(rested) = answer? else {
+        sheet.println("a carrier is missing, or has no place");
+        return Ok(());
+    };
     let [first, second, third] = rested.numbers;
-    println!(rt; "nobody rests => {}", rested.none_first)?;
-    println!(rt; "both lie down => {}", rested.both)?;
-    println!(rt; "taken => {first}, {second}")?;
-    println!(rt; "nobody rests => {}", rested.none_behind)?;
-    println!(rt; "the second lies down => {}", rested.again)?;
-    println!(rt; "taken => {third}")
+    println!(sheet;
+        "nobody rests => {}\nboth lie down => {}\ntaken => {first}, {second}",
+        rested.none_first, rested.both
+    );
+    println!(sheet;
+        "nobody rests => {}\nthe second lies down => {}\ntaken => {third}",
+        rested.none_behind, rested.again
+    );
+    Ok(())
 }

@@ -6,10 +6,9 @@ use fd_queue::{FdQueue, FdSeat, Item};
 use lock_examples::last_seat;
 use mpm_base::NoMemory;
 use std::alloc::Global;
-use std::io;
 use std::sync::Wait;
 use std::thread::{self, Threads, join};
-use test_rows::{grown, out_of_memory, small_of, words};
+use test_rows::{Sheet, small_of, words};
 
 /// How many numbers go from one thread to the other.
 const NUMBERS: u32 = 1_000;
@@ -39,15 +38,22 @@ impl<'q> Seated<'q> {
     }
 
     /// Shows what the queue answers to the call.
-    fn show_call<R: Print + Wait>(&mut self, rt: &R, row: &str) -> io::Result<()> {
+    fn show_call<R: Wait>(&mut self, sheet: &mut Sheet, rt: &R, row: &str) {
         let (word, rest) = words(row);
         match word {
             "push" => {
                 let pushed = self.push(rt, Item::Work(small_of(rest)));
-                println!(rt; "{row} => {pushed:?}")
+                println!(sheet; "{row} => {pushed:?}");
             }
-            "end" => println!(rt; "{row} => {}", self.end(rt, small_of(rest))),
-            _ => println!(rt; "{row} => {:?}", self.pop(rt)),
+            "end" => println!(sheet; "{row} => {}", self.end(rt, small_of(rest))),
+            _ => println!(sheet; "{row} => {:?}", self.pop(rt)),
+        }
+    }
+
+    /// Shows what the queue answers to each call of the rows.
+    fn show_calls<R: Wait>(mut self, sheet: &mut Sheet, rt: &R, rows: &str) {
+        for row in rows.lines() {
+            self.show_call(sheet, rt, row);
         }
     }
 
@@ -99,38 +105,34 @@ fn places_of(text: &str) -> u32
 }
 
 /// Shows what a queue of so many places answers to each call, where one comes behind the other.
-pub fn show_queue<R: Print + Wait>(
+pub fn show_queue<R: Wait>(
+    sheet: &mut Sheet,
     rt: &R,
     alloc: Global,
     places: &str,
     rows: &str,
-) -> io::Result<()> {
-    let Ok((queue, mut seats)) = FdQueue::make(alloc, places_of(places), 1) else {
-        return Err(out_of_memory());
-    };
-    let Some(seat) = last_seat(&queue, &mut seats) else {
-        return println!(rt; "a seat is missing");
-    };
-    let mut seated = Seated {
-        queue: &queue,
-        seat,
-    };
-    for row in rows.lines() {
-        seated.show_call(rt, row)?;
+) -> Result<(), NoMemory> {
+    let (queue, mut seats) = FdQueue::make(alloc, places_of(places), 1)?;
+    let queue = &queue;
+    match last_seat(queue, &mut seats) {
+        Some(seat) => Seated { queue, seat }.show_calls(sheet, rt, rows),
+        None => sheet.println("a seat is missing"),
     }
     Ok(())
 }
 
 /// Shows whether a thread takes in order what another one puts into a queue of so many places.
-pub fn show_relay<R: Print + Threads + Wait + Sync>(
+pub fn show_relay<R: Threads + Wait + Sync>(
+    sheet: &mut Sheet,
     rt: &R,
     alloc: Global,
     places: &str,
-) -> io::Result<()> {
-    match grown(relay(rt, alloc, places_of(places)))? {
-        Some(is_ordered) => println!(rt; "the numbers come in order => {is_ordered}"),
-        None => println!(rt; "a seat is missing"),
+) -> Result<(), NoMemory> {
+    match relay(rt, alloc, places_of(places))? {
+        Some(is_ordered) => println!(sheet; "the numbers come in order => {is_ordered}"),
+        None => sheet.println("a seat is missing"),
     }
+    Ok(())
 }
 
 /// A thread puts numbers into a queue of so many places, and another one takes them: whether they come in order.

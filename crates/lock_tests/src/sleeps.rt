@@ -1,54 +1,61 @@
 //! A thread that sleeps for the turn.
-use board_lock::number;
-use lock_examples::{ASKS, HAS_TURN, Player, holds, last_of, looks, opened, wait_for};
+ghost use Rattle.std.specs.Prelude.{◌≡◌, ℕ, Some, slice_get};
+ghost use Rattle.lock_examples.specs.Toy.{IsReadyPass};
+
+use board_lock::{Pass, Shared, number};
+use lock_examples::{ASKS, HAS_TURN, Player, Toy, holds, last_of, looks, opened, wait_for};
 use mpm_base::NoMemory;
 use std::alloc::Global;
-use std::io;
 use std::sync::Wait;
 use std::sync::atomic::{AtomicU64, Ordering};
 use std::thread::{Threads, join};
 use std::time::Clock;
-use test_rows::grown;
+use test_rows::Sheet;
 
 /// Shows what a thread finds that slept for the turn, and the one that held it. Where the turn is given back without a wake, this doesn't
 /// end.
-pub fn show_sleep<R: Print + Threads + Wait + Clock + Sync>(
+pub fn show_sleep<R: Threads + Wait + Clock + Sync>(
+    sheet: &mut Sheet,
     rt: &R,
     alloc: Global,
-) -> io::Result<()> {
-    match grown(sleep_for_turn(rt, alloc))? {
-        Some((held, slept)) => println!(rt;
+) -> Result<(), NoMemory> {
+    let (shared, mut passes) = opened(alloc, 2)?;
+    match sleep_for_turn(rt, &shared, &mut passes) {
+        Some((held, slept)) => println!(sheet;
             "one holds the turn and finds {held}, one sleeps for it and finds {slept}"
         ),
-        None => println!(rt; "a pass is missing"),
+        None => sheet.println("a pass is missing"),
     }
+    Ok(())
 }
 
 /// One thread holds the turn until another one sleeps for it: how many entries each found.
 fn sleep_for_turn<R: Threads + Wait + Clock + Sync>(
     rt: &R,
-    alloc: Global,
-) -> Result<Option<(u64, u64)>, NoMemory> {
-    let (shared, mut passes) = opened(alloc, 2)?;
-    let shared = &shared;
-    let Some(pass) = last_of(shared, &mut passes) else {
-        return Ok(None);
-    };
+    shared: &Shared<Box<Toy>>,
+    passes: &mut Vec<Pass<Box<Toy>>>,
+) -> Option<(u64, u64)>
+    requires own { (p : ℕ) (pass : _)
+        → slice_get passes.old.items p ≡ Some pass
+        → pass.seat.table_id ≡ shared.now.table.shared.table_id }
+    requires ready { (p : ℕ) (pass : _)
+        → slice_get passes.old.items p ≡ Some pass
+        → IsReadyPass pass.seat.me }
+{
+    let pass = last_of(shared, passes)?;
     let sleeper = Player { shared, pass };
-    let Some(pass) = last_of(shared, &mut passes) else {
-        return Ok(None);
-    };
+    let pass = last_of(shared, passes)?;
     let holder = Player { shared, pass };
     if number(&sleeper.pass) != 1 || number(&holder.pass) != 0 {
-        return Ok(None);
+        return None;
     }
     let said = AtomicU64::new(0);
     let said = &said;
-    Ok(Some(join(
+    Some(join(
         rt,
         move || holds_turn(rt, holder, said),
         move || sleeps(rt, sleeper, said),
-    )))
+    ))
 }
 
 /// Holds the turn until another thread sleeps for it: how many entries there are.

@@ -1,23 +1,22 @@
 //! Carriers that rest on a perch, travel through a queue, and come back.
-ghost use Rattle.std.specs.Prelude.{◌≡◌, IfSome};
+ghost use Rattle.std.specs.Prelude.{◌≡◌, ℕ, IfSome, Some, slice_get};
 ghost use Rattle.recycle_perch.specs.Looking.{AllAreOf, AreOf};
 ghost use Rattle.recycle_perch.specs.Resting.{IsFreeCarrier};
 ghost use Rattle.lock_examples.specs.Toy.{IsReadyPass};
 
 use crate::begins::begins;
 use crate::posts::{Parcel, Post, posts};
-use board_lock::{Carrier, Pass, Room, number};
+use board_lock::{Carrier, Pass, Room, Shared, number};
 use fd_queue::FdQueue;
 use idle_workers::{idle, uncredit};
 use lock_examples::{Toy, last_looks, last_of, opened};
 use mpm_base::NoMemory;
 use recycle_perch::{Looks, Perch};
 use std::alloc::Global;
-use std::io;
 use std::marker::Brand;
 use std::sync::Wait;
 use std::thread::{self, Threads};
-use test_rows::grown;
+use test_rows::Sheet;
 
 /// What came of the carriers.
 #[derive(Clone, Copy)]
@@ -36,11 +35,13 @@ struct Travelled {
 }
 
 /// Shows what comes of three carriers that travel.
-pub fn show_travel<R: Print + Threads + Wait + Sync>(rt: &R, alloc: Global) -> io::Result<()> {
-    match grown(come_back(rt, alloc))? {
-        Some(travelled) => show_travelled(rt, travelled),
-        None => println!(rt; "a carrier is missing, or the child has no workers"),
-    }
+pub fn show_travel<R: Threads + Wait + Sync>(
+    sheet: &mut Sheet,
+    rt: &R,
+    alloc: Global,
+) -> Result<(), NoMemory> {
+    let (shared, mut passes) = opened(alloc, 4)?;
+    show_travelled(sheet, come_back(rt, alloc, &shared, &mut passes))
 }
 
 /// Carriers go from the perch through a queue and back, with as many threads as there are to be: how many did all.
@@ -89,21 +90,29 @@ fn admitted<'a>(
 fn come_back<R: Threads + Wait + Sync>(
     rt: &R,
     alloc: Global,
-) -> Result<Option<Travelled>, NoMemory> {
-    let (shared, mut passes) = opened(alloc, 4)?;
-    let Some(three) = last_of(&shared, &mut passes) else {
+    shared: &Shared<Box<Toy>>,
+    passes: &mut Vec<Pass<Box<Toy>>>,
+) -> Result<Option<Travelled>, NoMemory>
+    requires own { (p : ℕ) (pass : _)
+        → slice_get passes.old.items p ≡ Some pass
+        → pass.seat.table_id ≡ shared.now.table.shared.table_id }
+    requires ready { (p : ℕ) (pass : _)
+        → slice_get passes.old.items p ≡ Some pass
+        → IsReadyPass pass.seat.me }
+{
+    let Some(three) = last_of(shared, passes) else {
         return Ok(None);
     };
-    let Some(two) = last_of(&shared, &mut passes) else {
+    let Some(two) = last_of(shared, passes) else {
         return Ok(None);
     };
-    let Some(one) = last_of(&shared, &mut passes) else {
+    let Some(one) = last_of(shared, passes) else {
         return Ok(None);
     };
-    let Some(mut zero) = last_of(&shared, &mut passes) else {
+    let Some(mut zero) = last_of(shared, passes) else {
         return Ok(None);
     };
-    let mut perch = Perch::make(alloc, &shared, 3)?;
+    let mut perch = Perch::make(alloc, shared, 3)?;
     let mut all = perch.looks(alloc, 5)?;
     let Some(one) = admitted(&mut perch, &mut all, one) else {
         return Ok(None);
@@ -158,12 +167,22 @@ fn number_of(carrier: &Option<Carrier<Box<Toy>>>) -> u32 {
 }
 
 /// Shows what came of it.
-fn show_travelled(rt: &impl Print, travelled: Travelled) -> io::Result<()> {
+fn show_travelled(
+    sheet: &mut Sheet,
+    answer: Result<Option<Travelled>, NoMemory>,
+) -> Result<(), NoMemory> {
+    let Some(travelled) = answer? else {
+        sheet.println("a carrier is missing, or the child has no workers");
+        return Ok(());
+    };
     let [first, second, third] = travelled.numbers;
-    println!(rt; "all lie down => {}", travelled.rested)?;
-    println!(rt; "{} threads did all", travelled.done)?;
-    println!(rt; "taken => {first}, {second}, {third}")?;
-    println!(rt; "nobody rests => {}", travelled.no_more)?;
-    println!(rt; "idle => {}", travelled.idle)?;
-    println!(rt; "credit taken back => {}", travelled.uncredited)
+    println!(sheet;
+        "all lie down => {}\n{} threads did all\ntaken => {first}, {second}, {third}",
+        travelled.rested, travelled.done
+    );
+    println!(sheet;
+        "nobody rests => {}\nidle => {}\ncredit taken back => {}",
+        travelled.no_more, travelled.idle, travelled.uncredited
+    );
+    Ok(())
 }

@@ -1,16 +1,16 @@
 //! Turns of several threads with the small value.
-ghost use Rattle.std.specs.Prelude.{◌≤◌};
+ghost use Rattle.std.specs.Prelude.{◌≡◌, ℕ, Some, slice_get};
+ghost use Rattle.lock_examples.specs.Toy.{IsReadyPass};
 
 use crate::begins::begins;
-use board_lock::number;
+use board_lock::{Pass, Shared, number};
 use conn_machine::{Entry, Event, Reply};
 use lock_examples::{Player, Toy, folds, goes_on, last_of, looks, opened, players, serves};
 use mpm_base::{ConnName, Kind, NoMemory};
 use std::alloc::Global;
-use std::io;
 use std::sync::Wait;
 use std::thread::{self, Threads};
-use test_rows::grown;
+use test_rows::Sheet;
 
 /// How often the connection is served.
 const ROUNDS: u32 = 1_000;
@@ -28,30 +28,48 @@ struct Played {
 }
 
 /// Shows what comes of the turns of so many threads.
-pub fn show_turns<R: Print + Threads + Wait + Sync>(
+pub fn show_turns<R: Threads + Wait + Sync>(
+    sheet: &mut Sheet,
     rt: &R,
     alloc: Global,
     threads: u32,
-) -> io::Result<()> {
-    match grown(play_all(rt, alloc, threads.min(64)))? {
-        Some(played) => show_played(rt, &played),
-        None => println!(rt; "a pass is missing"),
+) -> Result<(), NoMemory> {
+    let threads = threads.min(64);
+    let (shared, mut passes) = opened(alloc, threads + 1)?;
+    show_answer(sheet, play_all(rt, alloc, &shared, &mut passes, threads))
+}
+
+/// Shows what the threads left, or that a pass is missing.
+fn show_answer(
+    sheet: &mut Sheet,
+    answer: Result<Option<Played>, NoMemory>,
+) -> Result<(), NoMemory> {
+    match answer? {
+        Some(played) => show_played(sheet, &played),
+        None => sheet.println("a pass is missing"),
     }
+    Ok(())
 }
 
 /// So many threads take their turns.
 fn play_all<R: Threads + Wait + Sync>(
     rt: &R,
     alloc: Global,
+    shared: &Shared<Box<Toy>>,
+    passes: &mut Vec<Pass<Box<Toy>>>,
     threads: u32,
 ) -> Result<Option<Played>, NoMemory>
-    requires { threads ≤ 64 }
+    requires own { (p : ℕ) (pass : _)
+        → slice_get passes.old.items p ≡ Some pass
+        → pass.seat.table_id ≡ shared.now.table.shared.table_id }
+    requires ready { (p : ℕ) (pass : _)
+        → slice_get passes.old.items p ≡ Some pass
+        → IsReadyPass pass.seat.me }
 {
-    let (shared, mut passes) = opened(alloc, threads + 1)?;
-    let Some(last) = last_of(&shared, &mut passes) else {
+    let Some(last) = last_of(shared, passes) else {
         return Ok(None);
     };
-    let jobs = players(alloc, &shared, &mut passes, threads)?;
+    let jobs = players(alloc, shared, passes, threads)?;
     let Ok(all) = thread::map_vec(rt, jobs, &|player: Player| plays(rt, player)) else {
         return Err(NoMemory);
     };
@@ -128,21 +146,21 @@ fn watches<R: Wait>(rt: &R, player: Player) -> bool {
 }
 
 /// Shows what the threads left.
-fn show_played(rt: &impl Print, played: &Played) -> io::Result<()> {
+fn show_played(sheet: &mut Sheet, played: &Played) {
     let entries = played.toy.entries();
-    println!(rt; "{} threads did all", played.done)?;
-    println!(rt;
-        "{} entries, {} steps folded",
+    println!(sheet;
+        "{} threads did all\n{} entries, {} steps folded",
+        played.done,
         entries.len(),
         played.toy.folded()
-    )?;
+    );
     match entries
         .iter()
         .enumerate()
         .find(|(place, entry)| **entry != expected(*place))
     {
-        Some((place, entry)) => println!(rt; "another one at {place}: {entry:?}"),
-        None => println!(rt; "each entry stands in its place"),
+        Some((place, entry)) => println!(sheet; "another one at {place}: {entry:?}"),
+        None => sheet.println("each entry stands in its place"),
     }
 }
 

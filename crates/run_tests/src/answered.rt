@@ -1,5 +1,5 @@
 //! A front that plays a script, and keeps what the senders of its command lines were answered.
-ghost use Rattle.std.specs.Prelude.{◌≡◌, ◌≤◌, length, Some};
+ghost use Rattle.std.specs.Prelude.{◌≡◌, ◌≤◌, length, IfOk, Some};
 ghost use Rattle.mpm_base.specs.Front.{Accepts, Answers, Binds, Commands, Dials, Waits, Watches, after_hush, front_after_turning_away};
 ghost use Rattle.mpm_base.specs.GivenAnswers.{most_answer};
 ghost use Rattle.mpm_base.specs.Link.{telling_link};
@@ -18,13 +18,15 @@ const ROOM: usize = 4096;
 /// A front that plays a script, and what the senders of its command lines were answered, one behind the other.
 #[derive(Drop)]
 pub struct AnsweredFront {
-    front: FailingFront,
+    pub(crate) front: FailingFront,
     answers: Octets,
 }
 
 impl AnsweredFront {
     /// The front, of which nobody was answered.
-    pub fn of(alloc: Global, front: FailingFront) -> Result<AnsweredFront, NoMemory> {
+    pub fn of(alloc: Global, front: FailingFront) -> Result<AnsweredFront, NoMemory>
+        ensures { IfOk result (λ f. f.front ≡ front) }
+    {
         let mut answers = Octets::make(alloc);
         answers.reserve_exact(ROOM)?;
         Ok(AnsweredFront { front, answers })

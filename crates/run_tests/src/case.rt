@@ -58,31 +58,37 @@ pub struct Case {
     pub strange: bool,
 }
 
-/// The run of the lines.
-pub fn case_of(alloc: Global, lines: &str) -> Result<Case, NoMemory> {
-    let mut case = Case {
-        words: Words::make(alloc),
-        files: Files::make(alloc),
-        later: Vec::new(alloc),
-        name: String::from_str(alloc, "s")?,
-        file: Octets::make(alloc),
-        front: None,
-        bad_waits: Calls::make(alloc),
-        bad_accepts: Calls::make(alloc),
-        bad_watches: Calls::make(alloc),
-        undialled: false,
-        back: Octets::make(alloc),
-        bad_reads: Calls::make(alloc),
-        bad_writes: Calls::make(alloc),
-        slow: false,
-        view: View::default(),
-        strange: false,
-    };
-    for line in lines.lines() {
-        take_line(alloc, &mut case, line)?;
+impl Case {
+    /// A run of which nothing was said.
+    pub fn make(alloc: Global) -> Case {
+        Case {
+            words: Words::make(alloc),
+            files: Files::make(alloc),
+            later: Vec::new(alloc),
+            name: String::new(alloc),
+            file: Octets::make(alloc),
+            front: None,
+            bad_waits: Calls::make(alloc),
+            bad_accepts: Calls::make(alloc),
+            bad_watches: Calls::make(alloc),
+            undialled: false,
+            back: Octets::make(alloc),
+            bad_reads: Calls::make(alloc),
+            bad_writes: Calls::make(alloc),
+            slow: false,
+            view: View::default(),
+            strange: false,
+        }
     }
-    put_down_file(&mut case)?;
-    Ok(case)
+}
+
+/// Takes what the lines say of the run, whose first file is `s`.
+pub fn take_lines(alloc: Global, case: &mut Case, lines: &str) -> Result<(), NoMemory> {
+    begin_file(alloc, case, "s")?;
+    for line in lines.lines() {
+        take_line(alloc, case, line)?;
+    }
+    put_down_file(case)
 }
 
 /// Takes what the line says of the run.

@@ -28,6 +28,7 @@
 
 mod answered;
 mod case;
+mod given;
 mod outside;
 mod playing;
 mod shown;

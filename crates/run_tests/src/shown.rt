@@ -1,5 +1,6 @@
 //! What is printed of a run.
 use crate::case::View;
+use crate::given::Given;
 use board::Board;
 use conn_machine::{Entry, Event, Going, Why};
 use conn_state::{Ended, Nothing};
@@ -9,6 +10,7 @@ use script_front::ScriptFront;
 use stand_ins::{MemSink, ScriptLink};
 use std::alloc::Global;
 use std::io;
+use test_rows::{Sheet, out_of_memory};
 
 /// The table of the run that opened, over a script or over the front that was handed in.
 fn board_of(outcome: &Outcome<ScriptLink>) -> Option<&Board<ScriptLink, Nothing>> {
@@ -18,107 +20,153 @@ fn board_of(outcome: &Outcome<ScriptLink>) -> Option<&Board<ScriptLink, Nothing>
     }
 }
 
-/// Prints what was written, and where a run opened how far the script came, of the run or of the front that was handed in, how its
-/// connections ended, how many were taken and closed at each moment, or nothing of them, and, where it is asked for, how many entries there
-/// were and its history.
-pub fn show_outcome(
+/// The front of the run that opened over a script, or the one that was handed in.
+fn front_of<'a>(
+    outcome: &'a Outcome<ScriptLink>,
+    front: Option<&'a ScriptFront>,
+) -> Option<&'a ScriptFront> {
+    match &outcome.scripted {
+        Some(scripted) => Some(&scripted.front),
+        None => front,
+    }
+}
+
+/// Prints how the run ended, what was written, and where it opened what came of it, unless it stopped for want of memory as it must.
+pub fn show_run(
     rt: &impl Print,
     alloc: Global,
     outcome: &Outcome<ScriptLink>,
     front: Option<&ScriptFront>,
-    out: &MemSink,
+    given: &Given,
     view: View,
 ) -> io::Result<()> {
-    let text = String::from_utf8_lossy(alloc, out.bytes())?;
-    print!(rt; "{text}")?;
-    let Some(board) = board_of(outcome) else {
-        return Ok(());
-    };
-    match (&outcome.scripted, front) {
-        (Some(scripted), _) => show_played(rt, &scripted.front)?,
-        (None, Some(front)) => show_played(rt, front)?,
-        (None, None) => (),
+    if shows_want_of_memory(outcome, &given.out) {
+        return Err(out_of_memory());
     }
-    if view.moments {
-        show_moments(rt, board.history())?;
-    } else if !view.report {
-        show_connections(rt, alloc, board.ended())?;
+    show_end(rt, alloc, outcome, given)?;
+    match board_of(outcome) {
+        Some(board) => show_board(rt, alloc, board, front_of(outcome, front), view),
+        None => Ok(()),
     }
-    if view.entries {
-        show_entries(rt, board)?;
-    }
-    if view.history || view.commands {
-        show_history(rt, board.history(), !view.history)?;
-    }
-    Ok(())
 }
 
-/// Prints how many entries were folded, and how many are kept.
-fn show_entries(rt: &impl Print, board: &Board<ScriptLink, Nothing>) -> io::Result<()> {
-    let folded = board.folded().entries;
-    println!(rt; "folded {folded} entries, kept {}", board.history().len())
-}
-
-/// Prints how far the script of the front came.
-fn show_played(rt: &impl Print, front: &ScriptFront) -> io::Result<()> {
-    let lines = front.script().lines().len();
-    println!(rt; "played {} of {lines}", front.happened())
-}
-
-/// Prints how each connection ended.
-fn show_connections(
+/// Prints how the run ended, and what was written.
+fn show_end(
     rt: &impl Print,
     alloc: Global,
-    connections: &[Ended<ScriptLink>],
+    outcome: &Outcome<ScriptLink>,
+    given: &Given,
 ) -> io::Result<()> {
-    for ended in connections {
-        show_connection(rt, alloc, ended)?;
-    }
-    Ok(())
+    let text = String::from_utf8_lossy(alloc, given.out.bytes())?;
+    print!(rt;
+        "status {}, shown {:?}, store faults {}\n{text}",
+        outcome.status,
+        outcome.shown,
+        given.store.faults()
+    )
 }
 
-/// Prints how the connection ended, the codes of its responses, and what its link was sent.
-fn show_connection(rt: &impl Print, alloc: Global, ended: &Ended<ScriptLink>) -> io::Result<()> {
-    print!(rt;
+/// Prints what came of a run that opened.
+fn show_board(
+    rt: &impl Print,
+    alloc: Global,
+    board: &Board<ScriptLink, Nothing>,
+    front: Option<&ScriptFront>,
+    view: View,
+) -> io::Result<()> {
+    let mut sheet = Sheet::make(alloc);
+    put_board(&mut sheet, board, front, view);
+    sheet.show(rt)
+}
+
+/// Shows how far the script of the front came, how the connections of the run ended, how many were taken and closed at each moment, or
+/// nothing of them, and, where it is asked for, how many entries there were and its history.
+fn put_board(
+    sheet: &mut Sheet,
+    board: &Board<ScriptLink, Nothing>,
+    front: Option<&ScriptFront>,
+    view: View,
+) {
+    if let Some(front) = front {
+        show_played(sheet, front);
+    }
+    if view.moments {
+        show_moments(sheet, board.history());
+    } else if !view.report {
+        show_connections(sheet, board.ended());
+    }
+    if view.entries {
+        show_entries(sheet, board);
+    }
+    if view.history || view.commands {
+        show_history(sheet, board.history(), !view.history);
+    }
+}
+
+/// Shows how many entries were folded, and how many are kept.
+fn show_entries(sheet: &mut Sheet, board: &Board<ScriptLink, Nothing>) {
+    let folded = board.folded().entries;
+    println!(sheet; "folded {folded} entries, kept {}", board.history().len());
+}
+
+/// Shows how far the script of the front came.
+fn show_played(sheet: &mut Sheet, front: &ScriptFront) {
+    let lines = front.script().lines().len();
+    println!(sheet; "played {} of {lines}", front.happened());
+}
+
+/// Shows how each connection ended.
+fn show_connections(sheet: &mut Sheet, connections: &[Ended<ScriptLink>]) {
+    for ended in connections {
+        show_connection(sheet, ended);
+    }
+}
+
+/// Shows how the connection ended, the codes of its responses, and what its link was sent.
+fn show_connection(sheet: &mut Sheet, ended: &Ended<ScriptLink>) {
+    print!(sheet;
         "{}.{} {:?} {:?}",
         ended.name.slot, ended.name.life, ended.cause, ended.tail
-    )?;
+    );
     for note in ended.notes.as_slice() {
-        print!(rt; " {}", note.code)?;
+        print!(sheet; " {}", note.code);
     }
-    let link = &ended.link;
-    println!(rt; ", shuts {}, closes {}", link.shuts(), link.closes())?;
-    show_few(rt, alloc, "received", link.received())?;
-    show_few(rt, alloc, "left", link.left())?;
-    show_bytes(rt, alloc, "sent", link.sent())
+    show_link(sheet, &ended.link);
 }
 
-/// Prints the bytes under the name; of more than 600 their number.
-fn show_few(rt: &impl Print, alloc: Global, name: &str, bytes: &[u8]) -> io::Result<()> {
+/// Shows how often the link was shut and closed, and what came and went.
+fn show_link(sheet: &mut Sheet, link: &ScriptLink) {
+    println!(sheet; ", shuts {}, closes {}", link.shuts(), link.closes());
+    show_few(sheet, "received", link.received());
+    show_few(sheet, "left", link.left());
+    show_bytes(sheet, "sent", link.sent());
+}
+
+/// Shows the bytes under the name; of more than 600 their number.
+fn show_few(sheet: &mut Sheet, name: &str, bytes: &[u8]) {
     if bytes.len() > 600 {
-        return println!(rt; "{name} {} bytes", bytes.len());
+        println!(sheet; "{name} {} bytes", bytes.len());
+    } else {
+        show_bytes(sheet, name, bytes);
     }
-    show_bytes(rt, alloc, name, bytes)
 }
 
-/// Prints the bytes under the name.
-fn show_bytes(rt: &impl Print, alloc: Global, name: &str, bytes: &[u8]) -> io::Result<()> {
-    let text = String::from_utf8_lossy(alloc, bytes)?;
-    println!(rt; "{name} {text:?}")
+/// Shows the bytes under the name.
+fn show_bytes(sheet: &mut Sheet, name: &str, bytes: &[u8]) {
+    sheet.bytes(name, bytes);
+    sheet.print("\n");
 }
 
-/// Prints each entry, or the commands alone: its pass, its number, its event and its reply.
-pub fn show_history(rt: &impl Print, history: &[Entry], commands: bool) -> io::Result<()> {
+/// Shows each entry, or the commands alone: its pass, its number, its event and its reply.
+fn show_history(sheet: &mut Sheet, history: &[Entry], commands: bool) {
     for entry in history {
-        if commands && !matches!(&entry.event, Event::Command(_)) {
-            continue;
+        if !commands || matches!(&entry.event, Event::Command(_)) {
+            println!(sheet;
+                "{} {} {:?} {:?}",
+                entry.pass, entry.ordinal, entry.event, entry.reply
+            );
         }
-        println!(rt;
-            "{} {} {:?} {:?}",
-            entry.pass, entry.ordinal, entry.event, entry.reply
-        )?;
     }
-    Ok(())
 }
 
 /// What happened while the moment was the present one.
@@ -134,13 +182,13 @@ struct Happened {
     closed: u64,
 }
 
-/// Prints for each moment of the history how many children were started, and connections taken and closed.
-fn show_moments(rt: &impl Print, history: &[Entry]) -> io::Result<()> {
+/// Shows for each moment of the history how many children were started, and connections taken and closed.
+fn show_moments(sheet: &mut Sheet, history: &[Entry]) {
     let mut now = Happened::default();
     for entry in history {
         match &entry.event {
             Event::Tick(moment) => {
-                show_moment(rt, now)?;
+                show_moment(sheet, now);
                 now = Happened {
                     moment: *moment,
                     ..Happened::default()
@@ -152,20 +200,20 @@ fn show_moments(rt: &impl Print, history: &[Entry]) -> io::Result<()> {
             _ => (),
         }
     }
-    show_moment(rt, now)
+    show_moment(sheet, now);
 }
 
-/// Prints what happened while the moment was the present one.
-fn show_moment(rt: &impl Print, now: Happened) -> io::Result<()> {
-    println!(rt;
+/// Shows what happened while the moment was the present one.
+fn show_moment(sheet: &mut Sheet, now: Happened) {
+    println!(sheet;
         "at {}: {} started, {} taken, {} closed",
         now.moment, now.started, now.taken, now.closed
-    )
+    );
 }
 
 /// Whether the run stopped for want of memory, and as it must then: each link that was taken was closed once, and there is a
 /// report just where its server was told so.
-pub fn shows_want_of_memory(outcome: &Outcome<ScriptLink>, out: &MemSink) -> bool {
+fn shows_want_of_memory(outcome: &Outcome<ScriptLink>, out: &MemSink) -> bool {
     let Some(board) = board_of(outcome) else {
         return outcome.status == 6 && out.bytes().is_empty();
     };

@@ -1,74 +1,84 @@
 //! Configurations by example.
 use mpm_base::{NoMemory, Octets};
-use mpm_config::{Config, Warnings, carry_limits, read_config, shape_of, warning_text};
+use mpm_config::{Config, Warning, Warnings, carry_limits, read_config, shape_of, warning_text};
 use std::alloc::Global;
-use std::io;
-use test_rows::{Marks, grown, number_of, text_of};
+use test_rows::{Marks, Sheet, number_of, text_of};
 
 /// Shows what the section asks of each configuration.
-pub fn show_rows(rt: &impl Print, alloc: Global, kind: &str, rows: &str) -> io::Result<()> {
+pub fn show_rows(sheet: &mut Sheet, alloc: Global, kind: &str, rows: &str) -> Result<(), NoMemory> {
     for row in rows.lines() {
-        print!(rt; "{row} => ")?;
-        let text = grown(text_of(alloc, row, Marks::Lines))?;
-        show_text(rt, alloc, kind, text.as_slice())?;
+        print!(sheet; "{row} => ");
+        show_row(sheet, alloc, kind, row)?;
     }
     Ok(())
 }
 
+/// Shows what the section asks of the configuration of the row.
+fn show_row(sheet: &mut Sheet, alloc: Global, kind: &str, row: &str) -> Result<(), NoMemory> {
+    let text = written(alloc, kind, row)?;
+    show_text(sheet, alloc, kind, text.as_slice())
+}
+
+/// The configuration that the row of the section writes.
+fn written(alloc: Global, kind: &str, row: &str) -> Result<Octets, NoMemory> {
+    match kind {
+        "bytes" => bytes_of(alloc, row),
+        "long" => with_name(alloc, row),
+        _ => text_of(alloc, row, Marks::Lines),
+    }
+}
+
 /// Shows what the section asks of the configuration, or why it is refused.
-fn show_text(rt: &impl Print, alloc: Global, kind: &str, text: &[u8]) -> io::Result<()> {
+fn show_text(sheet: &mut Sheet, alloc: Global, kind: &str, text: &[u8]) -> Result<(), NoMemory> {
     match read_config(alloc, text) {
-        Ok((config, warnings)) => show_config(rt, alloc, kind, &config, &warnings),
-        Err(fault) => println!(rt; "{fault:?}"),
+        Ok((config, warnings)) => show_config(sheet, alloc, kind, &config, &warnings),
+        Err(fault) => {
+            println!(sheet; "{fault:?}");
+            Ok(())
+        }
     }
 }
 
 /// Shows what the section asks of the configuration.
 fn show_config(
-    rt: &impl Print,
+    sheet: &mut Sheet,
     alloc: Global,
     kind: &str,
     config: &Config,
     warnings: &Warnings,
-) -> io::Result<()> {
+) -> Result<(), NoMemory> {
     match kind {
-        "numbers" => println!(rt; "{:?}", config.written),
-        "corrected" => println!(rt; "{:?}", config.now),
-        "shape" => println!(rt; "{:?}", shape_of(config)),
-        "values" => show_values(rt, alloc, config),
-        "warnings" => show_warnings(rt, alloc, warnings),
-        _ => println!(rt; "accepted"),
-    }
-}
-
-/// Shows what of the configuration is no number.
-fn show_values(rt: &impl Print, alloc: Global, config: &Config) -> io::Result<()> {
-    let root = String::from_utf8_lossy(alloc, config.root.as_slice())?;
-    let index = String::from_utf8_lossy(alloc, config.index.as_slice())?;
-    println!(rt;
-        "{:?} {:?} {root:?} {index:?}",
-        config.listen, config.control
-    )
-}
-
-/// Shows what an operator reads of the warnings.
-fn show_warnings(rt: &impl Print, alloc: Global, warnings: &Warnings) -> io::Result<()> {
-    println!(rt; "{}", warnings.as_slice().len())?;
-    for warning in warnings.as_slice() {
-        let line = grown(warning_text(alloc, warning))?;
-        let text = String::from_utf8_lossy(alloc, line.as_slice())?;
-        print!(rt; "{text}")?;
+        "numbers" => println!(sheet; "{:?}", config.written),
+        "corrected" => println!(sheet; "{:?}", config.now),
+        "shape" => println!(sheet; "{:?}", shape_of(config)),
+        "values" => show_values(sheet, config),
+        "warnings" => return show_warnings(sheet, alloc, warnings),
+        _ => sheet.println("accepted"),
     }
     Ok(())
 }
 
-/// Shows whether the configurations of these bytes are refused.
-pub fn show_bytes(rt: &impl Print, alloc: Global, rows: &str) -> io::Result<()> {
-    for row in rows.lines() {
-        print!(rt; "{row} => ")?;
-        let text = grown(bytes_of(alloc, row))?;
-        show_text(rt, alloc, "", text.as_slice())?;
+/// Shows what of the configuration is no number.
+fn show_values(sheet: &mut Sheet, config: &Config) {
+    print!(sheet; "{:?} {:?}", config.listen, config.control);
+    sheet.bytes("", config.root.as_slice());
+    sheet.bytes("", config.index.as_slice());
+    sheet.print("\n");
+}
+
+/// Shows what an operator reads of the warnings.
+fn show_warnings(sheet: &mut Sheet, alloc: Global, warnings: &Warnings) -> Result<(), NoMemory> {
+    println!(sheet; "{}", warnings.as_slice().len());
+    for warning in warnings.as_slice() {
+        show_warning(sheet, alloc, warning)?;
     }
+    Ok(())
+}
+
+/// Shows what an operator reads of the warning.
+fn show_warning(sheet: &mut Sheet, alloc: Global, warning: &Warning) -> Result<(), NoMemory> {
+    let line = warning_text(alloc, warning)?;
+    sheet.text(line.as_slice());
     Ok(())
 }
 
@@ -81,47 +91,58 @@ fn bytes_of(alloc: Global, row: &str) -> Result<Octets, NoMemory> {
     Ok(text)
 }
 
-/// Shows whether directives with such long names are refused.
-pub fn show_long(rt: &impl Print, alloc: Global, rows: &str) -> io::Result<()> {
-    for row in rows.lines() {
-        print!(rt; "{row} => ")?;
-        let text = grown(with_name(alloc, row))?;
-        show_text(rt, alloc, "", text.as_slice())?;
-    }
-    Ok(())
-}
-
 /// The directive of the row, with a name of so many bytes.
 fn with_name(alloc: Global, row: &str) -> Result<Octets, NoMemory> {
     let (directive, length) = row.split_once(' ').unwrap_or((row, ""));
     let mut text = Octets::of(alloc, directive.as_bytes())?;
-    text.add(b" ")?;
-    for _ in 0..number_of(length) {
-        text.add(b"a")?;
+    match add_name(&mut text, number_of(length)) {
+        Ok(()) => Ok(text),
+        Err(NoMemory) => Err(NoMemory),
     }
-    Ok(text)
 }
 
-/// Shows what configurations become that follow others.
-pub fn show_restarts(rt: &impl Print, alloc: Global, rows: &str) -> io::Result<()> {
-    for row in rows.lines() {
-        println!(rt; "{row}")?;
-        let (old, new) = row.split_once(" => ").unwrap_or((row, ""));
-        let old = grown(text_of(alloc, old, Marks::Lines))?;
-        let new = grown(text_of(alloc, new, Marks::Lines))?;
-        show_restart(rt, alloc, old.as_slice(), new.as_slice())?;
+/// Puts a name of so many bytes at the end, behind a space.
+fn add_name(text: &mut Octets, length: u64) -> Result<(), NoMemory> {
+    text.add(b" ")?;
+    for _ in 0..length {
+        text.add(b"a")?;
     }
     Ok(())
 }
 
+/// Shows what configurations become that follow others.
+pub fn show_restarts(sheet: &mut Sheet, alloc: Global, rows: &str) -> Result<(), NoMemory> {
+    for row in rows.lines() {
+        println!(sheet; "{row}");
+        show_restart(sheet, alloc, row)?;
+    }
+    Ok(())
+}
+
+/// Shows what the new configuration of the row becomes behind the old one.
+fn show_restart(sheet: &mut Sheet, alloc: Global, row: &str) -> Result<(), NoMemory> {
+    let (old, new) = row.split_once(" => ").unwrap_or((row, ""));
+    let old = text_of(alloc, old, Marks::Lines)?;
+    let new = text_of(alloc, new, Marks::Lines)?;
+    show_behind(sheet, alloc, old.as_slice(), new.as_slice());
+    Ok(())
+}
+
 /// Shows what the new configuration becomes behind the old one.
-fn show_restart(rt: &impl Print, alloc: Global, old: &[u8], new: &[u8]) -> io::Result<()> {
-    match (read_config(alloc, old), read_config(alloc, new)) {
-        (Ok((old, _)), Ok((mut new, _))) => {
-            carry_limits(&old, &mut new);
-            println!(rt; "{:?}", shape_of(&new))?;
-            println!(rt; "{:?}", new.written)
+fn show_behind(sheet: &mut Sheet, alloc: Global, old: &[u8], new: &[u8]) {
+    match read_config(alloc, old) {
+        Ok((old, _)) => show_carried(sheet, alloc, &old, new),
+        Err(_) => sheet.println("refused"),
+    }
+}
+
+/// Shows what the new configuration becomes behind the old one, which was read.
+fn show_carried(sheet: &mut Sheet, alloc: Global, old: &Config, new: &[u8]) {
+    match read_config(alloc, new) {
+        Ok((mut new, _)) => {
+            carry_limits(old, &mut new);
+            print!(sheet; "{:?}\n{:?}\n", shape_of(&new), new.written);
         }
-        _ => println!(rt; "refused"),
+        Err(_) => sheet.println("refused"),
     }
 }

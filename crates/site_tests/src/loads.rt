@@ -5,8 +5,7 @@ use file_table::{LoadFault, Site, SiteOrder, load};
 use mpm_base::{Names, NoMemory, Octets, Store, StoreFault};
 use stand_ins::{Calls, Files, MemStore};
 use std::alloc::Global;
-use std::io::{self, ErrorKind};
-use test_rows::{grown, number_of};
+use test_rows::{Sheet, number_of};
 
 /// A site of the folder `htdocs`, whose index is `index.html`.
 fn htdocs(alloc: Global) -> Result<SiteOrder, NoMemory>
@@ -17,55 +16,93 @@ fn htdocs(alloc: Global) -> Result<SiteOrder, NoMemory>
     Ok(SiteOrder { root, index })
 }
 
+/// The site of the store.
+fn load_htdocs<D: Store>(alloc: Global, store: &mut D) -> Result<Site, LoadFault> {
+    match htdocs(alloc) {
+        Ok(order) => load(alloc, store, &order),
+        Err(NoMemory) => Err(LoadFault::NoMemory),
+    }
+}
+
 /// The site of these files of a store, whose listed calls fail.
 pub fn site_of(alloc: Global, files: Files, fails: Calls) -> Result<Site, LoadFault> {
     let mut store = MemStore::make(alloc, files, fails);
-    let Ok(order) = htdocs(alloc) else {
-        return Err(LoadFault::NoMemory);
-    };
-    load(alloc, &mut store, &order)
+    load_htdocs(alloc, &mut store)
 }
 
 /// A file for each line, which is its name and its bytes.
 pub fn named(alloc: Global, names: &str) -> Result<Files, NoMemory> {
     let mut files = Files::make(alloc);
+    match add_named(&mut files, names) {
+        Ok(()) => Ok(files),
+        Err(NoMemory) => Err(NoMemory),
+    }
+}
+
+/// Puts a file there for each line, which is its name and its bytes.
+fn add_named(files: &mut Files, names: &str) -> Result<(), NoMemory> {
     for name in names.lines() {
         files.set(name, name.as_bytes())?;
-    }
-    Ok(files)
-}
-
-/// Shows how many files the site has, or why there is none.
-fn show_load(rt: &impl Print, alloc: Global, answer: Result<Site, LoadFault>) -> io::Result<()> {
-    match answer {
-        Ok(site) => println!(rt; "{} files", site.files().len()),
-        Err(LoadFault::TooLarge(name, size)) => {
-            let text = String::from_utf8_lossy(alloc, name.as_slice())?;
-            println!(rt; "TooLarge({text}, {size})")
-        }
-        Err(fault) => println!(rt; "{fault:?}"),
-    }
-}
-
-/// Shows how the files load where a call of the store fails.
-pub fn show_calls(rt: &impl Print, alloc: Global, rows: &str) -> io::Result<()> {
-    let (names, calls) = rows.split_once("--\n").unwrap_or((rows, ""));
-    for call in calls.lines() {
-        print!(rt; "{call} => ")?;
-        let files = grown(named(alloc, names))?;
-        let mut fails = Calls::make(alloc);
-        grown(fails.add(number_of(call)))?;
-        show_load(rt, alloc, site_of(alloc, files, fails))?;
     }
     Ok(())
 }
 
+/// The call of the number that the text writes, which fails.
+pub fn failing(alloc: Global, number: &str) -> Result<Calls, NoMemory> {
+    let mut fails = Calls::make(alloc);
+    fails.add(number_of(number))?;
+    Ok(fails)
+}
+
+/// Shows how many files the site has, or why there is none.
+fn show_load(sheet: &mut Sheet, answer: &Result<Site, LoadFault>) {
+    match answer {
+        Ok(site) => println!(sheet; "{} files", site.files().len()),
+        Err(LoadFault::TooLarge(name, size)) => {
+            show_too_large(sheet, name, *size);
+            sheet.print("\n");
+        }
+        Err(fault) => println!(sheet; "{fault:?}"),
+    }
+}
+
+/// Shows which file is too large.
+pub fn show_too_large(sheet: &mut Sheet, name: &Octets, size: u64) {
+    sheet.print("TooLarge(");
+    sheet.text(name.as_slice());
+    print!(sheet; ", {size})");
+}
+
+/// Shows how these files of a store load, whose listed calls fail.
+fn show_site(sheet: &mut Sheet, alloc: Global, files: Files, fails: Calls) {
+    let answer = site_of(alloc, files, fails);
+    show_load(sheet, &answer);
+}
+
+/// Shows how the files load where a call of the store fails.
+pub fn show_calls(sheet: &mut Sheet, alloc: Global, rows: &str) -> Result<(), NoMemory> {
+    let (names, calls) = rows.split_once("--\n").unwrap_or((rows, ""));
+    for call in calls.lines() {
+        print!(sheet; "{call} => ");
+        show_call(sheet, alloc, names, call)?;
+    }
+    Ok(())
+}
+
+/// Shows how the files load where that call of the store fails.
+fn show_call(sheet: &mut Sheet, alloc: Global, names: &str, call: &str) -> Result<(), NoMemory> {
+    let fails = failing(alloc, call)?;
+    let files = named(alloc, names)?;
+    show_site(sheet, alloc, files, fails);
+    Ok(())
+}
+
 /// Shows how files of these sizes load.
-pub fn show_sizes(rt: &impl Print, alloc: Global, rows: &str) -> io::Result<()> {
+pub fn show_sizes(sheet: &mut Sheet, alloc: Global, rows: &str) -> Result<(), NoMemory> {
     for row in rows.lines() {
-        print!(rt; "{row} => ")?;
-        let files = grown(sized(alloc, row))?;
-        show_load(rt, alloc, site_of(alloc, files, Calls::make(alloc)))?;
+        print!(sheet; "{row} => ");
+        let files = sized(alloc, row)?;
+        show_site(sheet, alloc, files, Calls::make(alloc));
     }
     Ok(())
 }
@@ -73,13 +110,26 @@ pub fn show_sizes(rt: &impl Print, alloc: Global, rows: &str) -> io::Result<()> 
 /// Files of these names and sizes, each of the byte `#` alone.
 pub fn sized(alloc: Global, row: &str) -> Result<Files, NoMemory> {
     let mut files = Files::make(alloc);
-    for part in row.split('|') {
-        let (name, size) = part.split_once(' ').unwrap_or((part, ""));
-        let mut bytes = Vec::new(alloc);
-        bytes.resize(number_of(size) as usize, b'#')?;
-        files.set(name, bytes.as_slice())?;
+    match add_sized(alloc, &mut files, row) {
+        Ok(()) => Ok(files),
+        Err(NoMemory) => Err(NoMemory),
     }
-    Ok(files)
+}
+
+/// Puts files of these names and sizes there.
+fn add_sized(alloc: Global, files: &mut Files, row: &str) -> Result<(), NoMemory> {
+    for part in row.split('|') {
+        add_large(alloc, files, part)?;
+    }
+    Ok(())
+}
+
+/// Puts a file of this name and size there.
+fn add_large(alloc: Global, files: &mut Files, part: &str) -> Result<(), NoMemory> {
+    let (name, size) = part.split_once(' ').unwrap_or((part, ""));
+    let mut bytes = Vec::new(alloc);
+    bytes.resize(number_of(size) as usize, b'#')?;
+    files.set(name, bytes.as_slice())
 }
 
 /// A store of 65,537 files, which tells nothing and can't give their names. All are empty.
@@ -122,12 +172,9 @@ impl Store for CrowdedStore {
 }
 
 /// Shows that a store of too many files is refused, and how often it was asked.
-pub fn show_crowd(rt: &impl Print, alloc: Global) -> io::Result<()> {
+pub fn show_crowd(sheet: &mut Sheet, alloc: Global) {
     let mut store = CrowdedStore::make();
-    let Ok(order) = htdocs(alloc) else {
-        return Err(io::Error::from(ErrorKind::OutOfMemory));
-    };
-    let answer = load(alloc, &mut store, &order);
-    show_load(rt, alloc, answer)?;
-    println!(rt; "asked {}", store.refusals)
+    let answer = load_htdocs(alloc, &mut store);
+    show_load(sheet, &answer);
+    println!(sheet; "asked {}", store.refusals);
 }

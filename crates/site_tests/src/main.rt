@@ -30,38 +30,53 @@ mod reloads;
 mod scripts;
 mod search;
 
+use mpm_base::NoMemory;
 use std::alloc::Global;
 use std::io;
-use test_rows::{Section, begin_section, sections_of};
+use test_rows::{Section, Sheet, grown, open_section, sections_of};
 
 fn main(rt: HostRuntime) -> io::Result<()> {
     let input = io::read_to_string(rt.alloc(), rt.reader())?;
     for text in sections_of(input.as_str()) {
-        let section = begin_section(&rt, text)?;
-        show_section(&rt, rt.alloc(), section)?;
+        let sheet = grown(sheet_of(rt.alloc(), text))?;
+        sheet.show(&rt)?;
     }
     Ok(())
 }
 
+/// What comes of the section of this text.
+fn sheet_of(alloc: Global, text: &str) -> Result<Sheet, NoMemory> {
+    let mut sheet = Sheet::make(alloc);
+    let section = open_section(&mut sheet, text);
+    match show_section(&mut sheet, alloc, section) {
+        Ok(()) => Ok(sheet),
+        Err(NoMemory) => Err(NoMemory),
+    }
+}
+
 /// Shows what comes of the rows of the section.
-fn show_section(rt: &impl Print, alloc: Global, section: Section<'_>) -> io::Result<()> {
+fn show_section(sheet: &mut Sheet, alloc: Global, section: Section<'_>) -> Result<(), NoMemory> {
     let Section { word, rows, .. } = section;
     match word {
-        "bytes" => configurations::show_bytes(rt, alloc, rows),
-        "long" => configurations::show_long(rt, alloc, rows),
-        "restart" => configurations::show_restarts(rt, alloc, rows),
-        "script" => scripts::show_scripts(rt, alloc, rows),
-        "paths" => paths::show_paths(rt, alloc, rows),
-        "types" => paths::show_types(rt, alloc, rows),
-        "calls" => loads::show_calls(rt, alloc, rows),
-        "sizes" => loads::show_sizes(rt, alloc, rows),
-        "reload" => reloads::show_restarts(rt, alloc, rows),
-        "reload-sizes" => reloads::show_sizes(rt, alloc, rows),
-        "reload-calls" => reloads::show_calls(rt, alloc, rows),
-        "reload-crowd" => reloads::show_crowd(rt, alloc),
-        "crowd" => loads::show_crowd(rt, alloc),
-        "search" => search::show_search(rt, alloc, rows),
-        "words" => command_lines::show_forms(rt, alloc, rows),
-        _ => configurations::show_rows(rt, alloc, word, rows),
+        "restart" => configurations::show_restarts(sheet, alloc, rows),
+        "script" => scripts::show_scripts(sheet, alloc, rows),
+        "paths" => paths::show_paths(sheet, alloc, rows),
+        "types" => paths::show_types(sheet, alloc, rows),
+        "calls" => loads::show_calls(sheet, alloc, rows),
+        "sizes" => loads::show_sizes(sheet, alloc, rows),
+        "reload" => reloads::show_restarts(sheet, alloc, rows),
+        "reload-sizes" => reloads::show_sizes(sheet, alloc, rows),
+        "reload-calls" => reloads::show_calls(sheet, alloc, rows),
+        "reload-crowd" => {
+            reloads::show_crowd(sheet, alloc);
+            Ok(())
+        }
+        "crowd" => {
+            loads::show_crowd(sheet, alloc);
+            Ok(())
+        }
+        "search" => search::show_search(sheet, alloc, rows),
+        "words" => command_lines::show_forms(sheet, alloc, rows),
+        _ => configurations::show_rows(sheet, alloc, word, rows),
     }
 }

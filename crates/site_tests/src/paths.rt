@@ -1,29 +1,45 @@
 //! Sites by example: what paths name, and the types of files.
 use crate::loads::{named, site_of};
 use file_table::{Found, Site, bytes, content_type, find};
+use mpm_base::NoMemory;
 use stand_ins::Calls;
 use std::alloc::Global;
-use std::io;
-use test_rows::grown;
+use test_rows::Sheet;
 
 /// Shows what each path names in the site of these files.
-pub fn show_paths(rt: &impl Print, alloc: Global, rows: &str) -> io::Result<()> {
+pub fn show_paths(sheet: &mut Sheet, alloc: Global, rows: &str) -> Result<(), NoMemory> {
     let (names, paths) = rows.split_once("--\n").unwrap_or((rows, ""));
-    let files = grown(named(alloc, names))?;
+    let files = named(alloc, names)?;
     match site_of(alloc, files, Calls::make(alloc)) {
-        Ok(site) => show_found(rt, alloc, &site, paths),
-        Err(fault) => println!(rt; "{fault:?}"),
+        Ok(site) => show_all_found(sheet, alloc, &site, paths),
+        Err(fault) => {
+            println!(sheet; "{fault:?}");
+            Ok(())
+        }
     }
 }
 
 /// Shows what each path names in the site.
-fn show_found(rt: &impl Print, alloc: Global, site: &Site, paths: &str) -> io::Result<()> {
+fn show_all_found(
+    sheet: &mut Sheet,
+    alloc: Global,
+    site: &Site,
+    paths: &str,
+) -> Result<(), NoMemory> {
     for path in paths.lines() {
-        let found = grown(find(alloc, site, path.as_bytes()))?;
-        let (word, bytes) = text_of(site, &found);
-        let text = String::from_utf8_lossy(alloc, bytes)?;
-        println!(rt; "{path} => {word}{text}")?;
+        print!(sheet; "{path} => ");
+        show_found(sheet, alloc, site, path)?;
     }
+    Ok(())
+}
+
+/// Shows what the path names in the site.
+fn show_found(sheet: &mut Sheet, alloc: Global, site: &Site, path: &str) -> Result<(), NoMemory> {
+    let found = find(alloc, site, path.as_bytes())?;
+    let (word, bytes) = text_of(site, &found);
+    sheet.print(word);
+    sheet.text(bytes);
+    sheet.print("\n");
     Ok(())
 }
 
@@ -39,22 +55,23 @@ fn text_of<'a>(site: &'a Site, found: &'a Found) -> (&'static str, &'a [u8]) {
 }
 
 /// Shows the content type of each file.
-pub fn show_types(rt: &impl Print, alloc: Global, rows: &str) -> io::Result<()> {
-    let files = grown(named(alloc, rows))?;
+pub fn show_types(sheet: &mut Sheet, alloc: Global, rows: &str) -> Result<(), NoMemory> {
+    let files = named(alloc, rows)?;
     match site_of(alloc, files, Calls::make(alloc)) {
-        Ok(site) => show_types_of(rt, alloc, &site),
-        Err(fault) => println!(rt; "{fault:?}"),
+        Ok(site) => show_types_of(sheet, &site),
+        Err(fault) => println!(sheet; "{fault:?}"),
     }
+    Ok(())
 }
 
 /// Shows the name and the content type of each file of the site.
-fn show_types_of(rt: &impl Print, alloc: Global, site: &Site) -> io::Result<()> {
+fn show_types_of(sheet: &mut Sheet, site: &Site) {
     for (place, file) in site.files().iter().enumerate() {
         if place < site.files().len() {
-            let name = String::from_utf8_lossy(alloc, file.name.as_slice())?;
-            let found = String::from_utf8_lossy(alloc, content_type(site, place as u32))?;
-            println!(rt; "{name} => {found}")?;
+            sheet.text(file.name.as_slice());
+            sheet.print(" => ");
+            sheet.text(content_type(site, place as u32));
+            sheet.print("\n");
         }
     }
-    Ok(())
 }

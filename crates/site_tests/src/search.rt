@@ -5,8 +5,7 @@ use file_table::{Named, count_before};
 use mpm_base::{NoMemory, Octets};
 use std::alloc::Global;
 use std::cell::Cell;
-use std::io;
-use test_rows::grown;
+use test_rows::Sheet;
 
 /// A name that counts how often it is looked at.
 #[derive(Drop)]
@@ -46,14 +45,19 @@ fn numbered<'a>(alloc: Global, looks: &'a Cell<u64>) -> Result<Vec<Counted<'a>>,
 }
 
 /// Shows before how many names each name has its place, and whether at most 17 were looked at.
-pub fn show_search(rt: &impl Print, alloc: Global, rows: &str) -> io::Result<()> {
+pub fn show_search(sheet: &mut Sheet, alloc: Global, rows: &str) -> Result<(), NoMemory> {
     let looks = Cell::new(0);
-    let items = grown(numbered(alloc, &looks))?;
+    let items = numbered(alloc, &looks)?;
     for row in rows.lines() {
-        let (front, back) = row.split_once('|').unwrap_or((row, ""));
-        looks.set(0);
-        let place = count_before(items.as_slice(), front.as_bytes(), back.as_bytes());
-        println!(rt; "{row} => {place}, {}", looks.get() <= 17)?;
+        show_place(sheet, &looks, items.as_slice(), row);
     }
     Ok(())
+}
+
+/// Shows before how many of the names the name of the row has its place, and whether at most 17 were looked at.
+fn show_place(sheet: &mut Sheet, looks: &Cell<u64>, items: &[Counted<'_>], row: &str) {
+    let (front, back) = row.split_once('|').unwrap_or((row, ""));
+    looks.set(0);
+    let place = count_before(items, front.as_bytes(), back.as_bytes());
+    println!(sheet; "{row} => {place}, {}", looks.get() <= 17);
 }

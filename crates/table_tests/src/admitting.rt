@@ -1,15 +1,14 @@
 //! The rule of admission, and its choice.
 use admission::{ChildCount, admits, pick};
+use mpm_base::NoMemory;
 use std::alloc::{AllocError, Global};
-use std::io;
-use test_rows::{small_of, words};
+use test_rows::{Sheet, small_of, words};
 
 /// Shows whether a child takes a further connection: of each row its workers, its factor, its idle workers and its open connections.
-pub fn show_admits(rt: &impl Print, rows: &str) -> io::Result<()> {
+pub fn show_admits(sheet: &mut Sheet, rows: &str) {
     for row in rows.lines() {
-        println!(rt; "{row} => {}", has_room(row))?;
+        println!(sheet; "{row} => {}", has_room(row));
     }
-    Ok(())
 }
 
 /// Whether the child of these words takes a further connection. It has no clause, so that what `admits` says isn't carried along.
@@ -19,10 +18,10 @@ fn has_room(text: &str) -> bool {
 }
 
 /// Shows which child takes a connection, of those of each row.
-pub fn show_picks(rt: &impl Print, alloc: Global, rows: &str) -> io::Result<()> {
+pub fn show_picks(sheet: &mut Sheet, alloc: Global, rows: &str) -> Result<(), NoMemory> {
     for row in rows.lines() {
         let picked = pick_of(alloc, row)?;
-        println!(rt; "{row} => {picked:?}")?;
+        println!(sheet; "{row} => {picked:?}");
     }
     Ok(())
 }

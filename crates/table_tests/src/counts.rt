@@ -2,7 +2,7 @@
 use crate::pages::plain_phase;
 use conn_machine::{Place, Row, Rows};
 use mpm_base::Kind;
-use std::io;
+use test_rows::Sheet;
 
 /// What is counted of all rows.
 #[derive(Clone, Copy, Debug, PartialEq)]
@@ -128,26 +128,26 @@ fn is_served(rows: &[Row], child: u32, cell: u32) -> bool {
 }
 
 /// Shows where the list keeps something else than a look at each row counts, of so many children and cells, and says whether it does.
-pub fn show_other(rt: &impl Print, rows: &Rows, children: u32, cells: u32) -> io::Result<bool> {
+pub fn show_other(sheet: &mut Sheet, rows: &Rows, children: u32, cells: u32) -> bool {
     let kept = kept_totals(rows);
     let counted = counted_totals(rows.as_slice());
     if kept != counted {
-        print!(rt; "{kept:?}, and counted {counted:?}")?;
-        return Ok(true);
+        print!(sheet; "{kept:?}, and counted {counted:?}");
+        return true;
     }
     for child in 0..children {
         let kept = kept_of(rows, child, cells);
         let counted = counted_of(rows.as_slice(), child, cells);
         if kept != counted {
-            print!(rt; "child {child}: {kept:?}, and counted {counted:?}")?;
-            return Ok(true);
+            print!(sheet; "child {child}: {kept:?}, and counted {counted:?}");
+            return true;
         }
         if let Some(cell) = other_cell(rows, child, cells) {
-            print!(rt; "child {child}: cell {cell} is served, or isn't, or in another phase")?;
-            return Ok(true);
+            print!(sheet; "child {child}: cell {cell} is served, or isn't, or in another phase");
+            return true;
         }
     }
-    Ok(false)
+    false
 }
 
 /// The first cell of the child of which the list keeps something else.

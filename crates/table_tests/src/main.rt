@@ -49,37 +49,54 @@ mod slot_rings;
 mod slots;
 mod tables;
 
+use mpm_base::NoMemory;
 use std::alloc::Global;
 use std::io;
-use test_rows::{Section, begin_section, sections_of};
+use test_rows::{Section, Sheet, grown, open_section, sections_of};
 
 fn main(rt: HostRuntime) -> io::Result<()> {
     let input = io::read_to_string(rt.alloc(), rt.reader())?;
     for text in sections_of(input.as_str()) {
-        let section = begin_section(&rt, text)?;
-        show_section(&rt, rt.alloc(), section)?;
+        let sheet = grown(sheet_of(rt.alloc(), text))?;
+        sheet.show(&rt)?;
     }
     Ok(())
 }
 
+/// What comes of the section of this text.
+fn sheet_of(alloc: Global, text: &str) -> Result<Sheet, NoMemory> {
+    let mut sheet = Sheet::make(alloc);
+    let section = open_section(&mut sheet, text);
+    show_section(&mut sheet, alloc, section)?;
+    Ok(sheet)
+}
+
 /// Shows what comes of the rows of the section.
-fn show_section(rt: &impl Print, alloc: Global, section: Section<'_>) -> io::Result<()> {
+fn show_section(sheet: &mut Sheet, alloc: Global, section: Section<'_>) -> Result<(), NoMemory> {
     let Section { word, rest, rows } = section;
     match word {
-        "may" | "step" => tables::show_last_events(rt, alloc, section),
-        "play" => tables::show_play(rt, alloc, rest, rows),
-        "bounds" => tables::show_bounds(rt, alloc, rows),
-        "counts" => played::show_counts(rt, alloc, rest, rows),
-        "changes" => played::show_changes(rt, alloc, rest, rows),
-        "admits" => admitting::show_admits(rt, rows),
-        "pick" => admitting::show_picks(rt, alloc, rows),
-        "queues" => queues::show_queues(rt, alloc, rest, rows),
-        "queues-as-a-list" => queues::show_same_queues(rt, alloc, rest, rows),
-        "rings" => slot_rings::show_slot_rings(rt, alloc, rest, rows),
-        "rings-as-a-list" => slot_rings::show_same_rings(rt, alloc, rest, rows),
-        "slots" => slots::show_slots(rt, alloc, rest, rows),
-        "slots-as-a-list" => slots::show_same_slots(rt, alloc, rest, rows),
-        "record" => records::show_records(rt, alloc, rows),
-        _ => records::show_laws(rt),
+        "may" | "step" => tables::show_last_events(sheet, alloc, section),
+        "play" => tables::show_play(sheet, alloc, rest, rows),
+        "bounds" => tables::show_bounds(sheet, alloc, rows),
+        "counts" => played::show_counts(sheet, alloc, rest, rows),
+        "changes" => played::show_changes(sheet, alloc, rest, rows),
+        "pick" => admitting::show_picks(sheet, alloc, rows),
+        "queues" => queues::show_queues(sheet, alloc, rest, rows),
+        "queues-as-a-list" => queues::show_same_queues(sheet, alloc, rest, rows),
+        "rings" => slot_rings::show_slot_rings(sheet, alloc, rest, rows),
+        "rings-as-a-list" => slot_rings::show_same_rings(sheet, alloc, rest, rows),
+        "slots" => slots::show_slots(sheet, alloc, rest, rows),
+        "slots-as-a-list" => slots::show_same_slots(sheet, alloc, rest, rows),
+        "record" => records::show_records(sheet, alloc, rows),
+        "admits" => {
+            admitting::show_admits(sheet, rows);
+            Ok(())
+        }
+        _ => {
+            records::call_laws();
+            records::call_laws_of_runs();
+            sheet.println("done");
+            Ok(())
+        }
     }
 }

@@ -3,8 +3,7 @@ use crate::counts::{is_closing, is_in_cell, is_live, is_parked_as};
 use conn_machine::{Child, ChildPhase, Phase, Place, Row, State};
 use mpm_base::{Kind, NoMemory, Octets, Snapshot};
 use std::alloc::Global;
-use std::io;
-use test_rows::{grown, small};
+use test_rows::{Sheet, small};
 
 /// The numbers of a page.
 #[derive(Clone, Copy, Debug, PartialEq)]
@@ -32,23 +31,23 @@ fn shown_numbers(page: &Snapshot) -> Numbers {
 }
 
 /// Shows the page: its numbers, and its letters.
-pub fn show_page(rt: &impl Print, page: &Snapshot) -> io::Result<()> {
-    print!(rt; "  {:?}, letters ", shown_numbers(page))?;
+pub fn show_page(sheet: &mut Sheet, page: &Snapshot) {
+    print!(sheet; "  {:?}, letters ", shown_numbers(page));
     for letter in page.letters.as_slice() {
-        print!(rt; "{}", char::from(*letter))?;
+        print!(sheet; "{}", char::from(*letter));
     }
-    println!(rt; "")
+    sheet.println("");
 }
 
 /// Shows the numbers of the page, and how many letters it has of each kind.
-pub fn show_kinds(rt: &impl Print, page: &Snapshot) -> io::Result<()> {
+pub fn show_kinds(sheet: &mut Sheet, page: &Snapshot) {
     let letters = page.letters.as_slice();
-    print!(rt; "  {:?}, {} letters", shown_numbers(page), letters.len())?;
+    print!(sheet; "  {:?}, {} letters", shown_numbers(page), letters.len());
     for kind in [b'_', b'R', b'W', b'C', b'G', b'.'] {
         let count = letters.iter().filter(|letter| **letter == kind).count();
-        print!(rt; ", {count} {}", char::from(kind))?;
+        print!(sheet; ", {count} {}", char::from(kind));
     }
-    println!(rt; "")
+    sheet.println("");
 }
 
 /// The phase of the worker of the cell of the child, by a look at each row: of several the first in their order.
@@ -121,17 +120,17 @@ fn plain_numbers(state: &State, letters: &[u8]) -> Numbers {
 
 /// Shows where the page shows something else than a look at each row of the state, and says whether it does.
 pub fn show_other_page(
-    rt: &impl Print,
+    sheet: &mut Sheet,
     alloc: Global,
     state: &State,
     page: &Snapshot,
-) -> io::Result<bool> {
-    let letters = grown(plain_letters(alloc, state))?;
+) -> Result<bool, NoMemory> {
+    let letters = plain_letters(alloc, state)?;
     let numbers = plain_numbers(state, letters.as_slice());
     if shown_numbers(page) == numbers && page.letters.as_slice() == letters.as_slice() {
         return Ok(false);
     }
-    show_page(rt, page)?;
-    print!(rt; "and plainly {numbers:?}, letters {:?}", letters.as_slice())?;
+    show_page(sheet, page);
+    print!(sheet; "and plainly {numbers:?}, letters {:?}", letters.as_slice());
     Ok(true)
 }

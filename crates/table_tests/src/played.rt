@@ -8,8 +8,7 @@ use crate::tables::Table;
 use conn_machine::{Event, Rows, State};
 use mpm_base::{NoMemory, Note};
 use std::alloc::Global;
-use std::io;
-use test_rows::{NumberStream, below, grown, listed_at, number_of, small, small_of, words};
+use test_rows::{NumberStream, Sheet, below, listed_at, number_of, small, small_of, words};
 
 /// How many events were allowed, and how many of them were answers that are a status page.
 #[derive(Clone, Copy, Debug)]
@@ -20,13 +19,20 @@ struct Done {
 
 /// Shows whether the counts of a state, and the status pages, are right behind each event, and how many events it allowed, for the seed
 /// and the number of events of each row.
-pub fn show_counts(rt: &impl Print, alloc: Global, opening: &str, rows: &str) -> io::Result<()> {
+pub fn show_counts(
+    sheet: &mut Sheet,
+    alloc: Global,
+    opening: &str,
+    rows: &str,
+) -> Result<(), NoMemory> {
     for row in rows.lines() {
-        print!(rt; "{row} => ")?;
+        print!(sheet; "{row} => ");
         let (seed, events) = words(row);
         let mut numbers = NumberStream::from(number_of(seed));
-        let done = play_events(rt, alloc, opening, &mut numbers, number_of(events))?;
-        println!(rt; ", {} allowed, {} pages", done.allowed, done.pages)?;
+        let mut table = Table::open(alloc, opening)?;
+        let events = number_of(events);
+        let done = play_events(sheet, alloc, opening, &mut table, &mut numbers, events)?;
+        println!(sheet; ", {} allowed, {} pages", done.allowed, done.pages);
     }
     Ok(())
 }
@@ -34,13 +40,13 @@ pub fn show_counts(rt: &impl Print, alloc: Global, opening: &str, rows: &str) ->
 /// Plays so many events, shows what differs first behind one of them, and gives how many were allowed. A server that takes no
 /// connection any more, and has none, opens anew.
 fn play_events(
-    rt: &impl Print,
+    sheet: &mut Sheet,
     alloc: Global,
     opening: &str,
+    table: &mut Table,
     numbers: &mut NumberStream,
     events: u64,
-) -> io::Result<Done> {
-    let mut table = grown(Table::open(alloc, opening))?;
+) -> Result<Done, NoMemory> {
     let children = small(table.state.children.len()).saturating_add(1);
     let cells = table.state.shape.threads.max(8).saturating_add(2);
     let mut done = Done {
@@ -49,17 +55,17 @@ fn play_events(
     };
     for _ in 0..events {
         if is_over(&table.state) {
-            table = grown(Table::open(alloc, opening))?;
+            *table = Table::open(alloc, opening)?;
         }
-        let event = grown(play_one(alloc, &mut table, numbers))?;
+        let event = play_one(alloc, table, numbers)?;
         done.count(event.as_ref());
-        if show_other(rt, &table.state.rows, children, cells)?
-            || show_other_pages(rt, alloc, &table, event.as_ref())?
+        if show_other(sheet, &table.state.rows, children, cells)
+            || show_other_pages(sheet, alloc, table, event.as_ref())?
         {
             return Ok(done);
         }
     }
-    print!(rt; "equal")?;
+    sheet.print("equal");
     Ok(done)
 }
 
@@ -106,22 +112,22 @@ impl Done {
 /// Shows where a status page of the state behind the event, or the one that the event answers, shows something else than a look at each
 /// row, and says whether it does.
 fn show_other_pages(
-    rt: &impl Print,
+    sheet: &mut Sheet,
     alloc: Global,
     table: &Table,
     event: Option<&Event>,
-) -> io::Result<bool> {
-    let page = grown(table.page(alloc))?;
-    if show_other_page(rt, alloc, &table.state, &page)? {
+) -> Result<bool, NoMemory> {
+    let page = table.page(alloc)?;
+    if show_other_page(sheet, alloc, &table.state, &page)? {
         return Ok(true);
     }
     let Some(slot) = slot_of_page(event) else {
         return Ok(false);
     };
     match table.notes.last_page(slot) {
-        Some(page) => show_other_page(rt, alloc, &table.state, page),
+        Some(page) => show_other_page(sheet, alloc, &table.state, page),
         None => {
-            print!(rt; "no page of slot {slot}")?;
+            print!(sheet; "no page of slot {slot}");
             Ok(true)
         }
     }
@@ -136,7 +142,12 @@ struct Bounds {
 
 /// Shows whether the counts of a list of rows are right behind each change, also one that no event makes, for the seed and the number
 /// of changes of each row. The words of the section say how many rows there are, and of how many children and cells they may be.
-pub fn show_changes(rt: &impl Print, alloc: Global, sizes: &str, rows: &str) -> io::Result<()> {
+pub fn show_changes(
+    sheet: &mut Sheet,
+    alloc: Global,
+    sizes: &str,
+    rows: &str,
+) -> Result<(), NoMemory> {
     let (slots, rest) = words(sizes);
     let (children, cells) = words(rest);
     let bounds = Bounds {
@@ -144,34 +155,40 @@ pub fn show_changes(rt: &impl Print, alloc: Global, sizes: &str, rows: &str) -> 
         cells: small_of(cells) as usize,
     };
     for row in rows.lines() {
-        print!(rt; "{row} => ")?;
+        print!(sheet; "{row} => ");
         let (seed, changes) = words(row);
         let mut numbers = NumberStream::from(number_of(seed));
-        let mut changed = grown(Rows::make(alloc, small_of(slots)))?;
-        make_changes(rt, &mut changed, bounds, &mut numbers, number_of(changes))?;
+        let mut changed = Rows::make(alloc, small_of(slots))?;
+        make_changes(
+            sheet,
+            &mut changed,
+            bounds,
+            &mut numbers,
+            number_of(changes),
+        );
     }
     Ok(())
 }
 
 /// Makes so many changes, and shows what differs first behind one of them.
 fn make_changes(
-    rt: &impl Print,
+    sheet: &mut Sheet,
     rows: &mut Rows,
     bounds: Bounds,
     numbers: &mut NumberStream,
     changes: u64,
-) -> io::Result<()> {
+) {
     let children = small(bounds.children).saturating_add(1);
     let cells = small(bounds.cells.max(rows.len())).saturating_add(2);
     for _ in 0..changes {
         let number = numbers.next();
         let detail = numbers.next();
         change_row(rows, bounds, number, detail);
-        if show_other(rt, rows, children, cells)? {
-            return println!(rt; "");
+        if show_other(sheet, rows, children, cells) {
+            return sheet.println("");
         }
     }
-    println!(rt; "equal")
+    sheet.println("equal");
 }
 
 /// Makes the change that the numbers ask for. It has no clause, so that what the calls say isn't carried through all that follows.

@@ -3,9 +3,9 @@ ghost use Rattle.std.specs.Prelude.{◌≤◌};
 
 use crate::calls::{Answer, Call, call_from, call_of};
 use crate::plain_queues::PlainQueues;
+use mpm_base::NoMemory;
 use std::alloc::Global;
-use std::io;
-use test_rows::{NumberStream, grown, number_of, small_of, words};
+use test_rows::{NumberStream, Sheet, number_of, small_of, words};
 use timeout_queues::Queues;
 
 /// What the queues answer to the call.
@@ -33,37 +33,47 @@ pub fn slots_of(text: &str) -> u32
 }
 
 /// Shows what queues of so many slots answer to each call, where one comes behind the other.
-pub fn show_queues(rt: &impl Print, alloc: Global, slots: &str, rows: &str) -> io::Result<()> {
-    let mut queues = grown(Queues::make(alloc, slots_of(slots)))?;
+pub fn show_queues(
+    sheet: &mut Sheet,
+    alloc: Global,
+    slots: &str,
+    rows: &str,
+) -> Result<(), NoMemory> {
+    let mut queues = Queues::make(alloc, slots_of(slots))?;
     for row in rows.lines() {
         match call_of(row) {
-            Some(call) => println!(rt; "{row} => {:?}", answer_to(&mut queues, call))?,
-            None => println!(rt; "{row} is no call")?,
+            Some(call) => println!(sheet; "{row} => {:?}", answer_to(&mut queues, call)),
+            None => println!(sheet; "{row} is no call"),
         }
     }
     Ok(())
 }
 
 /// Shows whether queues of so many slots answer as a plain list does, for the seed and the number of calls of each row.
-pub fn show_same_queues(rt: &impl Print, alloc: Global, slots: &str, rows: &str) -> io::Result<()> {
+pub fn show_same_queues(
+    sheet: &mut Sheet,
+    alloc: Global,
+    slots: &str,
+    rows: &str,
+) -> Result<(), NoMemory> {
     let slots = slots_of(slots);
     for row in rows.lines() {
-        print!(rt; "{row} => ")?;
-        let mut rings = grown(Queues::make(alloc, slots))?;
-        let mut plain = grown(PlainQueues::make(alloc, slots))?;
-        show_first_other(rt, &mut rings, &mut plain, slots, row)?;
+        print!(sheet; "{row} => ");
+        let mut rings = Queues::make(alloc, slots)?;
+        let mut plain = PlainQueues::make(alloc, slots)?;
+        show_first_other(sheet, &mut rings, &mut plain, slots, row);
     }
     Ok(())
 }
 
 /// Shows the first call that the two answer in two ways, or that there is none.
 fn show_first_other(
-    rt: &impl Print,
+    sheet: &mut Sheet,
     rings: &mut Queues,
     plain: &mut PlainQueues,
     slots: u32,
     row: &str,
-) -> io::Result<()> {
+) {
     let (seed, calls) = words(row);
     let mut numbers = NumberStream::from(number_of(seed));
     for place in 0..number_of(calls) {
@@ -71,8 +81,8 @@ fn show_first_other(
         let found = answer_to(rings, call);
         let want = plain.answer_to(call);
         if found != want {
-            return println!(rt; "call {place}, {call:?}: {found:?}, and plainly {want:?}");
+            return println!(sheet; "call {place}, {call:?}: {found:?}, and plainly {want:?}");
         }
     }
-    println!(rt; "equal")
+    sheet.println("equal");
 }

@@ -1,47 +1,40 @@
 //! The record of a value that never folded, and the laws.
 use conn_machine::{Folded, laws, laws_of_runs};
+use mpm_base::NoMemory;
 use std::alloc::Global;
-use std::io;
-use test_rows::{grown, small_of};
+use test_rows::{Sheet, small_of};
 
 /// Shows the record of a value that never folded, for so many passes as each row says.
-pub fn show_records(rt: &impl Print, alloc: Global, rows: &str) -> io::Result<()> {
+pub fn show_records(sheet: &mut Sheet, alloc: Global, rows: &str) -> Result<(), NoMemory> {
     for row in rows.lines() {
-        println!(rt; "{row} =>")?;
-        let folded = grown(Folded::opening(alloc, small_of(row)))?;
-        show_counts(rt, &folded)?;
-        println!(rt;
-            "lines {}, {:?}, ordinals {:?}, rows {:?}",
-            folded.lines.len(),
-            folded.editions.as_slice(),
-            folded.ordinals.as_slice(),
-            folded.rows.as_slice()
-        )?;
+        println!(sheet; "{row} =>");
+        let folded = Folded::opening(alloc, small_of(row))?;
+        show_record(sheet, &folded);
     }
     Ok(())
 }
 
-/// Shows what the record counts.
-fn show_counts(rt: &impl Print, folded: &Folded) -> io::Result<()> {
-    print!(rt;
+/// Shows what the record counts, and what it keeps.
+fn show_record(sheet: &mut Sheet, folded: &Folded) {
+    print!(sheet;
         "entries {}, accepted {}, closed {}, responses {}, causes {:?}",
         folded.entries, folded.accepted, folded.closed, folded.responses, folded.causes
-    )?;
-    println!(rt;
+    );
+    println!(sheet;
         ", children {}, ticks {}, readies {}, orders {}",
         folded.children, folded.ticks, folded.readies, folded.orders
-    )
+    );
+    println!(sheet;
+        "lines {}, {:?}, ordinals {:?}, rows {:?}",
+        folded.lines.len(),
+        folded.editions.as_slice(),
+        folded.ordinals.as_slice(),
+        folded.rows.as_slice()
+    );
 }
 
-/// Calls each law, and shows that they do nothing.
-pub fn show_laws(rt: &impl Print) -> io::Result<()> {
-    call_laws();
-    call_laws_of_runs();
-    println!(rt; "done")
-}
-
-/// Calls each law of the machine.
-fn call_laws() {
+/// Calls each law of the machine, which does nothing.
+pub fn call_laws() {
     laws::events_keep_states_sound();
     laws::queues_and_holds_are_earned();
     laws::accepted_connections_are_closed_or_live();
@@ -60,8 +53,8 @@ fn call_laws() {
     laws::passes_leave_the_rest_to_the_listener();
 }
 
-/// Calls each law of histories that go on.
-fn call_laws_of_runs() {
+/// Calls each law of histories that go on, which does nothing.
+pub fn call_laws_of_runs() {
     laws_of_runs::histories_go_on_by_one_entry();
     laws_of_runs::passes_add_entries();
     laws_of_runs::histories_join();

@@ -2,54 +2,53 @@
 use crate::tables::Table;
 use conn_machine::{Row, State};
 use mpm_base::Notes;
-use std::io;
+use test_rows::Sheet;
 
 /// Shows how many rows and children there are, and what the state says of itself.
-pub fn show_sizes(rt: &impl Print, state: &State) -> io::Result<()> {
-    print!(rt;
+pub fn show_sizes(sheet: &mut Sheet, state: &State) {
+    print!(sheet;
         "{} rows, none {}, {} children, none {}",
         state.rows.len(),
         state.rows.is_empty(),
         state.children.len(),
         state.children.is_empty()
-    )?;
-    println!(rt;
+    );
+    println!(sheet;
         ", halted {}, live {}",
         state.going.is_halted(),
         state.has_live()
-    )
+    );
 }
 
 /// Shows the whole state: what it has once, each child, and each row with its notes and its signal.
-pub fn show_state(rt: &impl Print, table: &Table) -> io::Result<()> {
+pub fn show_state(sheet: &mut Sheet, table: &Table) {
     let state = &table.state;
-    println!(rt;
+    println!(sheet;
         "  {:?} at {}, newest {}, accepted {}, {:?}",
         state.going, state.moment, state.newest, state.accepted, state.shape
-    )?;
+    );
     for child in state.children.as_slice() {
-        println!(rt;
+        println!(sheet;
             "  {:?} child of {}, {:?}",
             child.phase, child.generation, child.shape
-        )?;
+        );
     }
     for slot in 0..u32::MAX {
         let Some(row) = state.rows.get(slot) else {
-            return Ok(());
+            return;
         };
         let Some(notes) = table.notes.get(slot) else {
-            return Ok(());
+            return;
         };
-        show_row(rt, slot, row)?;
-        show_notes(rt, row, notes)?;
-        println!(rt; ", signal {}", state.signals.get(slot))?;
+        show_row(sheet, slot, row);
+        show_notes(sheet, row, notes);
+        println!(sheet; ", signal {}", state.signals.get(slot));
     }
-    Ok(())
 }
 
 /// Shows the row of the slot.
-fn show_row(rt: &impl Print, slot: u32, row: &Row) -> io::Result<()> {
-    print!(rt;
+fn show_row(sheet: &mut Sheet, slot: u32, row: &Row) {
+    print!(sheet;
         "  {slot}.{} {:?}, owner {:?}, arrival {}, child {} of {}, live there {}",
         row.life,
         row.place,
@@ -58,23 +57,22 @@ fn show_row(rt: &impl Print, slot: u32, row: &Row) -> io::Result<()> {
         row.child,
         row.generation,
         row.is_live_in(row.child)
-    )?;
-    print!(rt;
+    );
+    print!(sheet;
         ", from {:?} until {}, mid {}, last {}, short {}, cause {:?}",
         row.from, row.deadline, row.mid, row.last, row.short, row.cause
-    )
+    );
 }
 
 /// Shows the notes of the row, and where the row counts others.
-fn show_notes(rt: &impl Print, row: &Row, notes: &Notes) -> io::Result<()> {
-    print!(rt;
+fn show_notes(sheet: &mut Sheet, row: &Row, notes: &Notes) {
+    print!(sheet;
         ", notes {:?}, says last {}",
         notes.as_slice(),
         row.notes.says_last()
-    )?;
+    );
     let count = row.notes.count() as usize;
     if count != notes.len() || row.notes.is_empty() != notes.is_empty() {
-        print!(rt; ", but {count} counted")?;
+        print!(sheet; ", but {count} counted");
     }
-    Ok(())
 }

@@ -4,8 +4,7 @@ ghost use Rattle.std.specs.Prelude.{◌≡◌, ◌<◌, length};
 use crate::plain_rings::PlainRings;
 use mpm_base::NoMemory;
 use std::alloc::Global;
-use std::io;
-use test_rows::{NumberStream, grown, number_of, small_of, words};
+use test_rows::{NumberStream, Sheet, number_of, small_of, words};
 use timeout_queues::SlotRings;
 
 /// Rings of slots, and how many slots there are.
@@ -49,18 +48,23 @@ impl CountedRings {
 
 /// Shows what rings of so many slots answer to each call, where one comes behind the other: `file SLOT RING`, with no ring where it is
 /// to stand in none, `first RING` and `ring of SLOT`.
-pub fn show_slot_rings(rt: &impl Print, alloc: Global, slots: &str, rows: &str) -> io::Result<()> {
-    let mut rings = grown(CountedRings::make(alloc, small_of(slots)))?;
+pub fn show_slot_rings(
+    sheet: &mut Sheet,
+    alloc: Global,
+    slots: &str,
+    rows: &str,
+) -> Result<(), NoMemory> {
+    let mut rings = CountedRings::make(alloc, small_of(slots))?;
     for row in rows.lines() {
         let (word, rest) = words(row);
         let (slot, ring) = words(rest);
         match word {
             "file" => {
                 let filed = rings.file(small_of(slot), ring.parse::<u32>().ok());
-                println!(rt; "{row} => {filed}")?;
+                println!(sheet; "{row} => {filed}");
             }
-            "first" => println!(rt; "{row} => {:?}", rings.first(small_of(rest)))?,
-            _ => println!(rt; "{row} => {:?}", rings.rings.ring_of(small_of(ring)))?,
+            "first" => println!(sheet; "{row} => {:?}", rings.first(small_of(rest))),
+            _ => println!(sheet; "{row} => {:?}", rings.rings.ring_of(small_of(ring))),
         }
     }
     Ok(())
@@ -68,25 +72,30 @@ pub fn show_slot_rings(rt: &impl Print, alloc: Global, slots: &str, rows: &str) 
 
 /// Shows whether rings of so many slots answer as a plain list does, for the seed and the number of calls of each row. Each call puts
 /// a slot into one of five rings, the last of all among them, or into none.
-pub fn show_same_rings(rt: &impl Print, alloc: Global, slots: &str, rows: &str) -> io::Result<()> {
+pub fn show_same_rings(
+    sheet: &mut Sheet,
+    alloc: Global,
+    slots: &str,
+    rows: &str,
+) -> Result<(), NoMemory> {
     let slots = small_of(slots).max(1);
     for row in rows.lines() {
-        print!(rt; "{row} => ")?;
-        let mut rings = grown(CountedRings::make(alloc, slots))?;
+        print!(sheet; "{row} => ");
+        let mut rings = CountedRings::make(alloc, slots)?;
         let mut plain = PlainRings::make(alloc);
-        show_first_other(rt, &mut rings, &mut plain, slots, row)?;
+        show_first_other(sheet, &mut rings, &mut plain, slots, row)?;
     }
     Ok(())
 }
 
 /// Shows the first call behind which the two answer in two ways, or that there is none.
 fn show_first_other(
-    rt: &impl Print,
+    sheet: &mut Sheet,
     rings: &mut CountedRings,
     plain: &mut PlainRings,
     slots: u32,
     row: &str,
-) -> io::Result<()>
+) -> Result<(), NoMemory>
     requires { 0 < slots }
 {
     let (seed, calls) = words(row);
@@ -96,12 +105,14 @@ fn show_first_other(
         let slot = (number % u64::from(slots)) as u32;
         let ring = ring_from(number / 8192);
         rings.file(slot, ring);
-        grown(plain.file(slot, ring))?;
+        plain.file(slot, ring)?;
         if let Some(other) = first_other(rings, plain, slot) {
-            return println!(rt; "call {place}, {slot} into {ring:?}: {other}");
+            println!(sheet; "call {place}, {slot} into {ring:?}: {other}");
+            return Ok(());
         }
     }
-    println!(rt; "equal")
+    sheet.println("equal");
+    Ok(())
 }
 
 /// The ring that a number asks for, or none; the last ring is one of them.

@@ -5,10 +5,10 @@ ghost use Rattle.conn_slots.specs.Slots.{item_of, with_item};
 use crate::plain_slots::PlainSlots;
 use crate::queues::slots_of;
 use conn_slots::Slots;
-use mpm_base::ConnName;
+use mpm_base::{ConnName, NoMemory};
 use std::alloc::Global;
-use std::{io, mem};
-use test_rows::{NumberStream, grown, name_of, number_of, small_of, words};
+use std::mem;
+use test_rows::{NumberStream, Sheet, name_of, number_of, small_of, words};
 
 /// A call of the slots.
 #[derive(Clone, Copy, Debug)]
@@ -97,35 +97,45 @@ fn answer_to(slots: &mut Slots<u32>, call: SlotCall) -> SlotAnswer {
 }
 
 /// Shows what so many slots answer to each call, where one comes behind the other.
-pub fn show_slots(rt: &impl Print, alloc: Global, count: &str, rows: &str) -> io::Result<()> {
-    let mut slots = grown(Slots::make(alloc, slots_of(count)))?;
+pub fn show_slots(
+    sheet: &mut Sheet,
+    alloc: Global,
+    count: &str,
+    rows: &str,
+) -> Result<(), NoMemory> {
+    let mut slots = Slots::make(alloc, slots_of(count))?;
     for row in rows.lines() {
         let answer = answer_to(&mut slots, call_of(row));
-        println!(rt; "{row} => {answer:?}")?;
+        println!(sheet; "{row} => {answer:?}");
     }
     Ok(())
 }
 
 /// Shows whether so many slots answer as a plain list does, for the seed and the number of calls of each row.
-pub fn show_same_slots(rt: &impl Print, alloc: Global, count: &str, rows: &str) -> io::Result<()> {
+pub fn show_same_slots(
+    sheet: &mut Sheet,
+    alloc: Global,
+    count: &str,
+    rows: &str,
+) -> Result<(), NoMemory> {
     let count = slots_of(count);
     for row in rows.lines() {
-        print!(rt; "{row} => ")?;
-        let mut slots = grown(Slots::make(alloc, count))?;
-        let mut plain = grown(PlainSlots::make(alloc, count))?;
-        show_first_other(rt, alloc, &mut slots, &mut plain, row)?;
+        print!(sheet; "{row} => ");
+        let mut slots = Slots::make(alloc, count)?;
+        let mut plain = PlainSlots::make(alloc, count)?;
+        show_first_other(sheet, alloc, &mut slots, &mut plain, row)?;
     }
     Ok(())
 }
 
 /// Shows the first call that the slots answer in another way than the list may, or that there is none.
 fn show_first_other(
-    rt: &impl Print,
+    sheet: &mut Sheet,
     alloc: Global,
     slots: &mut Slots<u32>,
     plain: &mut PlainSlots,
     row: &str,
-) -> io::Result<()> {
+) -> Result<(), NoMemory> {
     let (seed, calls) = words(row);
     let mut numbers = NumberStream::from(number_of(seed));
     let mut names = Vec::new(alloc);
@@ -136,8 +146,10 @@ fn show_first_other(
             names.push(name)?;
         }
         if !plain.agrees(call, answer) {
-            return println!(rt; "call {place}, {call:?}: {answer:?}");
+            println!(sheet; "call {place}, {call:?}: {answer:?}");
+            return Ok(());
         }
     }
-    println!(rt; "equal")
+    sheet.println("equal");
+    Ok(())
 }

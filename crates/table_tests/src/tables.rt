@@ -8,8 +8,7 @@ use crate::shown::{show_sizes, show_state};
 use conn_machine::{Event, Reply, State, is_in_bounds, may, step};
 use mpm_base::{NoMemory, Snapshot};
 use std::alloc::Global;
-use std::io;
-use test_rows::{Section, grown, number_of, small_of, words};
+use test_rows::{Section, Sheet, number_of, small_of, words};
 
 /// A state of a size that the machine takes, with the notes of its responses.
 #[derive(Drop)]
@@ -53,149 +52,202 @@ impl Table {
     }
 }
 
+/// The events of a row: the first ones, of the section, those of the row itself, and the last one, which is done or asked for.
+#[derive(Clone, Copy)]
+struct Events<'a> {
+    first: &'a str,
+    before: &'a str,
+    last: &'a str,
+    is_done: bool,
+}
+
 /// Shows of each row what comes of its last event behind the others, which come behind those of the first row. In a section `step` that is
 /// the state before it, its reply, and the state behind it; else whether it is allowed.
-pub fn show_last_events(rt: &impl Print, alloc: Global, section: Section<'_>) -> io::Result<()> {
+pub fn show_last_events(
+    sheet: &mut Sheet,
+    alloc: Global,
+    section: Section<'_>,
+) -> Result<(), NoMemory> {
     let Section { word, rest, rows } = section;
     let (first, rows) = rows.split_once('\n').unwrap_or((rows, ""));
-    let is_step = word == "step";
+    let is_done = word == "step";
     for row in rows.lines() {
-        print!(rt; "{row}{}", if is_step { "\n" } else { " => " })?;
-        let (before, last) = events_of(row);
-        let mut table = open_behind(rt, alloc, rest, first, before)?;
-        if is_step {
-            show_step(rt, alloc, &mut table, last)?;
-        } else {
-            show_allowed(rt, alloc, &table, last)?;
-        }
+        print!(sheet; "{row}{}", if is_done { "\n" } else { " => " });
+        // what stands up to a colon is the row's title
+        let (_, events) = row.split_once(": ").unwrap_or(("", row));
+        let (before, last) = events.split_once("; ").unwrap_or(("", events));
+        let events = Events {
+            first,
+            before,
+            last,
+            is_done,
+        };
+        let mut table = Table::open(alloc, rest)?;
+        show_last_event(sheet, alloc, &mut table, events)?;
     }
     Ok(())
 }
 
-/// Shows whether the event is allowed.
-fn show_allowed(rt: &impl Print, alloc: Global, table: &Table, event: &str) -> io::Result<()> {
-    match grown(event_of(alloc, event))? {
-        Some(event) => println!(rt; "{}", may(&table.state, &event)),
-        None => println!(rt; "{event} is no event"),
+/// Shows what comes of the last event behind the others.
+fn show_last_event(
+    sheet: &mut Sheet,
+    alloc: Global,
+    table: &mut Table,
+    events: Events<'_>,
+) -> Result<(), NoMemory> {
+    play_events(sheet, alloc, table, events.first)?;
+    play_events(sheet, alloc, table, events.before)?;
+    if events.is_done {
+        show_step(sheet, alloc, table, events.last)
+    } else {
+        show_allowed(sheet, alloc, table, events.last)
     }
 }
 
-/// Shows the state, the reply to the event, and the state behind it.
-fn show_step(rt: &impl Print, alloc: Global, table: &mut Table, event: &str) -> io::Result<()> {
-    show_state(rt, table)?;
-    show_event(rt, alloc, table, event)?;
-    show_state(rt, table)
+/// Shows whether the event is allowed.
+fn show_allowed(
+    sheet: &mut Sheet,
+    alloc: Global,
+    table: &Table,
+    event: &str,
+) -> Result<(), NoMemory> {
+    match event_of(alloc, event)? {
+        Some(event) => println!(sheet; "{}", may(&table.state, &event)),
+        None => println!(sheet; "{event} is no event"),
+    }
+    Ok(())
 }
 
-/// The state that the words ask for, behind the first events and further ones.
-fn open_behind(
-    rt: &impl Print,
+/// Shows the state, the reply to the event, and the state behind it.
+fn show_step(
+    sheet: &mut Sheet,
     alloc: Global,
-    opening: &str,
-    first: &str,
-    events: &str,
-) -> io::Result<Table> {
-    let mut table = grown(Table::open(alloc, opening))?;
-    play_events(rt, alloc, &mut table, first)?;
-    play_events(rt, alloc, &mut table, events)?;
-    Ok(table)
+    table: &mut Table,
+    event: &str,
+) -> Result<(), NoMemory> {
+    show_state(sheet, table);
+    show_event(sheet, alloc, table, event)?;
+    show_state(sheet, table);
+    Ok(())
 }
 
 /// Shows the reply to each event, or that it isn't allowed, where one comes behind the other. In a row `show` the state is shown, and
 /// in a row `accepted` or `newest` one of its numbers becomes another.
-pub fn show_play(rt: &impl Print, alloc: Global, opening: &str, rows: &str) -> io::Result<()> {
-    let mut table = grown(Table::open(alloc, opening))?;
+pub fn show_play(
+    sheet: &mut Sheet,
+    alloc: Global,
+    opening: &str,
+    rows: &str,
+) -> Result<(), NoMemory> {
+    let mut table = Table::open(alloc, opening)?;
+    show_rows_of_play(sheet, alloc, &mut table, rows)
+}
+
+/// Shows what comes of each row.
+fn show_rows_of_play(
+    sheet: &mut Sheet,
+    alloc: Global,
+    table: &mut Table,
+    rows: &str,
+) -> Result<(), NoMemory> {
     for row in rows.lines() {
-        show_row_of_play(rt, alloc, &mut table, row)?;
+        show_row_of_play(sheet, alloc, table, row)?;
     }
     Ok(())
 }
 
 /// Shows what comes of the row.
 fn show_row_of_play(
-    rt: &impl Print,
+    sheet: &mut Sheet,
     alloc: Global,
     table: &mut Table,
     row: &str,
-) -> io::Result<()> {
+) -> Result<(), NoMemory> {
     let (word, number) = words(row);
     match word {
         "show" => {
-            show_sizes(rt, &table.state)?;
-            show_state(rt, table)
+            show_sizes(sheet, &table.state);
+            show_state(sheet, table);
         }
-        "accepted" => {
-            table.state.accepted = number_of(number);
-            Ok(())
-        }
-        "newest" => {
-            table.state.newest = small_of(number);
-            Ok(())
-        }
-        "page" => show_page_of(rt, alloc, table, row),
-        "kinds" => show_kinds(rt, &grown(table.page(alloc))?),
-        "do" => play_events(rt, alloc, table, number),
-        _ => show_event(rt, alloc, table, row),
-    }
-}
-
-/// Shows what a status page shows of the state, or what the last response of the slot that the row names shows.
-fn show_page_of(rt: &impl Print, alloc: Global, table: &Table, row: &str) -> io::Result<()> {
-    println!(rt; "{row} =>")?;
-    match row.strip_prefix("page of ") {
-        None => show_page(rt, &grown(table.page(alloc))?),
-        Some(slot) => match table.notes.last_page(small_of(slot)) {
-            Some(page) => show_page(rt, page),
-            None => println!(rt; "  no page"),
-        },
-    }
-}
-
-/// Shows whether each row is a shape that a configuration may have, and whether a state allows a restart with it.
-pub fn show_bounds(rt: &impl Print, alloc: Global, rows: &str) -> io::Result<()> {
-    let table = grown(Table::open(alloc, "2 2"))?;
-    for row in rows.lines() {
-        let shape = shape_of(row);
-        let restart = grown(restart_to(alloc, shape))?;
-        println!(rt;
-            "{row} => {}, may {}",
-            is_in_bounds(&shape),
-            may(&table.state, &restart)
-        )?;
+        "accepted" => table.state.accepted = number_of(number),
+        "newest" => table.state.newest = small_of(number),
+        "page" => show_page_of(sheet, alloc, table, row)?,
+        "kinds" => show_kinds(sheet, &table.page(alloc)?),
+        "do" => play_events(sheet, alloc, table, number)?,
+        _ => show_event(sheet, alloc, table, row)?,
     }
     Ok(())
 }
 
-/// The events of a row but the last, and the last. What stands up to a colon is its title.
-fn events_of(row: &str) -> (&str, &str) {
-    let (_, events) = row.split_once(": ").unwrap_or(("", row));
-    events.split_once("; ").unwrap_or(("", events))
+/// Shows what a status page shows of the state, or what the last response of the slot that the row names shows.
+fn show_page_of(
+    sheet: &mut Sheet,
+    alloc: Global,
+    table: &Table,
+    row: &str,
+) -> Result<(), NoMemory> {
+    println!(sheet; "{row} =>");
+    match row.strip_prefix("page of ") {
+        None => show_page(sheet, &table.page(alloc)?),
+        Some(slot) => match table.notes.last_page(small_of(slot)) {
+            Some(page) => show_page(sheet, page),
+            None => println!(sheet; "  no page"),
+        },
+    }
+    Ok(())
+}
+
+/// Shows whether each row is a shape that a configuration may have, and whether a state allows a restart with it.
+pub fn show_bounds(sheet: &mut Sheet, alloc: Global, rows: &str) -> Result<(), NoMemory> {
+    let table = Table::open(alloc, "2 2")?;
+    for row in rows.lines() {
+        let shape = shape_of(row);
+        let restart = restart_to(alloc, shape)?;
+        println!(sheet;
+            "{row} => {}, may {}",
+            is_in_bounds(&shape),
+            may(&table.state, &restart)
+        );
+    }
+    Ok(())
 }
 
 /// Does the events, and shows where one isn't allowed.
-fn play_events(rt: &impl Print, alloc: Global, table: &mut Table, events: &str) -> io::Result<()> {
+fn play_events(
+    sheet: &mut Sheet,
+    alloc: Global,
+    table: &mut Table,
+    events: &str,
+) -> Result<(), NoMemory> {
     if events.is_empty() {
         return Ok(());
     }
     for text in events.split(", ") {
-        let reply = match grown(event_of(alloc, text))? {
-            Some(event) => grown(table.play(alloc, &event))?,
+        let reply = match event_of(alloc, text)? {
+            Some(event) => table.play(alloc, &event)?,
             None => None,
         };
         if reply.is_none() {
-            print!(rt; "but {text} isn't allowed: ")?;
+            print!(sheet; "but {text} isn't allowed: ");
         }
     }
     Ok(())
 }
 
 /// Does the event, and shows its reply, or that it isn't allowed.
-fn show_event(rt: &impl Print, alloc: Global, table: &mut Table, text: &str) -> io::Result<()> {
-    let Some(event) = grown(event_of(alloc, text))? else {
-        return println!(rt; "{text} is no event");
+fn show_event(
+    sheet: &mut Sheet,
+    alloc: Global,
+    table: &mut Table,
+    text: &str,
+) -> Result<(), NoMemory> {
+    let Some(event) = event_of(alloc, text)? else {
+        println!(sheet; "{text} is no event");
+        return Ok(());
     };
-    match grown(table.play(alloc, &event))? {
-        Some(reply) => println!(rt; "{text} => {reply:?}"),
-        None => println!(rt; "{text} => not allowed"),
+    match table.play(alloc, &event)? {
+        Some(reply) => println!(sheet; "{text} => {reply:?}"),
+        None => println!(sheet; "{text} => not allowed"),
     }
+    Ok(())
 }

@@ -1,6 +1,6 @@
 //! A listener and workers on threads, over one board.
-ghost use Rattle.std.specs.Prelude.{◌≡◌, ◌≤◌, true, None, slice_index};
-ghost use Rattle.turn_tests.specs.GoesOn.{IsListener};
+ghost use Rattle.std.specs.Prelude.{◌≡◌, ◌≤◌, ℕ, true, None, Some, slice_get, slice_index};
+ghost use Rattle.turn_tests.specs.GoesOn.{IsFresh, IsListener};
 
 use crate::clients::{CLIENTS, empty_site};
 use crate::folds::Folds;
@@ -11,11 +11,10 @@ use board_lock::{Pass, Shared, number};
 use file_table::Site;
 use mpm_base::{Kind, NoMemory};
 use std::alloc::Global;
-use std::io;
 use std::sync::atomic::{AtomicU64, Ordering};
 use std::sync::{Arc, Wait};
 use std::thread::{self, Threads};
-use test_rows::grown;
+use test_rows::Sheet;
 use worker_group::Exit;
 
 /// How many connections were left in each way, as all threads count them.
@@ -75,42 +74,62 @@ struct Served {
     responses: u64,
 }
 
-/// Shows what comes of so many threads, one of which is the listener's.
-pub fn show_service<R: Print + Threads + Wait + Sync>(
-    rt: &R,
-    alloc: Global,
-    threads: u32,
-) -> io::Result<()> {
-    match grown(serve_all(rt, alloc, threads.clamp(2, 64)))? {
-        Some(served) => show_served(rt, &served),
-        None => println!(rt; "a pass is missing, or the board doesn't begin"),
+impl Stage {
+    /// Nothing came yet.
+    fn make() -> Stage {
+        Stage {
+            folds: Folds::make(),
+            left: Left::none(),
+            to_serve: AtomicU64::new(CLIENTS as u64),
+        }
     }
 }
 
+/// Shows what comes of so many threads, one of which is the listener's.
+pub fn show_service<R: Threads + Wait + Sync>(
+    rt: &R,
+    sheet: &mut Sheet,
+    alloc: Global,
+    threads: u32,
+) -> Result<(), NoMemory> {
+    match serve_all(rt, alloc, threads.clamp(2, 64)) {
+        Ok(Some(served)) => show_served(sheet, &served),
+        Ok(None) => sheet.println("a pass is missing, or the board doesn't begin"),
+        Err(NoMemory) => return Err(NoMemory),
+    }
+    Ok(())
+}
+
 /// Shows what came of it, as far as no schedule changes it.
-fn show_served(rt: &impl Print, served: &Served) -> io::Result<()> {
-    let left = &served.stage.left;
-    println!(rt; "kept alive => {}", left.kept.load(Ordering::SeqCst))?;
-    println!(rt; "waits for room => {}", left.writing.load(Ordering::SeqCst))?;
-    println!(rt;
-        "waits for a request => {}",
-        left.reading.load(Ordering::SeqCst)
-    )?;
-    println!(rt; "lingers => {}", left.lingering.load(Ordering::SeqCst))?;
-    println!(rt; "ended => {}", left.ended.load(Ordering::SeqCst))?;
-    println!(rt; "given up => {}", left.given_up.load(Ordering::SeqCst))?;
-    println!(rt;
+fn show_served(sheet: &mut Sheet, served: &Served) {
+    show_left(sheet, &served.stage.left);
+    println!(sheet;
         "taken => {}, closed => {}, responses => {}",
         served.accepted, served.closed, served.responses
-    )?;
-    println!(rt;
+    );
+    println!(sheet;
         "seven folds or more => {}",
         7 <= served.stage.folds.count()
-    )
+    );
+}
+
+/// Shows how the connections were left.
+fn show_left(sheet: &mut Sheet, left: &Left) {
+    print!(sheet;
+        "kept alive => {}\nwaits for room => {}\nwaits for a request => {}\n",
+        left.kept.load(Ordering::SeqCst),
+        left.writing.load(Ordering::SeqCst),
+        left.reading.load(Ordering::SeqCst)
+    );
+    print!(sheet;
+        "lingers => {}\nended => {}\ngiven up => {}\n",
+        left.lingering.load(Ordering::SeqCst),
+        left.ended.load(Ordering::SeqCst),
+        left.given_up.load(Ordering::SeqCst)
+    );
 }
 
 /// One thread listens, and each other one serves.
-#[tactic(auto, using(crate::proofs::OpeningLemmas::listener_player))]
 fn serve_all<R: Threads + Wait + Sync>(
     rt: &R,
     alloc: Global,
@@ -118,44 +137,93 @@ fn serve_all<R: Threads + Wait + Sync>(
 ) -> Result<Option<Served>, NoMemory>
     requires { (2 ≤ threads) × (threads ≤ 64) }
 {
-    let Ok(site) = empty_site(alloc) else {
-        return Err(NoMemory);
-    };
-    let Ok(site) = Arc::new(alloc, site) else {
-        return Err(NoMemory);
-    };
+    let site = shared_site(alloc)?;
+    serve_from(rt, alloc, &site, threads)
+}
+
+/// One thread listens, and each other one serves from the site.
+fn serve_from<R: Threads + Wait + Sync>(
+    rt: &R,
+    alloc: Global,
+    site: &Arc<Site>,
+    threads: u32,
+) -> Result<Option<Served>, NoMemory>
+    requires { (2 ≤ threads) × (threads ≤ 64) }
+{
     let (shared, mut passes) = opened(alloc, threads + 1)?;
     let Some(last) = last_of(&shared, &mut passes) else {
         return Ok(None);
     };
-    let mut jobs = players(alloc, &shared, &mut passes, threads - 1)?;
-    let Some(mut zero) = last_of(&shared, &mut passes) else {
-        return Ok(None);
-    };
-    if number(&zero) != 0 || !begins(rt, alloc, &shared, &mut zero, &site) {
-        return Ok(None);
+    let stage = Stage::make();
+    match all_play(rt, alloc, &shared, &mut passes, site, threads - 1, &stage) {
+        Ok(true) => Ok(Some(counted(&shared.close(rt, last), stage))),
+        Ok(false) => Ok(None),
+        Err(NoMemory) => Err(NoMemory),
     }
-    jobs.push(Player {
-        shared: &shared,
-        pass: zero,
-    })?;
-    let stage = Stage {
-        folds: Folds::make(),
-        left: Left::none(),
-        to_serve: AtomicU64::new(CLIENTS as u64),
-    };
-    let seen = &stage;
-    let Ok(_) = thread::map_vec(rt, jobs, &|player: Player| plays(rt, player, seen)) else {
-        return Err(NoMemory);
-    };
-    let board = shared.close(rt, last);
+}
+
+/// What came of it, by the board behind all.
+fn counted(board: &ScriptBoard, stage: Stage) -> Served {
     let folded = board.folded();
-    Ok(Some(Served {
+    Served {
         accepted: folded.accepted,
         closed: folded.closed,
         responses: folded.responses,
         stage,
-    }))
+    }
+}
+
+/// Pass 0 listens, and so many others serve: whether they did.
+#[tactic(auto, using(crate::proofs::OpeningLemmas::listener_player))]
+fn all_play<R: Threads + Wait + Sync>(
+    rt: &R,
+    alloc: Global,
+    shared: &Shared<ScriptBoard>,
+    passes: &mut Vec<Pass<ScriptBoard>>,
+    site: &Arc<Site>,
+    count: u32,
+    stage: &Stage,
+) -> Result<bool, NoMemory>
+    requires own { (p : ℕ) (pass : _)
+        → slice_get passes.old.items p ≡ Some pass
+        → pass.seat.table_id ≡ shared.now.table.shared.table_id }
+    requires fresh { (p : ℕ) (pass : _)
+        → slice_get passes.old.items p ≡ Some pass
+        → IsFresh pass.seat.me }
+{
+    let mut jobs = players(alloc, shared, passes, count)?;
+    let Some(mut zero) = last_of(shared, passes) else {
+        return Ok(false);
+    };
+    if number(&zero) != 0 || !begins(rt, alloc, shared, &mut zero, site) {
+        return Ok(false);
+    }
+    jobs.push(Player { shared, pass: zero })?;
+    play_on_threads(rt, jobs, stage)?;
+    Ok(true)
+}
+
+/// Each player has a thread.
+fn play_on_threads<R: Threads + Wait + Sync>(
+    rt: &R,
+    jobs: Vec<Player<'_>>,
+    stage: &Stage,
+) -> Result<(), NoMemory> {
+    match thread::map_vec(rt, jobs, &|player: Player| plays(rt, player, stage)) {
+        Ok(_) => Ok(()),
+        Err(_) => Err(NoMemory),
+    }
+}
+
+/// The site of all clients, which has no file.
+fn shared_site(alloc: Global) -> Result<Arc<Site>, NoMemory> {
+    let Ok(site) = empty_site(alloc) else {
+        return Err(NoMemory);
+    };
+    match Arc::new(alloc, site) {
+        Ok(site) => Ok(site),
+        Err(_) => Err(NoMemory),
+    }
 }
 
 /// Pass 0 starts the child, gives it its credit, and takes the connections of all clients: whether it did.

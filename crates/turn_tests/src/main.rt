@@ -19,27 +19,32 @@ mod opening;
 mod service;
 mod worker_turns;
 
+use mpm_base::NoMemory;
 use std::alloc::Global;
 use std::io;
 use std::sync::Wait;
 use std::thread::Threads;
-use test_rows::{Section, begin_section, sections_of, small_of};
+use test_rows::{Sheet, grown, open_section, sections_of, small_of};
 
 fn main(rt: HostRuntime) -> io::Result<()> {
     let input = io::read_to_string(rt.alloc(), rt.reader())?;
     for text in sections_of(input.as_str()) {
-        let section = begin_section(&rt, text)?;
-        show_section(&rt, rt.alloc(), section)?;
+        let sheet = grown(sheet_of(&rt, rt.alloc(), text))?;
+        sheet.show(&rt)?;
     }
     Ok(())
 }
 
-/// Shows what comes of the section.
-fn show_section<R: Print + Threads + Wait + Sync>(
+/// What comes of the section of this text.
+fn sheet_of<R: Threads + Wait + Sync>(
     rt: &R,
     alloc: Global,
-    section: Section<'_>,
-) -> io::Result<()> {
-    let Section { rest, .. } = section;
-    crew::show_service(rt, alloc, small_of(rest))
+    text: &str,
+) -> Result<Sheet, NoMemory> {
+    let mut sheet = Sheet::make(alloc);
+    let section = open_section(&mut sheet, text);
+    match crew::show_service(rt, &mut sheet, alloc, small_of(section.rest)) {
+        Ok(()) => Ok(sheet),
+        Err(NoMemory) => Err(NoMemory),
+    }
 }

@@ -1,6 +1,0 @@
-use Rattle.std.proofs.Common.{◌≤◌}
-use Rattle.lock_bench.proofs.queues.relays.Given as goal
-
--- no round counts twice
-abbrev pub invariant-loop-number : goal.invariant-loop-number
-invariant-loop-number g l = l.done ≤ l.number

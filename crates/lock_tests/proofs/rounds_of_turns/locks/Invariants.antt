@@ -1,0 +1,6 @@
+use Rattle.std.proofs.Common.{◌≤◌}
+use Rattle.lock_tests.proofs.rounds_of_turns.locks.Given as goal
+
+-- no round counts twice
+abbrev pub invariant-loop : goal.invariant-loop
+invariant-loop g l = l.done ≤ l.counter
