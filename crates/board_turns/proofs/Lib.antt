@@ -1,0 +1,5 @@
+pub mod FoundLemmas
+pub mod GoesOnLemmas
+pub mod LeavesLemmas
+pub mod ThenLemmas
+pub mod TurnLemmas
