@@ -7,6 +7,7 @@ use Rattle.board_turns.proofs.FoundLemmas.{may_go_here, own_edition, pass_as, ro
 use Rattle.board_turns.proofs.GoesOnLemmas.{made_close, may_leave}
 use Rattle.board_turns.proofs.LeavesLemmas.{close_allowed, closing}
 use Rattle.board_turns.proofs.ThenLemmas.{left_then}
+use Rattle.board_turns.proofs.TurnLemmas.{closed_as, had_event}
 use Rattle.board_turns.proofs.worker_turns.close.Goals as goal
 
 pub end-ended-requires : goal.end-ended-requires
@@ -57,3 +58,11 @@ returns-clause-left g c =
     left_then _ _ _ c.number-who.result (event.Close e.name e.cause e.tail) b c.close.new.self c.turns_rest_on_these.ensures
     c.turn-turn.ensures.turn c.done.ensures.given (sym c.number-who.ensures) (made_close _ e b c.close.new.self c.close.ensures.is c.close.ensures.entries)
     c.args.conn.child c.requires.may.carries.number c.requires.may.carries.hand refl
+
+pub returns-clause-turn : goal.returns-clause-turn
+returns-clause-turn g c =
+    let b = c.turn-turn.result.kept in
+    let e = c.end-ended.result in
+    had_event _ _ _ c.number-who.result (event.Close e.name e.cause e.tail) (event.Close c.args.conn.name c.args.cause Direct) b c.close.new.self
+    c.turns_rest_on_these.ensures c.turn-turn.ensures.turn c.done.ensures.given (sym c.number-who.ensures)
+    (made_close _ e b c.close.new.self c.close.ensures.is c.close.ensures.entries) (closed_as c.args.conn c.args.cause e c.end-ended.ensures.ends)

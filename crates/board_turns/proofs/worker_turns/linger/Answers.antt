@@ -5,6 +5,7 @@ use Rattle.worker_group.specs.declared.service.Exit.TheVariants as exit
 use Rattle.board_turns.proofs.FoundLemmas.{may_go_here, own_edition, pass_as, row_as}
 use Rattle.board_turns.proofs.GoesOnLemmas.{made, may_leave}
 use Rattle.board_turns.proofs.ThenLemmas.{left_then}
+use Rattle.board_turns.proofs.TurnLemmas.{had_one}
 use Rattle.board_turns.proofs.worker_turns.linger.Goals as goal
 
 pub linger-requires-clause-who : goal.linger-requires-clause-who
@@ -50,3 +51,12 @@ returns-clause-left g c =
     left_then _ _ _ c.number-who.result (event.Linger c.args.conn.name cause.LastSent) b c.linger.new.self c.turns_rest_on_these.ensures
     c.turn-turn.ensures.turn c.done.ensures.given (sym c.number-who.ensures) (made _ _ b c.linger.new.self _ c.linger.ensures.is c.linger.ensures.entries)
     c.args.conn.child c.requires.may.carries.number c.requires.may.carries.hand refl
+
+pub returns-clause-turn : goal.returns-clause-turn
+returns-clause-turn g c =
+    let b = c.turn-turn.result.kept in
+    (
+      _,
+      had_one _ _ _ c.number-who.result (event.Linger c.args.conn.name cause.LastSent) b c.linger.new.self c.turns_rest_on_these.ensures c.turn-turn.ensures.turn
+          c.done.ensures.given (sym c.number-who.ensures) (made _ _ b c.linger.new.self _ c.linger.ensures.is c.linger.ensures.entries),
+    )

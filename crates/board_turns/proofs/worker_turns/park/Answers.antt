@@ -4,6 +4,7 @@ use Rattle.worker_group.proofs.ServeLemmas.{turned-open}
 use Rattle.board_turns.proofs.FoundLemmas.{own_edition, pass_as, row_as}
 use Rattle.board_turns.proofs.GoesOnLemmas.{changed, may_change}
 use Rattle.board_turns.proofs.LeavesLemmas.{park_allowed, park_backed, park_fits, park_settled, parks_left, parks_refused}
+use Rattle.board_turns.proofs.TurnLemmas.{parked_turn, unparked_turn, unparked_why}
 use Rattle.board_turns.proofs.worker_turns.park.Goals as goal
 
 pub park-parked-requires-clause-who : goal.park-parked-requires-clause-who
@@ -51,8 +52,8 @@ done-requires-clause-left g c =
     may_change _ _ c.number-who.result (is_ok q.result) e b q.new.self c.turns_rest_on_these.ensures c.turn-turn.ensures.turn (sym c.number-who.ensures)
     (changed q.result _ e b q.new.self b.conns q.ensures.ok q.ensures.err q.ensures.entries) tt
 
-pub returns-clause-parked : goal.returns-clause-parked
-returns-clause-parked g c =
+pub returns-clause-left : goal.returns-clause-left
+returns-clause-left g c =
     let b = c.turn-turn.result.kept in
     let q = c.park-parked in
     parks_left g.N.Known.known _ _ _ c.number-who.result b q.new.self c.args.conn c.args.kind q.result c.turns_rest_on_these.ensures c.turn-turn.ensures.turn
@@ -64,3 +65,21 @@ returns-clause-may g c =
     let q = c.park-parked in
     parks_refused g.N.Known.known _ _ _ b q.new.self c.args.conn c.args.kind q.result c.turns_rest_on_these.ensures c.turn-turn.ensures.turn
     c.done.ensures.given q.ensures.err q.ensures.why q.ensures.back c.show-2.ensures.state c.show-2.ensures.sound c.requires.may
+
+pub returns-clause-turn : goal.returns-clause-turn
+returns-clause-turn g c =
+    let b = c.turn-turn.result.kept in
+    let q = c.park-parked in
+    parked_turn _ _ _ c.number-who.result b q.new.self (event.Park c.args.conn.name c.args.kind) b.conns q.result c.turns_rest_on_these.ensures c.turn-turn.ensures.turn
+    c.done.ensures.given (sym c.number-who.ensures) q.ensures.ok q.ensures.entries
+
+pub returns-clause-err : goal.returns-clause-err
+returns-clause-err g c =
+    let q = c.park-parked in
+    unparked_turn _ _ _ c.turn-turn.result.kept q.new.self q.result c.turn-turn.ensures.turn c.done.ensures.given q.ensures.err
+
+pub returns-clause-why : goal.returns-clause-why
+returns-clause-why g c =
+    let q = c.park-parked in
+    unparked_why _ _ _ c.turn-turn.result.kept q.new.self q.result c.turns_rest_on_these.ensures c.turn-turn.ensures.turn c.done.ensures.given q.ensures.err
+    c.show-2.ensures.state q.ensures.why

@@ -1,9 +1,12 @@
-use Rattle.std.proofs.Common.{ap, sym, is_ok}
+use Rattle.std.proofs.Common.{None, ap, sym, subst, is_ok}
 use Rattle.conn_machine.specs.declared.event.Event.TheVariants as event
+use Rattle.conn_machine.specs.declared.state.State.{State}
 use Rattle.table_rule.specs.declared.view.View.{View}
+use Rattle.board.specs.Finds.{FindsRow, is_due_of}
 use Rattle.board_turns.proofs.FoundLemmas.{due_here, has_child, has_room, pass_as, queue_permitted, row_as}
 use Rattle.board_turns.proofs.GoesOnLemmas.{changed, made_added, may_change, may_stay}
-use Rattle.board_turns.proofs.ThenLemmas.{carried_then, permit_left, permit_still}
+use Rattle.board_turns.proofs.ThenLemmas.{carried_then, nothing_state, permit_left, permit_still}
+use Rattle.board_turns.proofs.TurnLemmas.{had_event, had_none, had_none_as, refused_then}
 use Rattle.board_turns.proofs.worker_turns.queue.Goals as goal
 
 pub signalled_of-requires : goal.signalled_of-requires
@@ -63,7 +66,34 @@ returns-in-Ok-clause-child g c =
     (made_added _ _ b q.new.self b.conns c.in-Ok.ensures.ok q.ensures.entries) c.show.ensures.state c.show-2.ensures.sound due.found due.of_child
     c.in-Ok.ensures.name c.in-Ok.ensures.handed c.in-Ok.ensures.stays_open c.in-Ok.ensures.edition).1
 
-pub returns-in-Err-clause-nothing : goal.returns-in-Err-clause-nothing
-returns-in-Err-clause-nothing g c =
+pub returns-in-Err-clause-refused : goal.returns-in-Err-clause-refused
+returns-in-Err-clause-refused g c =
     permit_left _ _ _ c.turn-turn.result.kept c.queue-queued.new.self c.args.child c.turns_rest_on_these.ensures c.turn-turn.ensures.turn c.done-2.ensures.given
     c.in-Err.ensures.err c.requires.permit
+
+pub returns-in_default-clause-none : goal.returns-in_default-clause-none
+returns-in_default-clause-none g c = (_, had_none _ _ _ c.turn-turn.result.kept c.turn-turn.ensures.turn c.done.ensures.given)
+
+pub returns-in_default-clause-quiet : goal.returns-in_default-clause-quiet
+returns-in_default-clause-quiet g c =
+    let b = c.turn-turn.result.kept in
+    subst (λ (s : State). FindsRow (is_due_of c.args.child s) s None)
+    (sym (nothing_state _ _ _ b c.turns_rest_on_these.ensures c.turn-turn.ensures.turn c.done.ensures.given c.show.ensures.state))
+    c.in_default.ensures
+
+pub returns-in-Ok-clause-some : goal.returns-in-Ok-clause-some
+returns-in-Ok-clause-some g c =
+    let b = c.turn-turn.result.kept in
+    let q = c.queue-queued in
+    had_event _ _ _ c.number-who.result (event.Queue c.in-Some.name) (event.Queue c.in-Ok.conn.name) b q.new.self c.turns_rest_on_these.ensures c.turn-turn.ensures.turn
+    c.done-2.ensures.given (sym c.number-who.ensures) (made_added _ _ b q.new.self b.conns c.in-Ok.ensures.ok q.ensures.entries)
+    (ap event.Queue (sym c.in-Ok.ensures.name))
+
+pub returns-in-Err-clause-err : goal.returns-in-Err-clause-err
+returns-in-Err-clause-err g c =
+    (_, had_none_as _ _ _ c.turn-turn.result.kept c.queue-queued.new.self c.turn-turn.ensures.turn c.done-2.ensures.given c.in-Err.ensures.err)
+
+pub returns-in-Err-clause-why : goal.returns-in-Err-clause-why
+returns-in-Err-clause-why g c =
+    refused_then _ _ _ c.turn-turn.result.kept c.queue-queued.new.self c.in-Err.fault c.turns_rest_on_these.ensures c.turn-turn.ensures.turn c.done-2.ensures.given
+    c.in-Err.ensures.err c.show.ensures.state c.in-Err.ensures.why

@@ -2,8 +2,9 @@ use Rattle.std.proofs.Common.{◌≡◌, sym, ap, ◌∙◌, subst, true, Some}
 use Rattle.mpm_base.specs.declared.conn.ConnName.{ConnName}
 use Rattle.conn_machine.specs.declared.event.Event.TheVariants as event
 use Rattle.conn_machine.specs.Table.{is_allowed}
-use Rattle.board_turns.proofs.FoundLemmas.{pass_as, row_as}
 use Rattle.board_turns.proofs.GoesOnLemmas.{made, may_leave}
+use Rattle.board_turns.proofs.FoundLemmas.{pass_as, row_as}
+use Rattle.board_turns.proofs.TurnLemmas.{started_cell}
 use Rattle.board_turns.proofs.ThenLemmas.{queued_here, started_then, taken_here}
 use Rattle.board_turns.proofs.worker_turns.start.Goals as goal
 
@@ -36,3 +37,10 @@ returns-clause-served g c =
     (b.ensures.handed c.args.conn.now
     (taken_here g.N.Known.known _ _ c.turn-turn.result.kept c.args.conn.now c.turns_rest_on_these.ensures c.turn-turn.ensures.turn c.show.ensures.state
     c.requires.carried)) c.requires.carried
+
+pub returns-clause-turn : goal.returns-clause-turn
+returns-clause-turn g c =
+    let b = c.start-cell in
+    started_cell _ _ _ c.number-who.result c.turn-turn.result.kept b.new.self c.args.conn.now.name c.name-name.result c.start-cell.result c.turns_rest_on_these.ensures
+    c.turn-turn.ensures.turn c.done.ensures.given (sym c.number-who.ensures) c.name-name.ensures
+    (made _ _ c.turn-turn.result.kept b.new.self c.turn-turn.result.kept.conns b.ensures.is b.ensures.entries) c.show.ensures.state b.ensures.cell
