@@ -1,8 +1,7 @@
 //! The service of a connection, turn by turn, between each two of which others act. What a link is called for stands between two turns.
-ghost use Rattle.std.specs.Prelude.{◌≡◌, List, false, [], IfNone, IfSome};
-ghost use Rattle.mpm_base.specs.Notes.{says_last};
+ghost use Rattle.std.specs.Prelude.{◌≡◌, List, [], IfNone, IfSome};
 ghost use Rattle.mpm_base.specs.declared.conn.Ask.{Ask};
-ghost use Rattle.worker_group.specs.Service.{ExitsAfter, IsMadeSince, left_events};
+ghost use Rattle.worker_group.specs.Service.{ExitsAfter, left_events};
 ghost use Rattle.worker_group.specs.declared.service.Exit.TheVariants as exit;
 ghost use Rattle.board_turns.specs.Carries.{HasPermitOnly, LeavesBy, Serves};
 ghost use Rattle.board_turns.specs.Turns.{HadTurns};
@@ -73,30 +72,6 @@ fn converse_once<R: Wait, L: Link, N: Known>(
         }
         return Some(Exit::Close(Cause::LinkFailed, Tail::Direct));
     }
-    read_on(rt, shared, carrier, conn)
-}
-
-/// Reads on, and answers what was asked.
-fn read_on<R: Wait, L: Link, N: Known>(
-    rt: &R,
-    shared: &Shared<Board<L, N>>,
-    carrier: &mut Carrier<Board<L, N>>,
-    conn: &mut Conn<L, N>,
-) -> Option<Exit>
-    requires own { carrier.old.seat.table_id ≡ shared.now.table.shared.table_id }
-    requires hand { carrier.old.seat.me.1 ≡ [] }
-    requires served { Serves N.known carrier.old.seat.me.0 conn.old }
-    requires sent { conn.old.pending ≡ [] }
-    requires goes_on { says_last conn.old.notes ≡ false }
-    ensures own { carrier.new.seat.table_id ≡ carrier.old.seat.table_id }
-    ensures hand { carrier.new.seat.me.1 ≡ [] }
-    ensures conversed { (asks : List Ask)
-        × Conversed asks carrier.old.seat.me.0 carrier.new.seat.me.0 conn.old conn.new }
-    ensures served { IfNone result (Serves N.known carrier.new.seat.me.0 conn.new) }
-    ensures may { IfSome result (LeavesBy N.known carrier.new.seat.me.0 conn.new) }
-    ensures exits { IfSome result (ExitsAfter conn.new.turn conn.new) }
-{
-    waits_are_backed_by_calls();
     match conn.read_turn() {
         ReadTurn::Asked(ask) => answer(rt, shared, carrier, conn, ask),
         ReadTurn::Interim => None,

@@ -66,8 +66,7 @@ returns-in-Ok-answer-clause-took g c =
 pub returns-in-Err-answer-clause-why : goal.returns-in-Err-answer-clause-why
 returns-in-Err-answer-clause-why g c =
     let b = c.turn-turn.result.kept in
-    let q = c.answer-decided in
-    (
+    let q = c.answer-decided in (
       refl,
       refl,
       lacked_response _ _ _ c.number-who.result b q.new.self c.args.conn.now c.answer.new.self c.name-name.result c.args.ask c.turns_rest_on_these.ensures

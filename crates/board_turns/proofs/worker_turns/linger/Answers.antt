@@ -54,8 +54,7 @@ returns-clause-left g c =
 
 pub returns-clause-turn : goal.returns-clause-turn
 returns-clause-turn g c =
-    let b = c.turn-turn.result.kept in
-    (
+    let b = c.turn-turn.result.kept in (
       _,
       had_one _ _ _ c.number-who.result (event.Linger c.args.conn.name cause.LastSent) b c.linger.new.self c.turns_rest_on_these.ensures c.turn-turn.ensures.turn
           c.done.ensures.given (sym c.number-who.ensures) (made _ _ b c.linger.new.self _ c.linger.ensures.is c.linger.ensures.entries),

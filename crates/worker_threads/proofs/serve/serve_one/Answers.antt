@@ -1,0 +1,14 @@
+use Rattle.std.proofs.Common.{ap}
+use Rattle.table_rule.specs.declared.view.Hand.{Hand}
+use Rattle.worker_threads.proofs.ServingLemmas.{has_permit_as, released}
+use Rattle.worker_threads.proofs.serve.serve_one.Goals as goal
+
+pub release-requires-clause-permit : goal.release-requires-clause-permit
+release-requires-clause-permit g c = ap (λ (h : Hand). h.permit) (has_permit_as _ _ _ c.child.ensures c.serve.ensures.permit).hand
+
+pub release-requires-clause-row : goal.release-requires-clause-row
+release-requires-clause-row g c = c.serve.ensures.permit.row
+
+pub give-requires-clause-free : goal.give-requires-clause-free
+give-requires-clause-free g c =
+    released _ c.release.new.carrier.seat.me _ c.serve.ensures.permit c.release.ensures.released c.release.ensures.hand c.serve.ensures.hand
