@@ -13,6 +13,7 @@ use Rattle.conn_machine.specs.declared.event.Event.TheVariants as event
 use Rattle.conn_state.specs.declared.turn.LastTurn.{LastTurn}
 use Rattle.conn_state.specs.declared.turn.LastTurn.TheVariants as last_turn
 use Rattle.conn_state.specs.Conn.{SeenConn}
+use Rattle.conn_state.specs.Known.{KnownOutside}
 use Rattle.atomic_table.specs.Table.{Me}
 use Rattle.table_rule.specs.declared.view.Hand.{Hand}
 use Rattle.table_rule.specs.declared.view.View.{View}
@@ -21,9 +22,9 @@ use Rattle.recycle_perch.specs.Resting.{IsFreeCarrier}
 use Rattle.board.specs.declared.faults.BoardFault.{BoardFault}
 use Rattle.worker_group.specs.declared.service.Exit.{Exit}
 use Rattle.worker_group.specs.declared.service.Exit.TheVariants as exit
-use Rattle.worker_group.specs.Service.{ExitsAfter, IsMadeSince, NoneFalls, answer_events, left_events}
+use Rattle.worker_group.specs.Service.{ExitsAfter, IsMadeSince, NoneFalls, answer_events, given_up_cause, left_events}
 use Rattle.worker_group.proofs.TurnedLemmas.{none_falls-more, none_falls-same, turned-answered, turned-more, turned-refused, turned-unanswered}
-use Rattle.board_turns.specs.Carries.{HadNoResponse, HasPermitOnly, TookResponse}
+use Rattle.board_turns.specs.Carries.{HadNoResponse, HasPermitOnly, LeavesBy, TookResponse}
 use Rattle.board_turns.specs.Turns.{HadATurn, HadTurn, HadTurns}
 use Rattle.board_turns.proofs.TurnLemmas.{more_turns, no_turn, one_turn}
 use Rattle.worker_threads.specs.Serving.{Conversed, HasServed, WasLeft}
@@ -182,3 +183,33 @@ released v w child has gave same none =
       };
       number = λ z. has.number (sym (ap (λ (q : View). q.who.number) is) ∙ z);
     }
+
+-- one that was given up for the fault was closed
+pub gave_up : (v u : View) (name : ConnName) (f : BoardFault) (why : Cause) → why ≡ given_up_cause f → HadATurn (event.Close name why Direct ∷ []) v u
+    → HadTurns (left_events (exit.GiveUp f) name) v u
+gave_up v u name f why is turn = one_turn (left_events (exit.GiveUp f) name) v u (subst (λ x. HadATurn (event.Close name x Direct ∷ []) v u) is turn)
+
+pub given_up_so : (v u : View) (name : ConnName) (f : BoardFault) (out : Exit) → out ≡ exit.GiveUp f → HadTurns (left_events (exit.GiveUp f) name) v u
+    → HadTurns (left_events out name) v u
+given_up_so v u name f out is turns = subst (λ x. HadTurns (left_events x name) v u) (sym is) turns
+
+-- one whose wait was refused before
+pub gave_up_then : (v w u : View) (c c' : SeenConn) (f : BoardFault) (out : Exit) → c' ≡ c → HadATurn [] v w → HadTurns (left_events (exit.GiveUp f) c'.name) w u
+    → out ≡ exit.GiveUp f → HadTurns (left_events out c.name) v u
+gave_up_then v w u c c' f out back refused turns is =
+    given_up_so v u c.name f out is
+    (more_turns [] (left_events (exit.GiveUp f) c.name) v w u (one_turn [] v w refused)
+    (subst (λ (x : SeenConn). HadTurns (left_events (exit.GiveUp f) x.name) w u) back turns))
+
+pub refused_so : (kind : Kind) (f : BoardFault) (way out : Exit) → way ≡ exit.Park kind → out ≡ exit.GiveUp f → WasLeft way out
+refused_so kind f way out is gave = inr (kind, f, is, gave)
+
+pub lingers_so : (known : Option KnownOutside) (v : View) (c : SeenConn) (way : Exit) (why : Cause) → way ≡ exit.Linger why → LeavesBy known v c way
+    → WasLeft way (exit.Linger cause.LastSent)
+lingers_so known v c way why is by =
+    let by' : LeavesBy known v c (exit.Linger why) = subst (LeavesBy known v c) is by in inl (ap exit.Linger (sym by'.may.0) ∙ sym is)
+
+pub closed_so : (known : Option KnownOutside) (v : View) (c : SeenConn) (way : Exit) (why : Cause) (how : Tail) → way ≡ exit.Close why how → LeavesBy known v c way
+    → WasLeft way (exit.Close why Direct)
+closed_so known v c way why how is by =
+    let by' : LeavesBy known v c (exit.Close why how) = subst (LeavesBy known v c) is by in inl (ap (exit.Close why) (sym by'.may.0) ∙ sym is)

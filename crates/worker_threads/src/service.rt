@@ -1,7 +1,7 @@
 //! The service of a connection, turn by turn, between each two of which others act. What a link is called for stands between two turns.
 ghost use Rattle.std.specs.Prelude.{◌≡◌, List, [], IfNone, IfSome};
 ghost use Rattle.mpm_base.specs.declared.conn.Ask.{Ask};
-ghost use Rattle.worker_group.specs.Service.{ExitsAfter, left_events};
+ghost use Rattle.worker_group.specs.Service.{ExitsAfter, given_up_cause, left_events};
 ghost use Rattle.worker_group.specs.declared.service.Exit.TheVariants as exit;
 ghost use Rattle.board_turns.specs.Carries.{HasPermitOnly, LeavesBy, Serves};
 ghost use Rattle.board_turns.specs.Turns.{HadTurns};
@@ -136,9 +136,16 @@ fn give_up<R: Wait, L: Link, N: Known>(
         carrier.new.seat.me.0 }
     ensures way { result ≡ exit.GiveUp fault }
 {
-    match fault {
-        BoardFault::Halted => close(rt, shared, carrier, Cause::Stopped, conn),
-        BoardFault::NoMemory => close(rt, shared, carrier, Cause::NoMemory, conn),
-    }
+    close(rt, shared, carrier, cause_of(fault), conn);
     Exit::GiveUp(fault)
+}
+
+/// Why a connection ends that is given up for the fault.
+fn cause_of(fault: BoardFault) -> Cause
+    ensures { result ≡ given_up_cause fault }
+{
+    match fault {
+        BoardFault::Halted => Cause::Stopped,
+        BoardFault::NoMemory => Cause::NoMemory,
+    }
 }

@@ -1,0 +1,3 @@
+pub mod Credits
+pub mod Holds
+pub mod Looks
