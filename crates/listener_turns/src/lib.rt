@@ -14,5 +14,7 @@ mod taken;
 
 pub use held::{Due, close, hold, linger, park};
 pub use looks::{Look, look};
-pub use parts::{command, credit_child, fold, halt, pass_time, retire_child, signal_all, start_child};
+pub use parts::{
+    command, credit_child, fold, halt, pass_time, retire_child, signal_all, start_child,
+};
 pub use taken::accept;

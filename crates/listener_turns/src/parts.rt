@@ -99,10 +99,7 @@ pub fn signal_all<R: Wait, L: Link, N: Known>(
 }
 
 /// The same with the board in hand.
-fn signal_each<L: Link, N: Known>(
-    board: &mut Board<L, N>,
-    slots: &[u32],
-) -> Result<(), BoardFault>
+fn signal_each<L: Link, N: Known>(board: &mut Board<L, N>, slots: &[u32]) -> Result<(), BoardFault>
     requires passes { 0 < board.old.book.passes }
     ensures events { OnOk result
         (MadeEvents 0 (ready_events (length board.old.book.state.rows) slots.now) board.old
