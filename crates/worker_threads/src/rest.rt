@@ -91,6 +91,12 @@ impl Wakes {
         self.wake_lowest(bits, if held { 1 } else { wanted })
     }
 
+    /// Wakes all that rest: what was pushed last are their ends. As many as are awake may have taken theirs already, so none is counted.
+    pub fn wake_all(&self) {
+        let bits = self.resting.load(Ordering::SeqCst);
+        let _ = self.wake_lowest(bits, 64);
+    }
+
     /// Wakes the workers of the lowest so many of these bits: how many of them rested.
     fn wake_lowest(&self, bits: u64, count: u32) -> u32 {
         let mut left = bits;
