@@ -1,1 +1,2 @@
 mod ListenerLemmas
+mod ManyLemmas

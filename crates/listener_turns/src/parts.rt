@@ -9,7 +9,7 @@ ghost use Rattle.conn_machine.specs.declared.event.Event.TheVariants as event;
 ghost use Rattle.board.specs.Faults.{IsRefusedFor};
 ghost use Rattle.board_turns.specs.Books.{book_of, state_of};
 ghost use Rattle.board_turns.specs.Turns.{HadATurn, HadTurn, IsListener, state_found};
-ghost use Rattle.board_turns.specs.GoesOn.{MadeEvents};
+ghost use Rattle.listener_turns.specs.PartsInside.{MadeEvents};
 ghost use Rattle.board.specs.Finds.{startable};
 ghost use Rattle.listener_turns.specs.Credits.{HadCreditTurn};
 ghost use Rattle.listener_turns.specs.Looks.{lets_go_on, ready_events};
