@@ -45,7 +45,7 @@ use Rattle.worker_group.proofs.ServeLemmas.{alive, test-at}
 use Rattle.worker_group.proofs.StartLemmas.{lives}
 use Rattle.board_turns.specs.Books.{book_of, state_of, whole_book}
 use Rattle.board_turns.specs.Carries.{Carries, HasPermitOnly, Lasts, MayGo}
-use Rattle.board_turns.specs.RestsInside.{TurnsRestOn}
+use Rattle.board_turns.specs.Rests.{TurnsRestOn}
 
 -- ## The board
 

@@ -24,7 +24,7 @@ use Rattle.board.specs.Events.{IsAdded, with_recorded}
 use Rattle.board.specs.Ledger.{ledger_of}
 use Rattle.board.specs.ReportLine.{line_of}
 use Rattle.board_turns.specs.GoesOnInside.{MadeEvent}
-use Rattle.board_turns.specs.RestsInside.{TurnsRestOn}
+use Rattle.board_turns.specs.Rests.{TurnsRestOn}
 
 -- ## What a call of the board does
 

@@ -64,7 +64,7 @@ use Rattle.worker_group.proofs.ServeLemmas.{cause-none, closable, closes-done, c
 use Rattle.board_turns.specs.Books.{book_of, state_of}
 use Rattle.board_turns.specs.Carries.{Carries, HasPermitOnly, Lasts, LeavesBy, MayGo, Serves}
 use Rattle.board_turns.specs.GoesOnInside.{MadeEvent}
-use Rattle.board_turns.specs.RestsInside.{TurnsRestOn}
+use Rattle.board_turns.specs.Rests.{TurnsRestOn}
 use Rattle.board_turns.proofs.FoundLemmas.{may_go_here, same_live, served_on}
 use Rattle.board_turns.proofs.GoesOnLemmas.{made_added}
 use Rattle.board_turns.proofs.ThenLemmas.{carries_still, carries_then, left_then, nothing_state, state_then}

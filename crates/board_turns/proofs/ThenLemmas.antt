@@ -38,7 +38,7 @@ use Rattle.board_turns.specs.Books.{book_of, state_of, whole_book}
 use Rattle.board_turns.specs.Carries.{Carries, HasPermitOnly, IsCarried, Serves}
 use Rattle.board_turns.specs.GoesOnInside.{MadeEvent}
 use Rattle.board_turns.specs.Turns.{IsListener, StaysAs}
-use Rattle.board_turns.specs.RestsInside.{TurnsRestOn}
+use Rattle.board_turns.specs.Rests.{TurnsRestOn}
 use Rattle.board_turns.proofs.FoundLemmas.{left_of, own_row, same_live, same_state}
 use Rattle.board_turns.proofs.GoesOnLemmas.{free_then, same_seen, seen_then}
 

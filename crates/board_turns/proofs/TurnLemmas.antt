@@ -1,5 +1,7 @@
 -- What a turn was, and some turns, one behind the other.
-use Rattle.std.proofs.Common.{◌≡◌, inl, inr, ℕ, ◌<◌, ◌==◌, Bool, true, false, List, [], ◌∷◌, ◌++◌, map, filter, Option, Some, None, if◌then◌else◌, refl, sym, ap, subst, ◌∙◌, append-nil, append_assoc, eq-eqb}
+use Rattle.std.proofs.Common.{◌≡◌, ℕ, ◌<◌, Bool, true, List, [], ◌∷◌, ◌++◌, map, Option, refl, sym, ap, subst, ◌∙◌, append-nil, append_assoc, eq-eqb}
+use Rattle.std.proofs.lemmas.List.{map-append}
+use Rattle.std.proofs.lemmas.List.Elements.{filter-append}
 use Rattle.std.specs.Prelude.{Result, IfErr, OnErr, OnOk}
 use Rattle.std.specs.declared.result.Result.TheVariants.{Ok, Err}
 use Rattle.atomic_table.specs.Table.{Me}
@@ -34,7 +36,7 @@ use Rattle.board.specs.Ledger.{ledger_of}
 use Rattle.board_turns.specs.Books.{book_of, state_of}
 use Rattle.board_turns.specs.Carries.{LackedResponse, TookResponse, WasRefused}
 use Rattle.board_turns.specs.GoesOnInside.{MadeEvent}
-use Rattle.board_turns.specs.RestsInside.{TurnsRestOn}
+use Rattle.board_turns.specs.Rests.{TurnsRestOn}
 use Rattle.board_turns.specs.Turns.{HadATurn, HadTurn, HadTurns, own_events, state_found}
 use Rattle.board_turns.proofs.FoundLemmas.{same_state}
 use Rattle.board_turns.proofs.GoesOnLemmas.{made_added, only_entry, seen_then}
@@ -167,19 +169,6 @@ closed_as c why e ends = rw (ends.name, ends.cause, ends.tail) refl
 
 -- ## Some turns
 
--- a filter goes over two lists one behind the other
-filter_more : (test : Entry → Bool) (xs ys : List Entry) → filter test (xs ++ ys) ≡ filter test xs ++ filter test ys
-filter_more test [] ys = refl
-filter_more test (x ∷ xs) ys = by (test x) refl
-  where
-    by : (b : Bool) → test x ≡ b → filter test (x ∷ xs ++ ys) ≡ filter test (x ∷ xs) ++ filter test ys
-    by true is = rw is (ap (λ l. x ∷ l) (filter_more test xs ys))
-    by false is = rw is (filter_more test xs ys)
-
-map_more : {X Y : Type 0} (f : X → Y) (xs ys : List X) → map f (xs ++ ys) ≡ map f xs ++ map f ys
-map_more f [] ys = refl
-map_more f (x ∷ xs) ys = ap (λ l. f x ∷ l) (map_more f xs ys)
-
 -- what a pass adds is its own
 all_own : (p : ℕ) (base : State) (f : Folded) (history added : List Entry) → AreEntriesOf p base f history added → entries_of p added ≡ added
 all_own p base f history [] are = refl
@@ -188,19 +177,19 @@ all_own p base f history (e ∷ added) are =
     rw is (ap (λ l. e ∷ l) (all_own p base f (history ++ e ∷ []) added are.1))
 
 own_more : (p : ℕ) (a b : List Entry) → own_events p (a ++ b) ≡ own_events p a ++ own_events p b
-own_more p a b = ap (map (λ (e : Entry). e.event)) (filter_more (is_of_pass p) a b) ∙ map_more (λ (e : Entry). e.event) (entries_of p a) (entries_of p b)
+own_more p a b = ap (map (λ (e : Entry). e.event)) (filter-append (is_of_pass p) a b) ∙ map-append (λ (e : Entry). e.event) (entries_of p a) (entries_of p b)
 
 -- one turn
 pub one_turn : (events : List Event) (old new : View) → HadATurn events old new → HadTurns events old new
 one_turn events old new (found, t) =
     let p = old.who.number in
     let none : own_events p found ≡ own_events p old.seen =
-    ap (own_events p) t.others.1.0 ∙ own_more p old.seen t.others.0 ∙ ap (λ l. own_events p old.seen ++ map (λ (e : Entry). e.event) l) t.others.1.1
+    ap (own_events p) t.others.1 ∙ own_more p old.seen t.others.0 ∙ ap (λ l. own_events p old.seen ++ map (λ (e : Entry). e.event) l) t.others.2
     ∙ append-nil (own_events p old.seen) in
     let own : own_events p t.added ≡ events =
     ap (map (λ (e : Entry). e.event)) (all_own p old.origin.state (opening_record old.origin.passes) found t.added t.entries) ∙ t.events_are in
     record {
-      goes_on = (t.others.0 ++ t.added, t.seen ∙ ap (λ l. l ++ t.added) t.others.1.0 ∙ append_assoc old.seen t.others.0 t.added);
+      goes_on = (t.others.0 ++ t.added, t.seen ∙ ap (λ l. l ++ t.added) t.others.1 ∙ append_assoc old.seen t.others.0 t.added);
       made = ap (own_events p) t.seen ∙ own_more p found t.added ∙ ap (λ l. l ++ own_events p t.added) none ∙ ap (λ l. own_events p old.seen ++ l) own;
       origin = t.stays.origin;
       who = t.stays.who;

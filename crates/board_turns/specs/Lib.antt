@@ -1,5 +1,5 @@
 pub mod Books
 pub mod Carries
 pub mod GoesOnInside
-pub mod RestsInside
+pub mod Rests
 pub mod Turns

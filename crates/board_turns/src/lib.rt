@@ -13,4 +13,5 @@ mod rests;
 mod worker_turns;
 
 pub use pair::Pair;
+pub use rests::turns_rest_on_these;
 pub use worker_turns::{answer, close, linger, park, queue, start};

@@ -1,5 +1,5 @@
 //! What turns with a board rest on.
-ghost use Rattle.board_turns.specs.RestsInside.{TurnsRestOn};
+ghost use Rattle.board_turns.specs.Rests.{TurnsRestOn};
 
 use board::laws::{editions_stand_for_whole_histories, generations_keep_their_editions};
 use conn_machine::laws::connections_stay_while_others_go_on;
@@ -10,7 +10,7 @@ use conn_machine::laws_of_runs::{
 use table_rule::laws::values_stand_for_whole_histories;
 
 /// What turns with a board rest on.
-pub(crate) fn turns_rest_on_these()
+pub fn turns_rest_on_these()
     ensures { TurnsRestOn }
 {
     values_stand_for_whole_histories();

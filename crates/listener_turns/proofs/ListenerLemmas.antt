@@ -29,7 +29,7 @@ use Rattle.board.specs.Ledger.{ledger_of}
 use Rattle.board.specs.ReportLine.{line_of}
 use Rattle.board_turns.specs.Books.{book_of, state_of}
 use Rattle.board_turns.specs.GoesOnInside.{MadeEvent}
-use Rattle.board_turns.specs.RestsInside.{TurnsRestOn}
+use Rattle.board_turns.specs.Rests.{TurnsRestOn}
 use Rattle.board_turns.specs.Turns.{HadATurn, HadTurn, IsListener}
 use Rattle.board_turns.proofs.FoundLemmas.{own_row, same_state}
 use Rattle.board_turns.proofs.GoesOnLemmas.{Changes}
@@ -52,7 +52,7 @@ only_serves v w b others rests took number state =
     let f = took.is_found in
     subst (OnlyServes (state_of v.0)) (same_state v w b rests took state)
     (others.rest v.0.origin.state (opening_record v.0.origin.passes) v.0.seen w.0.seen f.made
-    (f.seen.0, f.seen.1.0, subst (λ p. entries_of p f.seen.0 ≡ []) number f.seen.1.1))
+    (f.seen.0, f.seen.1, subst (λ p. entries_of p f.seen.0 ≡ []) number f.seen.2))
 
 -- ## Folds
 

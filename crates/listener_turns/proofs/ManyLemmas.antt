@@ -1,5 +1,7 @@
 -- A turn in which many events were made, and what a turn leaves, whatever was made in it.
 use Rattle.std.proofs.Common.{◌≡◌, inl, ℕ, ◌<◌, Bool, true, false, List, [], ◌∷◌, ◌++◌, fold, filter, map, Option, None, refl, sym, ap, subst, ◌∙◌, append-nil, true≢false}
+use Rattle.std.proofs.lemmas.List.{map-append}
+use Rattle.std.proofs.lemmas.List.Elements.{filter-append}
 use Rattle.std.proofs.lemmas.List.Sums.{fold-append}
 use Rattle.atomic_table.specs.Table.{Me}
 use Rattle.mpm_base.specs.declared.conn.ConnName.{ConnName}
@@ -23,12 +25,11 @@ use Rattle.board.specs.Ledger.{ledger_of}
 use Rattle.board.specs.ReportLine.{line_of}
 use Rattle.board_turns.specs.Books.{state_of}
 use Rattle.listener_turns.specs.PartsInside.{MadeEvents}
-use Rattle.board_turns.specs.RestsInside.{TurnsRestOn}
+use Rattle.board_turns.specs.Rests.{TurnsRestOn}
 use Rattle.board_turns.specs.Turns.{HadTurn}
 use Rattle.board_turns.proofs.FoundLemmas.{same_state}
 use Rattle.board_turns.proofs.GoesOnLemmas.{ended_by}
 use Rattle.board_turns.proofs.ThenLemmas.{stays_as}
-use Rattle.board_turns.proofs.TurnLemmas.{filter_more, map_more}
 
 -- ## What needs no permit and no credit
 
@@ -89,7 +90,7 @@ may_leave_all v w who events old new rests took number m free =
           base = m.base;
           record_is = m.folded;
           history = m.adds.1;
-          texts = (map line_of m.ended.0, ap (map line_of) m.ended.1 ∙ map_more line_of old.ended m.ended.0);
+          texts = (map line_of m.ended.0, ap (map line_of) m.ended.1 ∙ map-append line_of old.ended m.ended.0);
         };
         passes = m.passes;
         entries = subst (λ (u : View). AreEntriesOf u.who.number u.origin.state (opening_record u.origin.passes) w.0.seen m.adds.0) (sym took.view)
@@ -138,10 +139,10 @@ state_left v w u who events old new rests took gave m before behind =
 
 -- a pass has the connection that further entries of its own leave it
 rows_more : (f : Folded) (p : ℕ) (a b : List Entry) → row_from f p (a ++ b) ≡ row_after (row_from f p a) (entries_of p b)
-rows_more f p a b = ap (row_after _) (filter_more (is_of_pass p) a b) ∙ fold-append (λ (now : Option ConnName) (e : Entry). has_after now e.event e.reply) _ (entries_of p a) (entries_of p b)
+rows_more f p a b = ap (row_after _) (filter-append (is_of_pass p) a b) ∙ fold-append (λ (now : Option ConnName) (e : Entry). has_after now e.event e.reply) _ (entries_of p a) (entries_of p b)
 
 row_of_more : (p : ℕ) (a b : List Entry) → row_of p (a ++ b) ≡ row_after (row_of p a) (entries_of p b)
-row_of_more p a b = ap (row_after None) (filter_more (is_of_pass p) a b) ∙ fold-append (λ (now : Option ConnName) (e : Entry). has_after now e.event e.reply) None (entries_of p a) (entries_of p b)
+row_of_more p a b = ap (row_after None) (filter-append (is_of_pass p) a b) ∙ fold-append (λ (now : Option ConnName) (e : Entry). has_after now e.event e.reply) None (entries_of p a) (entries_of p b)
 
 -- and so the one that the board says
 pub row_left : {K : Type 0} (v w u : Me (Option K) View) (who : ℕ) (events : List Event) (old new : SeenBoard) → TurnsRestOn → TookTurn v w (ledger_of old)
