@@ -1,4 +1,5 @@
 //! The turns of a connection that the listener holds: it is taken up, and let go of, and between these its link is called.
+//! Why it is so stands in docs/DECISIONS.md: 109, Turns of the listener.
 ghost use Rattle.std.specs.Prelude.{◌≡◌, ◌×◌, [], ◌∷◌, true, None, IfErr, IfNone, IfSome, OnErr, OnOk};
 ghost use Rattle.conn_machine.specs.States.{is_halted};
 ghost use Rattle.conn_machine.specs.declared.event.Event.TheVariants as event;

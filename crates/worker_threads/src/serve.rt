@@ -1,4 +1,5 @@
 //! The service of a connection that came with its carrier.
+//! Why it is so stands in docs/DECISIONS.md: 108, What is said of a service.
 ghost use Rattle.std.specs.Prelude.{◌≡◌, [], IfSome, MatchOption};
 ghost use Rattle.board_turns.specs.Carries.{HasPermitOnly, IsCarried};
 ghost use Rattle.recycle_perch.specs.Looking.{AreOf, CameBack, WasLaidDown, steps_of};

@@ -38,7 +38,7 @@ pub fn worker_loop<R: Wait, M: Room, L: Link, N: Known, B: Bell, G: Gate>(
 {
     let mut back = back;
     for _ in rt.forever() {
-        let Item::Work(pair) = next_item(rt, queue, seat, rest) else {
+        let Item::Work(pair) = next_item(rt, queue, seat, &*rest) else {
             return back;
         };
         rest.takes();
