@@ -10,11 +10,11 @@
 
 mod hands;
 mod rest;
-mod serve;
+mod serving;
 mod service;
 mod worker;
 
 pub use hands::Hands;
 pub use rest::{Rest, Wakes};
-pub use serve::{serve, serve_one};
+pub use serving::{serve, serve_one};
 pub use worker::worker_loop;

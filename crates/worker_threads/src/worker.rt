@@ -1,12 +1,12 @@
 //! A worker: it serves what it takes from the queue of its child, until it takes an End item.
-ghost use Rattle.std.specs.Prelude.{◌≡◌, ◌×◌, All, vec_len};
+ghost use Rattle.std.specs.Prelude.{◌≡◌, All, vec_len};
 ghost use Rattle.crossbeam_queue.specs.Passes.{IsPassOf};
 ghost use Rattle.recycle_perch.specs.Looking.{AreOf};
 ghost use Rattle.recycle_perch.specs.Resting.{IsFreeCarrier};
 
 use crate::hands::Hands;
 use crate::rest::Rest;
-use crate::serve::serve_one;
+use crate::serving::serve_one;
 use board::Board;
 use board_lock::{Carrier, Room};
 use board_turns::Pair;

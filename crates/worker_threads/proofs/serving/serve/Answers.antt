@@ -1,5 +1,5 @@
 use Rattle.worker_threads.proofs.ServingLemmas.{has_permit_as, served_all}
-use Rattle.worker_threads.proofs.serve.fn.serve.Goals as goal
+use Rattle.worker_threads.proofs.serving.serve.Goals as goal
 
 pub returns-clause-permit : goal.returns-clause-permit
 returns-clause-permit g c = has_permit_as c.args.conn.child _ _ c.converse-way.ensures.conversed.1.child c.leave.ensures.permit

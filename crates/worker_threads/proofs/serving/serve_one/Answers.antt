@@ -1,7 +1,7 @@
 use Rattle.std.proofs.Common.{ap}
 use Rattle.table_rule.specs.declared.view.Hand.{Hand}
 use Rattle.worker_threads.proofs.ServingLemmas.{has_permit_as, released}
-use Rattle.worker_threads.proofs.serve.serve_one.Goals as goal
+use Rattle.worker_threads.proofs.serving.serve_one.Goals as goal
 
 pub release-requires-clause-permit : goal.release-requires-clause-permit
 release-requires-clause-permit g c = ap (λ (h : Hand). h.permit) (has_permit_as _ _ _ c.child.ensures c.serve.ensures.permit).hand
