@@ -48,8 +48,11 @@ class Limit:
 
     def memory_of(self, process):
         """How many bytes that count the process has, and how many it had at most."""
-        with open(f"/proc/{process.pid}/status") as file:
-            told = dict(line.split(":") for line in file.read().splitlines())
+        told = {}
+        # a process that is just becoming another program tells none for a moment
+        while "VmSize" not in told and process.poll() is None:
+            with open(f"/proc/{process.pid}/status") as file:
+                told = dict(line.split(":", 1) for line in file.read().splitlines())
         all_now, counted, most = (1024 * int(told[name].split()[0]) for name in ("VmSize", self.counted, "VmPeak"))
         return counted, most - all_now + counted
 
