@@ -137,6 +137,17 @@ impl<T: Drop> FdQueue<T> {
         self.ring.pop_as::<PopStep, R>(rt, seat)
     }
 
+    /// How many items stood in the queue at some moment of the call.
+    pub fn len<R: Wait>(&self, rt: &R, seat: &mut FdSeat<T>) -> usize
+        requires seat { IsPassOf self.now.ring seat.old }
+        ensures seat { IsPassOf self.now.ring seat.new }
+        ensures same { view seat.new ≡ view seat.old }
+        ensures few { result ≤ ruled_capacity self.now.ring }
+        ensures held { WasHolding result (view seat.old) }
+    {
+        self.ring.len_as::<PopStep, R>(rt, seat)
+    }
+
     /// Puts End so often, and answers how often: less only where the queue was full at some moment of the call.
     pub fn end_items<R: Wait>(&self, rt: &R, seat: &mut FdSeat<T>, n: u32) -> u32
         requires seat { IsPassOf self.now.ring seat.old }
