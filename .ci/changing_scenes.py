@@ -138,22 +138,31 @@ def calls_of_restart(server, system):
     return {name: getattr(system, name).made for name in READING}
 
 
+def restart_held_at(server, system, name, number, change):
+    """Makes the change while a restart is held at that call, and what the restart is answered once it went on."""
+    system.hold(name, number)
+    with connect(server.control) as caller:
+        caller.send(b"graceful\n")
+        until(f"a restart that is held at {name} {number}", lambda: system.is_held(name))
+        change()
+        system.let_go(name)
+        return caller.answer()
+
+
 def change_at(server, system, change, name, number):
-    """Makes the change at that call of a restart, and looks at what is served behind it. The restart is held there and goes on."""
+    """Makes the change at that call of a restart, and looks at what is served behind it."""
     what = f"{change.what} before {name} {number}"
     with connect(server.port) as client:
         before = generation_of(client)
-    system.hold(name, number)
-    server.tell(b"graceful\n")
-    until(f"a restart that is held: {what}", lambda: system.is_held(name))
-    change.make(server.folder)
-    system.let_go(name)
+    answered = restart_held_at(server, system, name, number, lambda: change.make(server.folder))
     with connect(server.port) as client:
         behind = generation_of(client)
         if behind == before:
             expect(f"whether the restart may be refused: {what}", change.refused, True)
+            expect(f"the beginning of what is answered: {what}", answered[:9], b"refused: ")
         else:
             expect(f"the generation: {what}", behind, before + 1)
+            expect(f"what is answered: {what}", answered, b"generation %d\n" % behind)
         found = served(client)
         for file, came in found.items():
             if came != FILES[file] and (behind == before or not change.may(file, came)):
@@ -202,17 +211,19 @@ def a_file_that_becomes_a_pipe_just_before_it_is_opened_holds_a_server_up_until_
     with outside() as system, serving(files=FILES, before=system.before) as server:
         # The configuration is opened first, and then the files in the order of their names. What a name is was looked at before that.
         system.hold("open", 2)
-        server.tell(b"graceful\n")
-        until("a restart that is held", lambda: system.is_held("open"))
-        put_in_place(server.folder, "a", os.mkfifo)
-        system.let_go("open")
-        with connect(server.port) as client:
-            client.send(get("a"))
-            expect("whether there is a response", client.has_come(0.2), False)
-            with open(path_in(server.folder, "a"), "wb") as pipe:
-                pipe.write(b"piped")
-            expect("the response", client.reply(), answer(b"piped"))
-            expect("the generation", generation_of(client), 1)
+        with connect(server.control) as caller:
+            caller.send(b"graceful\n")
+            until("a restart that is held", lambda: system.is_held("open"))
+            put_in_place(server.folder, "a", os.mkfifo)
+            system.let_go("open")
+            with connect(server.port) as client:
+                client.send(get("a"))
+                expect("whether there is a response", client.has_come(0.2), False)
+                with open(path_in(server.folder, "a"), "wb") as pipe:
+                    pipe.write(b"piped")
+                expect("what the caller is answered", caller.answer(), b"generation 1\n")
+                expect("the response", client.reply(), answer(b"piped"))
+                expect("the generation", generation_of(client), 1)
         server.stop()
         server.expect_report("1 ClientDone Direct 200,200", children=6, generation=1)
 
@@ -234,15 +245,13 @@ def what_loses_its_rights_while_a_restart_reads_it_refuses_that():
                 mode = os.stat(f"{folder}/{name}").st_mode
                 said = len(server.told_operator())
                 # Before the first call of a restart.
-                system.hold("statx", 1)
-                server.tell(b"graceful\n")
-                until("a restart that is held", lambda: system.is_held("statx"))
-                os.chmod(f"{folder}/{name}", 0)
-                system.let_go("statx")
+                answered = restart_held_at(server, system, "statx", 1, lambda: os.chmod(f"{folder}/{name}", 0))
+                expect(f"what is answered without rights to {name}", answered, b"refused: store\n")
                 with connect(server.port) as client:
                     expect(f"the generation behind a restart without rights to {name}", generation_of(client), 0)
                     expect("what is served", served(client), FILES)
-                expect("what the operator is told", server.told_operator()[said:], [f"{why}{os.strerror(errno.EACCES)} (os error {errno.EACCES})"])
+                why = f"{why}{os.strerror(errno.EACCES)} (os error {errno.EACCES})"
+                expect("what the operator is told", server.told_operator()[said:], [why, "refused: store"])
                 os.chmod(f"{folder}/{name}", mode)
             command(server, "graceful")
             with connect(server.port) as client:
@@ -295,7 +304,7 @@ def a_site_has_as_many_bytes_as_one_may_and_one_more_is_too_many():
                 expect("the size of the last file", len(client.reply()), len(answer(b"")) + len(str(GREATEST)) - 1 + GREATEST)
             lay_out(folder, {"e": b"e"})
             # It is refused, and changes nothing.
-            command(server, "graceful")
+            command(server, "graceful", b"refused: site htdocs/e\n")
             with connect(server.port) as client:
                 expect("the generation", generation_of(client), 0)
                 client.send(get("e"))

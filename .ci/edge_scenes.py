@@ -151,10 +151,12 @@ def sockets_wait_for_nothing_send_at_once_and_are_closed_on_exec():
 
 @scene
 def a_command_ends_only_when_its_connection_is_closed():
+    # Of what is answered the first 512 bytes are printed.
+    answers = {"stop": b"", "graceful": b"refused: store\n" * 10_000, "graceful-stop": b"generation 7\n" * 10_000, "status": b"refused: x"}
     with tempfile.TemporaryDirectory() as folder, socket.create_server((HOST, 0)) as listener:
         listener.settimeout(DEADLINE)
         configure(folder, f"ControlListen {listener.getsockname()[1]}", CORRECTED)
-        for word in ("stop", "graceful", "graceful-stop"):
+        for word, answer in answers.items():
             words = [real_server.PROGRAM, "-k", word, "-f", "httpd.conf"]
             process = subprocess.Popen(words, cwd=folder, stdin=subprocess.DEVNULL, stdout=subprocess.PIPE, stderr=subprocess.STDOUT)
             try:
@@ -163,12 +165,11 @@ def a_command_ends_only_when_its_connection_is_closed():
                     while not came.endswith(b"\n"):
                         came += heard.stream.recv(1_000)
                     expect("what is sent", came, f"{word}\n".encode())
-                    # What is answered means nothing, however much it is.
-                    heard.send(b"generation 7\n" * 10_000)
+                    heard.send(answer)
                     expect("whether more is sent", heard.has_come(0.1), False)
                     expect("whether the command has ended", process.poll(), None)
-                expect("what is printed", process.communicate(timeout=DEADLINE)[0], b"")
-                expect("the status", process.returncode, 0)
+                expect("what is printed", process.communicate(timeout=DEADLINE)[0], answer[:512])
+                expect("the status", process.returncode, 12 if answer.startswith(b"refused: ") else 0)
             finally:
                 end(process)
 
@@ -181,13 +182,13 @@ def a_command_waits_for_a_server_that_stands_still():
             process = subprocess.Popen(words, cwd=server.folder, stdin=subprocess.DEVNULL, stdout=subprocess.PIPE, stderr=subprocess.STDOUT)
             time.sleep(0.2)
             expect("whether the command has ended", process.poll(), None)
-        expect("what is printed", process.communicate(timeout=DEADLINE)[0], b"")
+        expect("what is printed", process.communicate(timeout=DEADLINE)[0], b"stopping\n")
         expect("the status", process.returncode, 0)
         server.expect_report()
 
 
 def send_lines(server, early, late):
-    """Sends lines that come at once: so many over connections that are open before, and so many over further ones."""
+    """What lines are answered that come at once: so many over connections that are open before, and so many over further ones."""
     told = [connect(server.control) for _ in range(early)]
     for caller in told:
         caller.send(b"gracefu")
@@ -198,9 +199,10 @@ def send_lines(server, early, late):
         told += [connect(server.control) for _ in range(late)]
         for caller in told[early:]:
             caller.send(b"graceful\n")
+    answers = [caller.answer() for caller in told]
     for caller in told:
-        caller.expect_close()
         caller.close()
+    return answers
 
 
 @scene
@@ -208,7 +210,9 @@ def of_command_lines_that_come_at_once_64_wait_and_further_ones_are_lost():
     with serving("ServerLimit 1", "StartServers 1", "MaxRequestWorkers 25") as server:
         # One wait reads on from 16 connections, and takes 64 further ones.
         for generation, early in [(MOST_LINES, 16), (2 * MOST_LINES, 0)]:
-            send_lines(server, early, 64)
+            answers = send_lines(server, early, 64)
+            made = [b"generation %d\n" % number for number in range(generation - MOST_LINES + 1, generation + 1)]
+            expect("what the lines are answered, and those that are lost", answers, made + [b""] * early)
             with connect(server.port) as client:
                 expect_generation(client, generation)
         server.stop()

@@ -49,7 +49,7 @@ def a_command_for_which_there_was_no_descriptor_is_heard_though_nothing_else_com
             caller = connect(server.control)
             caller.send(b"stop\n")
             expect("whether it is heard", caller.has_come(0.3), False)
-        caller.expect_end()
+        caller.expect_answer(b"stopping\n")
         server.expect_report()
 
 
@@ -60,7 +60,7 @@ def a_command_is_heard_without_a_descriptor_where_its_connection_was_open():
         until("a server that has taken both", lambda: server.connections() == 2)
         with without_descriptors(server):
             caller.send(b"op\n")
-            caller.expect_end()
+            caller.expect_answer(b"stopping\n")
         server.expect_report("0 Stopped Direct -")
         waiting.expect_close()
 
@@ -73,12 +73,12 @@ def a_restart_for_which_there_is_no_descriptor_is_refused():
         replace(server, "index.html", b"other\n")
         with without_descriptors(server):
             caller.send(b"l\n")
-            caller.expect_end()
+            caller.expect_answer(b"refused: store\n")
             # It is done before what comes behind it is served.
             client.send(GET)
             expect("the page of before", client.reply(), ANSWER)
             expect_generation(client, 0)
-        expect("what the operator is told", server.told_operator()[2:], [f"cannot read httpd.conf: {NONE_FREE}"])
+        expect("what the operator is told", server.told_operator()[2:], [f"cannot read httpd.conf: {NONE_FREE}", "refused: store"])
         command(server, "graceful")
         client.expect_end()
         with connect(server.port) as other:

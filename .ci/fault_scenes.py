@@ -90,11 +90,12 @@ class Play:
         return 0
 
     def tell(self, word):
-        """Sends the command line, whether it is heard or not."""
+        """Sends the command line, whether it is heard or not. What it is answered, or nothing where that didn't come."""
         with contextlib.suppress(OSError), connect(self.control) as caller:
             caller.stream.settimeout(min(self.patience, 2))
             caller.send(word)
-            caller.expect_close()
+            return caller.answer()
+        return b""
 
     def ask(self, requests, wanted, closes=False):
         """Sends requests, and goes on where what comes of it is the front of one of the answers, or all of it."""

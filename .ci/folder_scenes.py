@@ -160,8 +160,8 @@ def a_root_that_is_missing_is_told_and_has_no_files():
                 expect("a file of a root that is missing", client.reply(), MISSING)
                 why = f"cannot list {root}: {NO_SUCH}"
                 expect("what the server says", server.told_operator(), [why, f"listening on {HOST}:{server.port}", "takes 225 connections at its start"])
-                expect("-k graceful", run(folder, "-k", "graceful", "-f", "httpd.conf"), (0, b""))
-                expect("what it says behind a restart", server.told_operator()[3:], [why])
+                expect("-k graceful", run(folder, "-k", "graceful", "-f", "httpd.conf"), (0, b"generation 1\n"))
+                expect("what it says behind a restart", server.told_operator()[3:], [why, "generation 1"])
 
 
 @scene
@@ -238,8 +238,9 @@ def each_of_65_536_files_is_served_and_one_more_is_too_many():
                 for number, wanted in [(MOST_FILES - 1, answer(b"")), (MOST_FILES, MISSING)]:
                     client.send(get(str(number)))
                     expect(f"the file {number}", client.reply(), wanted)
-        with open(f"{folder}/many/{MOST_FILES}", "wb"):
-            pass
+            with open(f"{folder}/many/{MOST_FILES}", "wb"):
+                pass
+            expect("a restart with one file more", server.tell(b"graceful\n"), b"refused: site many\n")
         expect("one file more", run_told(folder, "-f", "httpd.conf", timeout=PATIENCE), (9, b"site refused: many\n", []))
 
 

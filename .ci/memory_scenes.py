@@ -19,7 +19,7 @@ from fault_scenes import GET_LETTERS, LETTERS_ANSWER, PAGES, act, answers, playe
 from real_server import (
     DEADLINE, GET, MISSING, Wrong, connect, expect, lay_out, long_scene, request, response, scene, serving, until,
 )
-from restart_scenes import STATUS
+from restart_scenes import DONE, STATUS
 
 # The least step of a limit.
 STEP = resource.getpagesize()
@@ -189,13 +189,17 @@ def restart_by(limit, more):
             play.ask(GET, answers())
             grow(play)
             bounds.set(limit.memory_of(play.process)[0] + more)
-            play.tell(b"graceful\n")
+            told = play.tell(b"graceful\n")
             # What is served meanwhile is of one generation, or cut short.
             play.ask(GET + GET_LETTERS, [each + LETTERS_ANSWER for each in answers()] + answers(True))
             bounds.heal()
             generation = generation_of(play)
             status = play.judge()[0]
             expect("the status", status, 6 if generation is None else 0)
+            if generation is not None and told:
+                # A folder that can't be listed for want of memory is one that the store can't read.
+                answers_to = (b"generation 1\n",) if generation else (b"refused: memory\n", b"refused: store\n")
+                expect(f"whether the restart is answered as it was done, by {told}", told in answers_to, True)
             if generation is not None:
                 expect("the generation of the report", f"Generation: {generation}\n" in play.text(play.output).decode(), True)
             return generation, status
@@ -228,7 +232,7 @@ def restart_by_each(limit, places_of):
 def send_by(limit, server, word, most):
     """Sends the word by a program that may have so many bytes of memory: whether that succeeded."""
     came = run_by(limit, server.folder, ("-k", word, "-f", "httpd.conf"), most)
-    if came not in [(0, b""), (6, b"")]:
+    if came != (6, b"") and (came[0] != 0 or not re.fullmatch(DONE[word], came[1])):
         raise Wrong(f"-k {word} by {most} bytes ({limit.name}): came {came}")
     return came[0] == 0
 

@@ -176,6 +176,18 @@ class Client:
         size = re.search(rb"\r\nContent-Length: (\d+)\r\n", head)
         return undated(head) + (self.take(int(size[1])) if size and not only_head else b"")
 
+    def answer(self):
+        """What comes up to the close of the connection, whether the other side has read all or not: of a control port its answer."""
+        came = b""
+        with contextlib.suppress(ConnectionError):
+            while piece := self.stream.recv(4096):
+                came += piece
+        return came
+
+    def expect_answer(self, wanted):
+        """Goes on where just this is answered, and then the connection closed."""
+        expect("the answer", self.answer(), wanted)
+
     def expect_end(self):
         """Goes on where nothing more comes, but the end."""
         expect("behind what came", self.take(-1), b"")
@@ -325,10 +337,10 @@ class Server:
         self.own_descriptors = self.descriptors()
 
     def tell(self, line):
-        """Sends the bytes to the control port, and goes on where the server has closed that connection."""
+        """Sends the bytes to the control port, and what is answered, once the server has closed that connection."""
         with connect(self.control) as caller:
             caller.send(line)
-            caller.expect_close()
+            return caller.answer()
 
     def told_operator(self):
         """The lines that the server said on standard error so far."""
@@ -355,7 +367,8 @@ class Server:
 
     @contextlib.contextmanager
     def standing_still(self):
-        """The server does nothing up to the end of the block."""
+        """The server, once it waits, does nothing up to the end of the block."""
+        until("a server that waits", lambda: self.told()[0] == "S")
         self.process.send_signal(signal.SIGSTOP)
         until("a server that stands still", lambda: self.told()[0] == "T")
         yield
@@ -366,13 +379,16 @@ class Server:
         until(f"a server that has {left} connections", lambda: self.connections() == left)
         self.tell(b"stop\n")
 
-    def expect_report(self, *lines, children=3, status=0, generation=0, in_order=False):
-        """Goes on where the server ends with the report of connections that have these lines, in this order or in any, in that generation."""
+    def expect_report(self, *lines, children=3, status=0, generation=0, in_order=False, told=()):
+        """Goes on where the server ends with the report of connections that have these lines, in this order or in any, in that generation, behind
+        what it told of its state."""
         try:
             printed, _ = self.process.communicate(timeout=DEADLINE)
         except subprocess.TimeoutExpired:
             raise Wrong(f"the server's end: wanted within {DEADLINE} seconds, and it didn't come") from None
         came = printed.decode(errors="backslashreplace").splitlines(keepends=True)
+        expect("the lines before the report", came[:len(told)], list(told))
+        came = came[len(told):]
         if not in_order:
             lines = sorted(lines)
             came[REPORT_HEAD:] = sorted(came[REPORT_HEAD:])

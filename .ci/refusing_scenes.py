@@ -214,7 +214,8 @@ def responses_are_whole_where_the_system_moves_a_byte_at_a_time():
     with serving_by(files=files) as (server, system):
         for name in ("recv", "send", "sendmsg", "write", "read"):
             getattr(system, name).most = 1
-        command(server, "graceful")
+        # an answer is one write, and what that doesn't take is lost
+        command(server, "graceful", b"g")
         with connect(server.port) as client:
             client.send(GET + request("GET", "/long.txt") + request("POST", "/", "Content-Length: 3") + b"abc" + GET)
             expect("the first", client.reply(), ANSWER)
@@ -237,7 +238,7 @@ def waits_and_lines_that_ask_for_nothing_take_no_memory():
                     caller.send(line)
                 else:
                     caller.half_close()
-                caller.expect_close()
+                expect("what is answered", caller.answer(), b"no such command\n" if line == b"halt\n" else b"")
         until("a server that stands in a wait", lambda: rests(server))
         # each wait may add a moment to the history, whose room doubles
         expect("whether more allocations were made than the history's", system.malloc.made - begun > 4, False)
@@ -252,7 +253,7 @@ def sent_with(name, number, error, count):
     with outside() as system, serving() as server:
         system.fail(name, number, error, count)
         status, printed, said = run_told(server.folder, "-k", "graceful", "-f", "httpd.conf", before=system.before)
-        expect("what is printed", printed, b"" if status == 0 else b"front fault\n")
+        expect("what is printed", printed, b"generation 1\n" if status == 0 else b"front fault\n")
         return status, [line.rpartition(": ")[2] for line in said]
 
 
@@ -270,13 +271,14 @@ def a_command_for_which_memory_lacks_changes_nothing_of_a_server():
     with serving() as server:
         words = ("-k", "graceful", "-f", "httpd.conf")
         with outside() as own:
-            expect("-k", run_told(server.folder, *words, before=own.before), (0, b"", []))
-            made = own.malloc.made
+            expect("-k", run_told(server.folder, *words, before=own.before), (0, b"generation 1\n", []))
+            made, generation = own.malloc.made, 1
             for count in (1, 1_000_000):
                 for number in range(1, made + 1):
                     own.fail("malloc", number, errno.ENOMEM, count)
                     came = run_told(server.folder, *words, before=own.before)[:2]
-                    if came not in [(0, b""), (4, b"front fault\n"), (6, b"")]:
+                    generation += came[0] == 0
+                    if came not in [(0, b"generation %d\n" % generation), (4, b"front fault\n"), (6, b"")]:
                         raise Wrong(f"-k where allocation {number} fails, and {count - 1} behind it: came {came}")
         with connect(server.port) as client:
             client.send(GET)

@@ -13,6 +13,8 @@ STATUS = request("GET", "/server-status?auto")
 # The front of a request, and what is left of it.
 BEGUN, REST = GET[:-7], GET[-7:]
 REFUSED = (1, b"configuration refused at 5: BadValue\n")
+# What is answered where a word is carried out.
+DONE = {"graceful": rb"generation \d+\n", "graceful-stop": rb"ending\n", "stop": rb"stopping\n"}
 
 
 def page(letter, last=False):
@@ -32,9 +34,14 @@ def replace(server, name, content):
     os.rename(f"{server.folder}/new", f"{server.folder}/htdocs/{name}")
 
 
-def command(server, word):
-    """Has the program send the word. It ends once the server has read it, and that carries it out before it takes a connection."""
-    expect(f"-k {word}", run(server.folder, "-k", word, "-f", "httpd.conf"), (0, b""))
+def command(server, word, answer=None):
+    """Has the program send the word, and print what is answered: this, or that the word was carried out. Where a restart is refused its status
+    says that."""
+    status, printed = run(server.folder, "-k", word, "-f", "httpd.conf")
+    if answer is None and re.fullmatch(DONE[word], printed):
+        answer = printed
+    expect(f"what -k {word} prints", printed, answer)
+    expect(f"the status of -k {word}", status, 12 if printed.startswith(b"refused: ") else 0)
 
 
 def expect_generation(client, generation):
@@ -101,7 +108,7 @@ def a_restart_ends_no_request_where_more_has_come_than_a_wait_takes():
             expect("a second response", client.reply(), LAST_ANSWER)
             client.expect_end()
             client.close()
-        caller.expect_close()
+        caller.expect_answer(b"generation 1\n")
         caller.close()
         expect_generation(late, 1)
         # It ends behind all others, so it isn't among those of which the report has a line.
@@ -121,7 +128,7 @@ def each_of_many_restarts_has_its_own_page():
                 until("a server that has taken a client", lambda: server.connections() == 1)
                 replace(server, "index.html", body(now))
                 # What follows the line means nothing.
-                server.tell(b"graceful\nstop\n")
+                expect("the answer", server.tell(b"graceful\nstop\n"), b"generation %d\n" % (letters.index(now)))
                 with connect(server.port) as late:
                     late.send(GET)
                     expect("a response behind the restart", late.reply(), page(now))
@@ -152,16 +159,16 @@ def a_restart_that_is_refused_changes_nothing():
             file.write(right.replace("Timeout 50", "Timeout 0"))
         expect("-k graceful", run(server.folder, "-k", "graceful", "-f", "httpd.conf"), REFUSED)
         expect_old("no word was sent")
-        server.tell(b"graceful\n")
+        expect("the answer", server.tell(b"graceful\n"), b"refused: conf at 5: BadValue\n")
         expect_old("the configuration is refused")
         os.remove(path)
-        server.tell(b"graceful\n")
+        expect("the answer", server.tell(b"graceful\n"), b"refused: absent\n")
         expect_old("there is no configuration")
         with open(path, "w") as file:
             file.write(right)
         with open(f"{root}/large.bin", "wb") as file:
             file.truncate(16_777_217)
-        command(server, "graceful")
+        command(server, "graceful", b"refused: site htdocs/large.bin\n")
         expect_old("a file is too large")
         os.remove(f"{root}/large.bin")
         command(server, "graceful")
@@ -233,8 +240,8 @@ def a_graceful_stop_ends_with_the_last_connection():
             except ConnectionRefusedError:
                 pass
             # Neither of these changes a thing.
-            command(server, "graceful")
-            command(server, "graceful-stop")
+            command(server, "graceful", b"refused: late\n")
+            command(server, "graceful-stop", b"ending already\n")
             asking.send(REST)
             expect("the last response", asking.reply(), LAST_ANSWER)
             asking.expect_end()

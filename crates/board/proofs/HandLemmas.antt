@@ -1,5 +1,5 @@
 -- The connections that leave the board, and what a call needs and tells of one.
-use Rattle.std.proofs.Common.{◌≡◌, ◌⊎◌, inl, inr, ℕ, ◌<◌, Bool, true, false, not, ◌&&◌, ◌||◌, ◌==◌, nat_le, nat_lt, List, length, Option, None, Some, is_some, option_and_then, slice_get, eq-eqb, eqb-true, refl, sym, ap, subst, ◌∙◌, arith}
+use Rattle.std.proofs.Common.{◌≡◌, ◌⊎◌, inl, inr, ℕ, ◌<◌, Bool, true, false, not, ◌&&◌, ◌||◌, ◌==◌, nat_le, nat_lt, List, length, Option, None, Some, is_some, option_map, option_and_then, slice_get, eq-eqb, eqb-true, refl, sym, ap, subst, ◌∙◌, arith}
 use Rattle.std.specs.Bool.{OnTrue}
 use Rattle.std.specs.Option.{option_map_or}
 use Rattle.std.proofs.Math.ListN.{set}
@@ -20,7 +20,7 @@ use Rattle.conn_machine.specs.Lists.{update}
 use Rattle.conn_machine.specs.Rows.{is_parked, is_queued, is_working, is_live, is_lingering, is_from, carried_count, is_live_as, row_where, live_row, lives_and}
 use Rattle.conn_machine.specs.Children.{is_stopping}
 use Rattle.conn_machine.specs.States.{is_signalled, is_halted, child_of}
-use Rattle.conn_machine.specs.Table.{is_allowed, next, may_wait, may_be_held, may_be_queued, linger_cause_fits, parked_row, lingering_row, held_row, queued_row, served_row, note_for}
+use Rattle.conn_machine.specs.Table.{is_allowed, next, may_wait, may_be_held, may_be_queued, linger_cause_fits, parked_row, lingering_row, held_row, queued_row, served_row, note_for, note_made}
 use Rattle.conn_machine.specs.Sound.{IsSound}
 use Rattle.timeout_queues.specs.Waiting.{ParkedName, IsFree, parked_of, without_name}
 use Rattle.conn_state.specs.declared.turn.LastLinger.TheVariants as linger
@@ -304,6 +304,35 @@ answer-note s name ask note may is =
     let lives = lives_as s.rows name (λ (r : Row). is_working r.place && not r.last)
     (and_parts (not (is_halted s.going)) (lives_and (λ (r : Row). is_working r.place && not r.last) s.rows name) may).1 in
     record { row = lives.row; found = lives.found; note_is = is lives.row lives.at }
+
+-- a response that is decided has its note
+pub note-there : (s : State) (name : ConnName) (ask : Ask) → is_allowed s (event.Answer name ask) ≡ true
+    → (r : Row) × (slice_get s.rows name.slot ≡ Some r)
+note-there s name ask may =
+    let lives = lives_as s.rows name (λ (r : Row). is_working r.place && not r.last)
+    (and_parts (not (is_halted s.going)) (lives_and (λ (r : Row). is_working r.place && not r.last) s.rows name) may).1 in
+    (lives.row, lives.at)
+
+made-at : (note : Note) (f : Row → Note) (r : Row) (o : Option Row) → o ≡ Some r → Some note ≡ option_map f o → note ≡ f r
+made-at note f r None at is = absurd (cc)
+made-at note f r (Some q) at is = cc
+
+none-at-all : (f : Row → Note) (r : Row) (o : Option Row) → o ≡ Some r → None ≡ option_map f o → ⊥
+none-at-all f r None at is = absurd (cc)
+none-at-all f r (Some q) at is = absurd (cc)
+
+-- the note that is made is that of the row
+pub made-note : (s : State) (name : ConnName) (ask : Ask) (note : Note) → is_allowed s (event.Answer name ask) ≡ true
+    → Some note ≡ note_made s (event.Answer name ask) → IsDecided s name ask note
+made-note s name ask note may is =
+    answer-note s name ask note may (λ r at. made-at note (note_for s name.slot ask) r (slice_get s.rows name.slot) at is)
+
+-- and one is made
+pub none-made : (s : State) (name : ConnName) (ask : Ask) → is_allowed s (event.Answer name ask) ≡ true
+    → None ≡ note_made s (event.Answer name ask) → ⊥
+none-made s name ask may is =
+    let (r, at) = note-there s name ask may in
+    none-at-all (note_for s name.slot ask) r (slice_get s.rows name.slot) at is
 
 -- ## A refusal
 

@@ -14,6 +14,7 @@ use Rattle.board.specs.contracts.board.Board.TheInside as inside
 use Rattle.board.specs.contracts.board.Parts as Parts
 use Rattle.conn_state.specs.contracts.ended.Ended as Ended
 use Rattle.conn_state.proofs.conn.Conn.TheSendSync as conn
+use Rattle.conn_state.proofs.kept_notes.KeptNotes.TheSendSync as notes
 use Rattle.conn_slots.proofs.Slots.TheSendSync as slots
 use Rattle.timeout_queues.proofs.Queues.TheSendSync as queues
 use Rattle.conn_machine.proofs.folded.Folded.TheSendSync as folded
@@ -26,10 +27,11 @@ Filed-send = filed.the_send
 pub Book-send : IsSend Book.the_row
 Book-send = search (ahead.the_field_send, editions.the_field_send, Filed-send, folded.the_field_send, entry.the_field_send, sendable, crosses) depth 60 fits 20000
 
-module _ (L N : RattleType) (g : link.Ghosts L.Denot) (k : known.Ghosts N.Denot) where
+module _ (L : RattleType) (g : link.Ghosts L.Denot) where
   pub Ended-send : IsSend L → IsSend (Ended.the_row L g)
-  Ended-send s = search (sendable, crosses) depth 60 fits 20000
+  Ended-send s = search (notes.the_send, sendable, crosses) depth 60 fits 20000
 
+module _ (L N : RattleType) (g : link.Ghosts L.Denot) (k : known.Ghosts N.Denot) where
   pub Parts-send : IsSend L → IsSend (Parts.the_row L g)
   Parts-send s = search (Book-send, Ended-send, conn.the_send, slots.the_send, queues.the_send, sendable, crosses) depth 60 fits 20000
 

@@ -6,7 +6,7 @@ use Rattle.mpm_base.specs.declared.conn.Cause.{Cause}
 use Rattle.mpm_base.specs.declared.conn.Cause.TheVariants as cause
 use Rattle.mpm_base.specs.declared.conn.Tail.{Tail}
 use Rattle.mpm_base.specs.declared.conn.Tail.TheVariants as tail
-use Rattle.mpm_base.specs.declared.note.Note.{Note}
+use Rattle.mpm_base.specs.Notes.{codes_in}
 use Rattle.conn_state.specs.Answered.{SeenEnded}
 
 -- the name of a cause
@@ -32,13 +32,13 @@ tail_word tail.Halted = codes "Halted"
 tail_word tail.NoMemory = codes "NoMemory"
 
 -- a further response code
-abbrev pub further_code : Note → List ℕ
-further_code note = codes "," ++ decimal note.code
+abbrev pub further_code : ℕ → List ℕ
+further_code code = codes "," ++ decimal code
 
--- the codes of the responses with commas between them, or a dash
-abbrev pub codes_of : List Note → List ℕ
-codes_of [] = codes "-"
-codes_of (first ∷ rest) = decimal first.code ++ flat_map further_code rest
+-- the codes of responses with commas between them, or a dash
+abbrev pub written_codes : List ℕ → List ℕ
+written_codes [] = codes "-"
+written_codes (first ∷ rest) = decimal first ++ flat_map further_code rest
 
 -- the generation, the cause, the tail and the codes of the responses
 abbrev pub line_of : SeenEnded → List ℕ
@@ -49,5 +49,5 @@ line_of e =
     ++ codes " "
     ++ tail_word e.tail
     ++ codes " "
-    ++ codes_of e.notes
+    ++ written_codes (codes_in e.notes)
     ++ codes "\n"

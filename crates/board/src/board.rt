@@ -3,7 +3,7 @@
 //! history is folded.
 ghost use Rattle.std.specs.Prelude.{◌≡◌, ◌+◌, ◌<◌, ◌≤◌, ◌^◌, true, false, Some, None, [], ◌∷◌, ◌++◌, length, slice_set, IfOk, IfErr, OnOk, OnErr};
 ghost use Rattle.mpm_base.specs.Shape.{is_in_bounds};
-ghost use Rattle.conn_machine.specs.Shown.{snapshot_of};
+ghost use Rattle.conn_machine.specs.Shown.{snapshot_of, totals_of};
 ghost use Rattle.conn_machine.specs.States.{is_halted, opening_state};
 ghost use Rattle.conn_machine.specs.Table.{is_allowed, cell_at, reply, taken_reply};
 ghost use Rattle.conn_machine.specs.Runs.{IsInPassOrderFrom, Run, after, first_row};
@@ -38,7 +38,7 @@ use crate::laws::generations_keep_their_editions;
 use crate::report_line::further_lines;
 use crate::waits::wait_in_queue;
 use conn_machine::laws_of_runs::rows_change_one_at_a_time;
-use conn_machine::{Commanded, Entry, Event, Folded, Kept, Reply, State, Why};
+use conn_machine::{Commanded, Entry, Event, Folded, Kept, Reply, State, Totals, Why};
 use conn_slots::Slots;
 use conn_state::{Conn, Ended, Known, Nothing};
 use mpm_base::{Ask, Cause, ConnName, Kind, Link, Moment, NoMemory, Note, Shape, Snapshot};
@@ -79,8 +79,8 @@ pub(crate) struct Parts<L: Link> {
     pub(crate) queues: Queues,
 }
 
-// A connection that waits after a hundred responses takes less than four thousand bytes, its notes among them.
-const _: () = prove!(size_of::<Conn<PlainLink, Nothing>>() + 104 * size_of::<Note>() < 4000);
+// A connection that waits after a hundred responses takes less than a thousand bytes, what it keeps of these among them.
+const _: () = prove!(size_of::<Conn<PlainLink, Nothing>>() + 128 * size_of::<u16>() < 1000);
 
 // A board is moved in few bytes, whatever its links are.
 const _: () = prove!(size_of::<Board<PlainLink, Nothing>>() <= 100);
@@ -236,6 +236,15 @@ impl<L: Link, N: Known> Board<L, N> {
     {
         self.parts.book.show();
         self.parts.book.state().snapshot(alloc)
+    }
+
+    /// The numbers that a status page shows of the state. It goes over the cells of the children, and over no connections, and takes no
+    /// memory.
+    pub fn totals(&self) -> Totals
+        ensures { result ≡ totals_of self.now.book.state }
+    {
+        self.parts.book.show();
+        self.parts.book.state().totals()
     }
 
     /// Whether the history may be folded: it weighs 65,536 or more, and fewer than 2 to the 62nd entries were folded before. An entry weighs

@@ -3,7 +3,7 @@
 ghost use Rattle.std.specs.Prelude.{◌≡◌, ◌+◌, ◌<◌, ◌≤◌, ◌^◌, ℕ, List, true, false, [], ◌∷◌, ◌++◌, length, vec_len, vec_capacity, IfOk, IfErr, OnOk, OnErr};
 ghost use Rattle.mpm_base.specs.Shape.{is_in_bounds};
 ghost use Rattle.conn_machine.specs.States.{is_halted, opening_state};
-ghost use Rattle.conn_machine.specs.Table.{is_allowed, reply};
+ghost use Rattle.conn_machine.specs.Table.{is_allowed, note_made, reply};
 ghost use Rattle.conn_machine.specs.Runs.{IsInPassOrderFrom, Run, after, first_row, has_after, may_make};
 ghost use Rattle.conn_machine.specs.Folds.{CountsWithin, HasPlacesFor, HaveBegun, lines_after, may_fold, opening_record};
 ghost use Rattle.conn_machine.specs.Made.{AreMade, AreOfPasses};
@@ -24,14 +24,14 @@ ghost use Rattle.board.specs.RoomInside.{is_sure};
 use crate::ahead::Ahead;
 use crate::editions::KnownEditions;
 use crate::faults::BoardFault;
-use crate::filed::{FiledState, step};
+use crate::filed::{FiledState, step, step_and_note};
 use conn_machine::laws::{each_pass_has_its_own_connection, events_keep_states_sound};
 use conn_machine::laws_of_runs::{
     folds_are_one_fold, generations_begin_in_order, histories_go_on_by_one_entry,
     passes_add_entries, records_go_on_by_folds, records_open_with_nothing,
     rows_change_one_at_a_time,
 };
-use conn_machine::{Entry, Event, Folded, Reply, State};
+use conn_machine::{Entry, Event, Folded, Reply, State, Stepped};
 use mpm_base::{Ask, ConnName, NoMemory, Note, Octets, Shape};
 use std::alloc::Global;
 use std::marker::Model;
@@ -227,6 +227,26 @@ impl Book {
         ensures why { IfErr result (λ fault. IsRefusedFor fault self.old) }
         ensures err { OnErr result (self.new ≡ self.old) }
     {
+        let stepped = self.record_noting(who, event)?;
+        Ok(stepped.reply)
+    }
+
+    /// Does the same, and gives the note of the response that was decided too.
+    fn record_noting(&mut self, who: u32, event: Event) -> Result<Stepped, BoardFault>
+        requires who { who < self.old.passes }
+        requires allowed { is_halted self.old.state.going ≡ false
+            → is_allowed self.old.state event ≡ true }
+        requires role { may_make who (row_in who self.old) event ≡ true }
+        ensures ok { OnOk result (IsRecorded who event self.old self.new) }
+        ensures entries { AddsOnly who self.old self.new }
+        ensures row { IfOk result
+            (λ stepped. row_in who self.new
+            ≡ has_after (row_in who self.old) event stepped.reply) }
+        ensures reply { IfOk result (λ stepped. stepped.reply ≡ reply self.old.state event) }
+        ensures note { IfOk result (λ stepped. stepped.note ≡ note_made self.old.state event) }
+        ensures why { IfErr result (λ fault. IsRefusedFor fault self.old) }
+        ensures err { OnErr result (self.new ≡ self.old) }
+    {
         histories_go_on_by_one_entry();
         passes_add_entries();
         rows_change_one_at_a_time();
@@ -242,7 +262,7 @@ impl Book {
         {
             return Err(BoardFault::NoMemory);
         }
-        let Ok(reply) = step(self.alloc, &mut self.state, &event) else {
+        let Ok(stepped) = step_and_note(self.alloc, &mut self.state, &event) else {
             return Err(BoardFault::NoMemory);
         };
         let order = self.ahead.orders(&self.folded, self.history.as_slice()) + 1;
@@ -253,12 +273,12 @@ impl Book {
             &mut self.ahead,
             who,
             event,
-            reply,
+            stepped.reply,
         );
-        Ok(reply)
+        Ok(stepped)
     }
 
-    /// Records that a response is decided, and gives its note, which is made before. Where it is refused nothing changes.
+    /// Records that a response is decided, and gives its note, which is made once. Where it is refused nothing changes.
     pub fn answer(&mut self, who: u32, name: ConnName, ask: &Ask) -> Result<Note, BoardFault>
         requires who { who < self.old.passes }
         requires allowed { is_halted self.old.state.going ≡ false
@@ -271,16 +291,11 @@ impl Book {
         ensures why { IfErr result (λ fault. IsRefusedFor fault self.old) }
         ensures err { OnErr result (self.new ≡ self.old) }
     {
-        self.show();
-        passes_add_entries();
-        if self.state().going.is_halted() {
-            return Err(BoardFault::Halted);
+        let Stepped { reply: _, note } = self.record_noting(who, Event::Answer(name, *ask))?;
+        match note {
+            Some(note) => Ok(note),
+            None => unreachable!(),
         }
-        let Ok(note) = self.state.note_for(self.alloc, name, ask) else {
-            return Err(BoardFault::NoMemory);
-        };
-        self.record(who, Event::Answer(name, *ask))?;
-        Ok(note)
     }
 
     /// Records an event whose room was taken before.

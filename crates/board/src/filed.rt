@@ -3,7 +3,7 @@
 //! Why it is so stands in docs/DECISIONS.md: 47, The slots of a book stand in rings.
 ghost use Rattle.std.specs.Prelude.{◌≡◌, ◌<◌, ◌≤◌, ◌+◌, ◌⊎◌, true, false, length, IfOk, IfSome, IsOk, IsNone, OnOk, OnErr, Some, slice_get};
 ghost use Rattle.conn_machine.specs.States.{opening_state};
-ghost use Rattle.conn_machine.specs.Table.{is_allowed, may_answer, may_be_queued, next, note_for, reply, takes_memory};
+ghost use Rattle.conn_machine.specs.Table.{is_allowed, may_be_queued, next, note_made, reply, takes_memory};
 ghost use Rattle.conn_machine.specs.Sizes.{HasSizesOf, IsSized};
 ghost use Rattle.conn_machine.specs.Sound.{IsSound};
 ghost use Rattle.conn_machine.specs.declared.row.Row.{Row};
@@ -11,8 +11,8 @@ ghost use Rattle.board.specs.Finds.{FindsRow, has_to_be_drained, is_due, is_due_
 ghost use Rattle.board.specs.FiledInside.{FindsInChild, FindsInRing, refiled_rings, ring_of_child, ring_of_row, slot_of_event};
 
 use conn_machine::laws_of_runs::rows_change_one_at_a_time;
-use conn_machine::{Event, Reply, Row, State};
-use mpm_base::{Ask, ConnName, Kind, NoMemory, Note, Shape};
+use conn_machine::{Event, Reply, Row, State, Stepped};
+use mpm_base::{ConnName, Kind, NoMemory, Shape};
 use std::alloc::Global;
 use std::marker::Model;
 use timeout_queues::SlotRings;
@@ -69,25 +69,6 @@ impl FiledState {
         ensures { result.now ≡ self.now }
     {
         &self.state
-    }
-
-    /// The note of the response to what the connection of that name asks. NoMemory where memory lacks for its page.
-    pub(crate) fn note_for(
-        &mut self,
-        alloc: Global,
-        name: ConnName,
-        ask: &Ask,
-    ) -> Result<Note, NoMemory>
-        requires may { may_answer self.old name ≡ true }
-        requires few_rows { length self.old.rows ≤ 8192 }
-        requires few_children { length self.old.children ≤ 32 }
-        ensures still { self.new ≡ self.old }
-        ensures note { IfOk result
-            (λ note. (r : Row)
-            → slice_get self.old.rows name.slot ≡ Some r
-            → note ≡ note_for self.old name.slot ask.now r) }
-    {
-        self.state.note_for(alloc, name, ask)
     }
 
     /// A connection that waits for service, for which something may have come and a worker of its child is free.
@@ -205,6 +186,30 @@ pub(crate) fn step(alloc: Global, state: &mut FiledState, event: &Event) -> Resu
     let reply = conn_machine::step(alloc, &mut state.state, event)?;
     refile(&state.state, &mut state.rings, slot_of_event(event));
     Ok(reply)
+}
+
+/// The same, with the note of the response that was decided.
+pub(crate) fn step_and_note(
+    alloc: Global,
+    state: &mut FiledState,
+    event: &Event,
+) -> Result<Stepped, NoMemory>
+    requires allowed { is_allowed state.old event.now ≡ true }
+    requires few_rows { length state.old.rows ≤ 8192 }
+    requires few_children { length state.old.children ≤ 32 }
+    requires signals { length state.old.signals ≡ length state.old.rows }
+    ensures state { OnOk result (state.new ≡ next state.old event.now) }
+    ensures reply { IfOk result (λ stepped. stepped.reply ≡ reply state.old event.now) }
+    ensures note { IfOk result (λ stepped. stepped.note ≡ note_made state.old event.now) }
+    ensures err { OnErr result (state.new ≡ state.old) }
+    ensures sound { IsSound state.old → IsSound state.new }
+    ensures sizes { HasSizesOf state.old state.new }
+    ensures sized { IsSized state.old → IsSized state.new }
+{
+    rows_change_one_at_a_time();
+    let stepped = conn_machine::step_and_note(alloc, &mut state.state, event)?;
+    refile(&state.state, &mut state.rings, slot_of_event(event));
+    Ok(stepped)
 }
 
 /// Puts the slot, where there is one, into the ring of its row.

@@ -5,7 +5,7 @@ ghost use Rattle.board.specs.BookInside.{lines_then};
 ghost use Rattle.board.specs.ReportLine as line;
 
 use conn_state::Ended;
-use mpm_base::{Cause, Link, NoMemory, Note, Octets, Tail};
+use mpm_base::{Cause, Link, NoMemory, Octets, Tail};
 use std::alloc::Global;
 
 /// How many of the connections that ended have a line of their own.
@@ -88,28 +88,28 @@ fn add_line<L: Link>(text: &mut Octets, ended: &Ended<L>) -> Result<(), NoMemory
     text.add(b" ")?;
     text.add(tail_word(ended.tail))?;
     text.add(b" ")?;
-    add_codes(text, ended.notes.as_slice())?;
+    add_codes(text, ended.notes.codes())?;
     text.add(b"\n")
 }
 
 /// Adds the codes of the responses, with commas between them.
-fn add_codes(text: &mut Octets, notes: &[Note]) -> Result<(), NoMemory>
-    ensures { OnOk result (text.new ≡ text.old ++ line.codes_of notes.now) }
+fn add_codes(text: &mut Octets, codes: &[u16]) -> Result<(), NoMemory>
+    ensures { OnOk result (text.new ≡ text.old ++ line.written_codes codes.now) }
 {
-    let Some((first, rest)) = notes.split_first() else {
+    let Some((first, rest)) = codes.split_first() else {
         return text.add(b"-");
     };
-    text.add_number(first.code as u64)?;
-    for note in rest {
-        add_code(text, note)?;
+    text.add_number(*first as u64)?;
+    for code in rest {
+        add_code(text, *code)?;
     }
     Ok(())
 }
 
-/// Adds a comma and the code of the response.
-fn add_code(text: &mut Octets, note: &Note) -> Result<(), NoMemory>
-    ensures { OnOk result (text.new ≡ text.old ++ line.further_code note.now) }
+/// Adds a comma and the code.
+fn add_code(text: &mut Octets, code: u16) -> Result<(), NoMemory>
+    ensures { OnOk result (text.new ≡ text.old ++ line.further_code code) }
 {
     text.add(b",")?;
-    text.add_number(note.code as u64)
+    text.add_number(code as u64)
 }

@@ -45,6 +45,7 @@ const SHAPE: Shape = Shape {
     most: 5,
     target: 3,
     children: 3,
+    whole_ms: 0,
 };
 
 /// The limits of the heads.

@@ -21,6 +21,7 @@ const SHAPE: Shape = Shape {
     most: 100,
     target: 1,
     children: 3,
+    whole_ms: 0,
 };
 
 /// A board behind the steps of a row, what was seen of it, and what it answered to the last order.

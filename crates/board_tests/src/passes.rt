@@ -23,6 +23,7 @@ const SHAPE: Shape = Shape {
     most: 100,
     target: 1,
     children: 2,
+    whole_ms: 0,
 };
 
 /// A lock with a board without connections, and its two passes.

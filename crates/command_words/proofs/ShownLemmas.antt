@@ -191,6 +191,7 @@ unfolding command clap_on_literals
 send_walk word.Graceful name plain = goes_on shape.rules (codes "file") name (word_rows word.Graceful) plain
 send_walk word.GracefulStop name plain = goes_on shape.rules (codes "file") name (word_rows word.GracefulStop) plain
 send_walk word.Stop name plain = goes_on shape.rules (codes "file") name (word_rows word.Stop) plain
+send_walk word.Status name plain = goes_on shape.rules (codes "file") name (word_rows word.Status) plain
 
 pub send_form : (w : CommandWord) (name : Text) → IsPlainWord name → AreOfForm (codes "-k" ∷ command_word w ∷ codes "-f" ∷ name ∷ []) (sends w name)
 unfolding Parses option_values command clap_on_literals
@@ -208,4 +209,9 @@ send_form word.Stop name plain = record {
   parsed = ap₂ ends_with (send_walk word.Stop name plain)
       (ap (λ (k : Kinds). or_else k []) (no_fault shape (codes "file") name (word_rows word.Stop) plain));
   found = ap (λ (v : Walk). values_in (finished shape.rules v.held)) (send_walk word.Stop name plain);
+}
+send_form word.Status name plain = record {
+  parsed = ap₂ ends_with (send_walk word.Status name plain)
+      (ap (λ (k : Kinds). or_else k []) (no_fault shape (codes "file") name (word_rows word.Status) plain));
+  found = ap (λ (v : Walk). values_in (finished shape.rules v.held)) (send_walk word.Status name plain);
 }

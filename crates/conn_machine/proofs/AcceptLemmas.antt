@@ -43,16 +43,17 @@ admits_one count threads factor taken below =
     let less : threads - taken ≤ threads = omega arith in
     omega (arith, mul-le-mul_left factor less)
 
--- the fifth of seven tests
-fifth_of : (a b c d e f g : Bool) → (a && b && c && d && e && f && g) ≡ true → e ≡ true
-fifth_of a b c d e f g all =
-    (and_parts (a && b && c && d) e (and_parts (a && b && c && d && e) f (and_parts (a && b && c && d && e && f) g all).0).0).1
+-- the fifth of eight tests
+fifth_of : (a b c d e f g h : Bool) → (a && b && c && d && e && f && g && h) ≡ true → e ≡ true
+fifth_of a b c d e f g h all =
+    let seven = (and_parts (a && b && c && d && e && f && g) h all).0 in
+    (and_parts (a && b && c && d) e (and_parts (a && b && c && d && e) f (and_parts (a && b && c && d && e && f) g seven).0).0).1
 
 -- numbers that a configuration may give allow a response
 some_response : (shape : Shape) → is_in_bounds shape ≡ true → 0 < shape.most
 some_response shape bounds =
     let most = fifth_of (is_between 1 64 shape.threads) (is_between 1 10000 shape.factor) (is_between 1000 65535000 shape.read_ms) (is_between 1 65535000 shape.keep_ms)
-    (is_between 1 65535 shape.most) (is_between 1 32 shape.children) (is_between 1 shape.children shape.target) bounds in
+    (is_between 1 65535 shape.most) (is_between 1 32 shape.children) (is_between 1 shape.children shape.target) (nat_le shape.whole_ms 65535000) bounds in
     leb-true 1 shape.most (and_parts (nat_le 1 shape.most) (nat_le shape.most 65535) most).0
 
 -- a row that is taken is fair

@@ -24,6 +24,7 @@ starts_fresh s slot may =
       fresh = record {
         held = refl;
         never_waited = refl;
+        not_asked = refl;
         not_begun = refl;
         undecided = refl;
         not_refused = refl;

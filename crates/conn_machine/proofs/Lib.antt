@@ -20,6 +20,7 @@ pub mod HistoryLemmas
 pub mod HoldLaw
 pub mod KeptCounts
 pub mod LawLemmas
+pub mod LetterLemmas
 pub mod LingerLaw
 pub mod ListLemmas
 pub mod NameLaw

@@ -1,5 +1,5 @@
 -- A row whose worker begins to serve it or decides a response, and one whose connection is closed, is fair.
-use Rattle.std.proofs.Common.{◌≡◌, ◌==◌, ℕ, ◌+◌, ◌<◌, ◌≤◌, Bool, true, false, not, ◌&&◌, ◌||◌, if◌then◌else◌, List, [], ◌∷◌, ◌++◌, length, count_by, Some, slice_get, refl, sym, ap, subst, inl, inr, length-append, arith}
+use Rattle.std.proofs.Common.{◌≡◌, ◌==◌, ℕ, ◌+◌, ◌<◌, ◌≤◌, Bool, true, false, not, ◌&&◌, ◌||◌, if◌then◌else◌, List, [], ◌∷◌, ◌++◌, length, count_by, None, Some, slice_get, refl, sym, ap, subst, inl, inr, length-append, arith}
 use Rattle.std.proofs.lemmas.Bool.{and_parts, and_from, or_parts, not-true, eqb-true, eqb-false, eq-eqb}
 use Rattle.std.proofs.lemmas.List.Sums.{fold-append}
 use Rattle.mpm_base.specs.declared.conn.Ask.{Ask}
@@ -53,7 +53,7 @@ fair-start s slot r all found sound live is =
 -- the row with a response noted, in that place
 abbrev noted_row : Note → Bool → Place → Row → Row
 noted_row note short place r =
-    record r { place = place; mid = true; last = note.last; short = short; notes = r.notes ++ note ∷ [] }
+    record r { place = place; began = None; mid = true; last = note.last; short = short; notes = r.notes ++ note ∷ [] }
 
 -- the responses with one more, where it is the last one as soon as there may be no more
 notes_more : (most : ℕ) (r : Row) (note : Note) (short : Bool) (place : Place) → HasSoundNotes most r → r.last ≡ false

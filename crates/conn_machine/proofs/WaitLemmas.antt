@@ -1,6 +1,6 @@
 -- A row that goes to wait, to the listener or to the workers, and one that goes to linger, is fair.
-use Rattle.std.proofs.Common.{◌≡◌, ◌⊎◌, ◌==◌, ℕ, ◌+◌, ◌<◌, ◌≤◌, Bool, true, false, not, ◌&&◌, ◌||◌, nat_lt, nat_le, if◌then◌else◌, Option, None, Some, is_none, refl, sym, subst, ◌∙◌, inl, inr}
-use Rattle.std.proofs.Math.Nat.{min-le_right}
+use Rattle.std.proofs.Common.{◌≡◌, ◌⊎◌, ◌==◌, ℕ, ◌+◌, ◌<◌, ◌≤◌, Bool, true, false, not, ◌&&◌, ◌||◌, nat_lt, nat_le, min, if◌then◌else◌, Option, None, Some, is_none, refl, sym, subst, ◌∙◌, inl, inr, arith}
+use Rattle.std.proofs.Math.Nat.{min-le_left, min-le_right}
 use Rattle.std.proofs.lemmas.Bool.{and_parts, or_cases, not-true, ltb-true, eqb-true}
 use Rattle.mpm_base.specs.declared.conn.Kind.{Kind}
 use Rattle.mpm_base.specs.declared.conn.Kind.TheVariants.{Reading, KeepAlive, Writing, Linger, ShortLinger}
@@ -9,9 +9,10 @@ use Rattle.conn_machine.specs.declared.row.Row.{Row}
 use Rattle.conn_machine.specs.declared.state.State.{State}
 use Rattle.conn_machine.specs.Rows.{is_live, is_held, is_parked, is_working, is_from, is_lingering, is_linger_kind, has_note, carried_count}
 use Rattle.conn_machine.specs.Children.{child_at, is_stopping}
-use Rattle.conn_machine.specs.States.{child_of, is_halted}
+use Rattle.conn_machine.specs.States.{child_of, is_halted, later}
 use Rattle.mpm_base.specs.Moment.{greatest_moment}
-use Rattle.conn_machine.specs.Table.{may_wait, wait_until, linger_ms, parked_row, may_be_held, held_row, may_be_queued, queued_row, lingering_row}
+use Rattle.mpm_base.specs.declared.shape.Shape.{Shape}
+use Rattle.conn_machine.specs.Table.{began_at, may_wait, read_until, wait_until, linger_ms, parked_row, may_be_held, held_row, may_be_queued, queued_row, lingering_row}
 use Rattle.conn_machine.specs.Sound.{KindFits, RequestFits, KnowsItsKind, IsInService, ExpectsMore, ExpectedMore, is_from_linger}
 use Rattle.conn_machine.proofs.FairLemmas.{IsFair}
 use Rattle.conn_machine.proofs.RowLemmas.{IsSoundRow, IsParkedFor, parked_for, served_by, held_kind, held_well, in_service, never, still_open}
@@ -189,9 +190,19 @@ park_request s Writing r sound may = tt
 park_request s Linger r sound may = tt
 park_request s ShortLinger r sound may = tt
 
+-- the earlier of two moments is one, where the first is
+least_in_range : (whole : Bool) (rest end : ℕ) → rest ≤ greatest_moment → (if whole then rest else min rest end) ≤ greatest_moment
+least_in_range true rest end within = within
+least_in_range false rest end within = omega (arith, min-le_left rest end, within)
+
+-- the wait for a request is over at a moment
+read_in_range : (moment : ℕ) (shape : Shape) (began : ℕ) → read_until moment shape began ≤ greatest_moment
+read_in_range moment shape began =
+    least_in_range (shape.whole_ms == 0) (later moment shape.read_ms) (later began shape.whole_ms) (min-le_right (moment + shape.read_ms) greatest_moment)
+
 -- a wait is over at a moment
 wait_in_range : (s : State) (kind : Kind) (r : Row) → r.deadline ≤ greatest_moment → wait_until s kind r ≤ greatest_moment
-wait_in_range s Reading r within = min-le_right (s.moment + (child_of s r).shape.read_ms) greatest_moment
+wait_in_range s Reading r within = read_in_range s.moment (child_of s r).shape (began_at s.moment r)
 wait_in_range s KeepAlive r within = min-le_right (s.moment + (child_of s r).shape.keep_ms) greatest_moment
 wait_in_range s Writing r within = min-le_right (s.moment + (child_of s r).shape.read_ms) greatest_moment
 wait_in_range s Linger r within = within

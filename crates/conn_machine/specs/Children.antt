@@ -35,6 +35,7 @@ no_shape =
       most = 0;
       target = 0;
       children = 0;
+      whole_ms = 0;
     }
 
 -- a child that was never started

@@ -74,6 +74,7 @@ pub record IsTakenFor (s : State) (slot : ℕ) (answer : Reply) : Type 0 where
 pub record IsFreshRow (r : Row) : Type 0 where
   pub held : r.place ≡ Held
   pub never_waited : r.from ≡ None
+  pub not_asked : r.began ≡ None
   pub not_begun : r.mid ≡ false
   pub undecided : r.last ≡ false
   pub not_refused : r.short ≡ false

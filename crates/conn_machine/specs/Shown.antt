@@ -13,6 +13,7 @@ use Rattle.conn_machine.specs.declared.child.Child.{Child}
 use Rattle.conn_machine.specs.declared.child.ChildPhase.{ChildPhase}
 use Rattle.conn_machine.specs.declared.child.ChildPhase.TheVariants.{Empty, Running, Stopping}
 use Rattle.conn_machine.specs.declared.state.State.{State}
+use Rattle.conn_machine.specs.declared.totals.Totals.{Totals}
 use Rattle.conn_machine.specs.Children.{is_empty}
 use Rattle.conn_machine.specs.Rows.{is_parked_lingering, is_live, is_parked_as, is_served_in}
 
@@ -106,4 +107,17 @@ snapshot_of s =
       keep_alive = count_by (λ (r : Row). is_parked_as KeepAlive r.place) s.rows;
       closing = count_by (λ (r : Row). is_parked_lingering r.place) s.rows;
       letters = letters s;
+    }
+
+-- the numbers of that page
+unfoldable pub totals_of : State → Totals
+totals_of s =
+    record {
+      generation = (snapshot_of s).generation;
+      busy = (snapshot_of s).busy;
+      idle = (snapshot_of s).idle;
+      total = (snapshot_of s).total;
+      writing = (snapshot_of s).writing;
+      keep_alive = (snapshot_of s).keep_alive;
+      closing = (snapshot_of s).closing;
     }

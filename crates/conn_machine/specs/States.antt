@@ -84,6 +84,7 @@ unused_row =
       place = Vacant;
       from = None;
       deadline = 0;
+      began = None;
       mid = false;
       last = false;
       short = false;

@@ -1,9 +1,9 @@
 -- The event table: which events a state allows, and what each does and replies. Where nothing else is said, all else
 -- stays and the reply is Done. An event that names a connection needs its row live with that life.
 -- Why it is so stands in docs/DECISIONS.md: 37, The event table is whole from the start; 38, Park keeps `mid` of a lingering row; a
--- deadline is cut to the greatest moment; 39, What a graceful stop and a closing ask of their callers; 43, A page is made before its
--- entry.
-use Rattle.std.specs.Prelude.{◌==◌, ℕ, ◌+◌, ◌/◌, Bool, true, false, not, ◌&&◌, ◌||◌, List, [], ◌∷◌, ◌++◌, length, nat_lt, nat_le, if◌then◌else◌, Option, None, Some, is_some, is_none, slice_get, slice_set}
+-- deadline is cut to the greatest moment; 105, The time of a whole request; 39, What a graceful stop and a closing ask of their callers;
+-- 43, A page is made before its entry.
+use Rattle.std.specs.Prelude.{◌==◌, ℕ, ◌+◌, ◌/◌, Bool, true, false, not, ◌&&◌, ◌||◌, List, [], ◌∷◌, ◌++◌, length, nat_lt, nat_le, min, if◌then◌else◌, Option, None, Some, is_some, is_none, option_map, slice_get, slice_set}
 use Rattle.std.specs.Option.{option_map_or, unwrap_or}
 use Rattle.std.specs.List.{list_any}
 use Rattle.mpm_base.specs.Cause.{cause_number}
@@ -38,6 +38,7 @@ use Rattle.conn_machine.specs.Rows.{is_vacant, is_held, is_parked, is_queued, is
 use Rattle.conn_machine.specs.Children.{is_empty, is_running, is_stopping, child_at, all_stopped, running_count, started_child, retired_child}
 use Rattle.conn_machine.specs.Shown.{snapshot_of}
 use Rattle.mpm_base.specs.Shape.{is_in_bounds}
+use Rattle.mpm_base.specs.declared.shape.Shape.{Shape}
 use Rattle.conn_machine.specs.States.{later, is_serving, is_halted, is_over, is_signalled, child_of, pick_child, is_overdue}
 use Rattle.mpm_base.specs.Moment.{greatest_moment}
 
@@ -66,6 +67,7 @@ taken_row s r =
       place = Held;
       from = None;
       deadline = r.deadline;
+      began = None;
       mid = false;
       last = false;
       short = false;
@@ -110,9 +112,20 @@ may_wait moment ShortLinger r =
 abbrev pub may_park : State → ConnName → Kind → Bool
 may_park s name kind = not (is_halted s.going) && lives_and (may_wait s.moment kind) s.rows name
 
+-- since when the row has waited for its request, where it waits for the rest of it from this moment on: since the first of these waits
+abbrev pub began_at : ℕ → Row → ℕ
+began_at moment r = unwrap_or r.began moment
+
+-- until when the rest of a request is waited for from this moment on, which has been waited for since another: so long, and where there is a
+-- time for a whole request, no longer than that from its first wait on
+abbrev pub read_until : ℕ → Shape → ℕ → ℕ
+read_until moment shape began =
+    if shape.whole_ms == 0 then later moment shape.read_ms
+    else min (later moment shape.read_ms) (later began shape.whole_ms)
+
 -- when the wait is over
 abbrev pub wait_until : State → Kind → Row → ℕ
-wait_until s Reading r = later s.moment (child_of s r).shape.read_ms
+wait_until s Reading r = read_until s.moment (child_of s r).shape (began_at s.moment r)
 wait_until s KeepAlive r = later s.moment (child_of s r).shape.keep_ms
 wait_until s Writing r = later s.moment (child_of s r).shape.read_ms
 wait_until s Linger r = r.deadline
@@ -126,6 +139,14 @@ mid_after Writing r = r.mid
 mid_after Linger r = r.mid
 mid_after ShortLinger r = r.mid
 
+-- since when the row has waited for its request, where it waits for this from the moment on
+abbrev pub began_after : ℕ → Kind → Row → Option ℕ
+began_after moment Reading r = Some (began_at moment r)
+began_after moment KeepAlive r = r.began
+began_after moment Writing r = r.began
+began_after moment Linger r = r.began
+began_after moment ShortLinger r = r.began
+
 -- the row that waits, for this and until its deadline, which is one wait more
 abbrev pub parked_row : State → Kind → Row → Row
 parked_row s kind r =
@@ -133,6 +154,7 @@ parked_row s kind r =
       place = Parked kind;
       from = Some kind;
       deadline = wait_until s kind r;
+      began = began_after s.moment kind r;
       mid = mid_after kind r;
       waits = r.waits ++ kind ∷ [];
     }
@@ -264,11 +286,12 @@ note_for s slot ask r =
       page = page_for s slot ask (is_last_for s ask r);
     }
 
--- the row with a response noted: its worker goes on to send it
+-- the row with a response noted: its worker goes on to send it, and its request is waited for no more
 abbrev pub with_note : Note → Bool → Row → Row
 with_note note short r =
     record r {
       place = in_phase (phase_after note.last) r.place;
+      began = None;
       mid = true;
       last = note.last;
       short = short;
@@ -538,6 +561,11 @@ reply s (event.Tick m) = Done
 reply s (event.StartChild k) = Done
 reply s (event.Command c) = Done
 reply s (event.Retire k) = Done
+
+-- the note of the response that the event decides, where it decides one
+abbrev pub note_made : State → Event → Option Note
+note_made s (event.Answer name ask) = option_map (note_for s name.slot ask) (slice_get s.rows name.slot)
+note_made s other = None
 
 -- doing the event may take memory: a response is noted that is the status page
 abbrev pub takes_memory : Event → Bool

@@ -20,6 +20,7 @@ impl Row {
               place = Held;
               from = None;
               deadline = self.old.deadline;
+              began = None;
               mid = false;
               last = false;
               short = false;
@@ -33,6 +34,7 @@ impl Row {
         self.generation = generation;
         self.place = Place::Held;
         self.from = None;
+        self.began = None;
         self.mid = false;
         self.last = false;
         self.short = false;
@@ -41,13 +43,14 @@ impl Row {
         self.waits.clear();
     }
 
-    /// It waits for this until the deadline.
-    pub fn park(&mut self, kind: Kind, deadline: Moment)
+    /// It waits for this until the deadline, and has waited for its request since then.
+    pub fn park(&mut self, kind: Kind, deadline: Moment, began: Option<Moment>)
         ensures { self.new
             ≡ record self.old {
               place = Parked kind;
               from = Some kind;
               deadline = deadline;
+              began = began;
               mid = mid_after kind self.old;
               waits = self.old.waits ++ kind ∷ [];
             } }
@@ -55,6 +58,7 @@ impl Row {
         self.place = Place::Parked(kind);
         self.from = Some(kind);
         self.deadline = deadline;
+        self.began = began;
         self.mid = match kind {
             Kind::Reading | Kind::KeepAlive => false,
             Kind::Writing | Kind::Linger | Kind::ShortLinger => self.mid,
@@ -127,6 +131,7 @@ impl Row {
     {
         self.notes.add(note);
         self.go_on(phase_after(note.last));
+        self.began = None;
         self.mid = true;
         self.last = note.last;
         self.short = short;

@@ -86,6 +86,7 @@ impl Child {
                 most: 0,
                 target: 0,
                 children: 0,
+                whole_ms: 0,
             },
         }
     }

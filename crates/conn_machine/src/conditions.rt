@@ -26,6 +26,7 @@ pub fn is_in_bounds(shape: &Shape) -> bool
         && is_within(1, 65_535, shape.most as u64)
         && is_within(1, 32, shape.children as u64)
         && is_within(1, shape.children as u64, shape.target as u64)
+        && shape.whole_ms <= 65_535_000
 }
 
 /// Whether the state allows the event. The state has at most 8,192 rows and 32 children.

@@ -28,6 +28,7 @@ mod rows;
 mod shown;
 mod state;
 mod stepping;
+mod totals;
 
 pub use child::{Child, ChildPhase, Children};
 pub use conditions::{is_in_bounds, may};
@@ -39,4 +40,5 @@ pub use row_notes::RowNotes;
 pub use row_waits::RowWaits;
 pub use rows::Rows;
 pub use state::{Going, Signals, State};
-pub use stepping::step;
+pub use stepping::{Stepped, step, step_and_note};
+pub use totals::Totals;

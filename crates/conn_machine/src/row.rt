@@ -160,36 +160,39 @@ impl Place {
 /// A row of the table. It is live where its place is neither Vacant nor Spent, and lingering where `cause` is there.
 #[derive(Debug, Drop)]
 pub struct Row {
-    /// The use number of the slot, from 0.
-    pub life: u32,
+    // What takes most room comes first, so that none is lost between two fields.
     /// How many connections were accepted before this one.
     pub arrival: u64,
+    /// When its waiting is over.
+    pub deadline: Moment,
+    /// When it began to wait for the request that it waits for, or is served for: at the first of these waits. None before that.
+    pub began: Option<Moment>,
+    /// The use number of the slot, from 0.
+    pub life: u32,
     /// The number of its child.
     pub child: u32,
     /// The generation of its child.
     pub generation: u32,
     /// Where it is.
     pub place: Place,
+    /// Its responses so far.
+    pub notes: RowNotes,
+    /// What it was parked for so far.
+    pub waits: RowWaits,
     /// What it waited for last.
     pub from: Option<Kind>,
-    /// When its waiting is over.
-    pub deadline: Moment,
+    /// Why its service ended, once it lingers.
+    pub cause: Option<Cause>,
     /// A response was begun and may not be sent whole.
     pub mid: bool,
     /// Its last response was decided.
     pub last: bool,
     /// It lingers for 2 seconds and not 30, since its last request was refused.
     pub short: bool,
-    /// Why its service ended, once it lingers.
-    pub cause: Option<Cause>,
-    /// Its responses so far.
-    pub notes: RowNotes,
-    /// What it was parked for so far.
-    pub waits: RowWaits,
 }
 
 // A table has a row for each slot, used or not, and a row keeps nothing elsewhere.
-const _: () = prove!(size_of::<Row>() <= 64);
+const _: () = prove!(size_of::<Row>() <= 72);
 
 /// A number for each kind, to tell two apart by.
 fn kind_number(kind: Kind) -> u8
@@ -221,19 +224,20 @@ impl Row {
         ensures { result ≡ unused_row }
     {
         Row {
-            life: 0,
             arrival: 0,
+            deadline: 0,
+            began: None,
+            life: 0,
             child: 0,
             generation: 0,
             place: Place::Vacant,
+            notes: RowNotes::make(),
+            waits: RowWaits::make(),
             from: None,
-            deadline: 0,
+            cause: None,
             mid: false,
             last: false,
             short: false,
-            cause: None,
-            notes: RowNotes::make(),
-            waits: RowWaits::make(),
         }
     }
 

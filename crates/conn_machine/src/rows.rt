@@ -279,6 +279,7 @@ impl Rows {
               place = Held;
               from = None;
               deadline = r.deadline;
+              began = None;
               mid = false;
               last = false;
               short = false;
@@ -294,9 +295,9 @@ impl Rows {
         self.counts.change(before, now);
     }
 
-    /// Of the row of the slot: it waits for this until the deadline.
+    /// Of the row of the slot: it waits for this until the deadline, and has waited for its request since then.
     #[tactic(auto, using(crate::proofs::ListLemmas::set_is_update))]
-    pub fn park(&mut self, slot: u32, kind: Kind, deadline: Moment)
+    pub fn park(&mut self, slot: u32, kind: Kind, deadline: Moment, began: Option<Moment>)
         requires { slot < length self.old }
         ensures { self.new
             ≡ update self.old slot
@@ -304,13 +305,14 @@ impl Rows {
               place = Parked kind;
               from = Some kind;
               deadline = deadline;
+              began = began;
               mid = mid_after kind r;
               waits = r.waits ++ kind ∷ [];
             }) }
     {
         let row = &mut self.items[slot as usize];
         let before = row.standing();
-        row.park(kind, deadline);
+        row.park(kind, deadline, began);
         let now = row.standing();
         self.counts.change(before, now);
     }

@@ -45,8 +45,9 @@ fn is_idle_letter(letter: u8) -> bool
 }
 
 /// How many of the letters say that a worker serves a connection.
-fn busy_letter_count(letters: &[u8]) -> usize
-    ensures { result ≡ count_by spec.is_busy_letter letters.now }
+pub(crate) fn busy_letter_count(letters: &[u8]) -> usize
+    ensures is { result ≡ count_by spec.is_busy_letter letters.now }
+    ensures few { result ≤ length letters.now }
 {
     letters
         .iter()
@@ -55,8 +56,9 @@ fn busy_letter_count(letters: &[u8]) -> usize
 }
 
 /// How many of the letters say that a worker may be given one.
-fn idle_letter_count(letters: &[u8]) -> usize
-    ensures { result ≡ count_by spec.is_idle_letter letters.now }
+pub(crate) fn idle_letter_count(letters: &[u8]) -> usize
+    ensures is { result ≡ count_by spec.is_idle_letter letters.now }
+    ensures few { result ≤ length letters.now }
 {
     letters
         .iter()
@@ -83,7 +85,7 @@ pub(crate) fn phase_after(last: bool) -> Phase
 
 impl State {
     /// The letter of the cell of the child.
-    fn letter(&self, number: u32, phase: ChildPhase, cell: u32) -> u8
+    pub(crate) fn letter(&self, number: u32, phase: ChildPhase, cell: u32) -> u8
         ensures { result ≡ spec.letter_in phase self.now number cell }
     {
         match phase {
@@ -94,7 +96,7 @@ impl State {
     }
 
     /// How many letters the child has.
-    fn cells_of(&self, child: &Child) -> u32
+    pub(crate) fn cells_of(&self, child: &Child) -> u32
         ensures { result ≡ spec.cells_of self.now child.now }
     {
         if child.phase.is_empty() {

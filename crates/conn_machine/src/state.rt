@@ -121,6 +121,13 @@ pub struct State {
     pub accepted: u64,
 }
 
+/// The moment so many milliseconds after this one, as far as moments go.
+pub(crate) fn later(moment: Moment, ms: Moment) -> Moment
+    ensures { result ≡ spec.later moment ms }
+{
+    moment.saturating_add(ms).min(GREATEST_MOMENT)
+}
+
 impl State {
     /// The state in which a server opens: every slot vacant, no child started, generation 0 of this shape.
     pub fn opening(
@@ -147,7 +154,7 @@ impl State {
     pub fn later(&self, ms: Moment) -> Moment
         ensures { result ≡ spec.later self.now.moment ms }
     {
-        self.moment.saturating_add(ms).min(GREATEST_MOMENT)
+        later(self.moment, ms)
     }
 
     /// The child of the row.

@@ -1,6 +1,6 @@
 //! What each event does, and replies: the event table's effects as a plain program.
 //! Why it is so stands in docs/DECISIONS.md: 40, `step` needs no sound state.
-ghost use Rattle.std.specs.Prelude.{◌≡◌, ◌≤◌, ◌<◌, true, false, length, IsOk, IfOk, OnOk, OnErr};
+ghost use Rattle.std.specs.Prelude.{◌≡◌, ◌≤◌, ◌<◌, true, false, None, length, option_map, slice_get, IsOk, IfOk, OnOk, OnErr};
 ghost use Rattle.conn_machine.specs.Rows as rows;
 ghost use Rattle.conn_machine.specs.States as states;
 ghost use Rattle.conn_machine.specs.Table as table;
@@ -10,14 +10,31 @@ ghost use Rattle.conn_machine.specs.declared.event.Reply.TheVariants.{Done, Cell
 
 use crate::event::{Commanded, Event, Reply};
 use crate::row::{Phase, Row};
-use crate::state::{Going, State};
-use mpm_base::{Ask, Cause, ConnName, Kind, Moment, NoMemory};
+use crate::state::{Going, State, later};
+use mpm_base::{Ask, Cause, ConnName, Kind, Moment, NoMemory, Note, Shape};
 use std::alloc::Global;
+
+/// What a step replies, and the note of the response that it decided, where it decided one.
+#[derive(Debug, Drop)]
+pub struct Stepped {
+    /// The reply.
+    pub reply: Reply,
+    /// The note.
+    pub note: Option<Note>,
+}
+
+impl Stepped {
+    /// A reply alone.
+    fn of(reply: Reply) -> Stepped
+        ensures { result ≡ record { reply = reply; note = None } }
+    {
+        Stepped { reply, note: None }
+    }
+}
 
 /// Does what the event table says of the event, and gives its reply. Only a response that is the status page
 /// takes memory; where it lacks the state stays as it was. The state has at most 8,192 rows and 32 children, and as many
 /// signals as rows.
-#[tactic(auto, using(crate::proofs::SoundRuns::sound_step, crate::proofs::SizeLemmas::sizes_step, crate::proofs::SizeLemmas::sized_step))]
 pub fn step(alloc: Global, state: &mut State, event: &Event) -> Result<Reply, NoMemory>
     requires allowed { table.is_allowed state.old event.now ≡ true }
     requires few_rows { length state.old.rows ≤ 8192 }
@@ -31,20 +48,40 @@ pub fn step(alloc: Global, state: &mut State, event: &Event) -> Result<Reply, No
     ensures sizes { HasSizesOf state.old state.new }
     ensures sized { IsSized state.old → IsSized state.new }
 {
+    let stepped = step_and_note(alloc, state, event)?;
+    Ok(stepped.reply)
+}
+
+/// Does the same, and gives the note of the response that was decided too: so one that is the status page is made once.
+#[tactic(auto, using(crate::proofs::SoundRuns::sound_step, crate::proofs::SizeLemmas::sizes_step, crate::proofs::SizeLemmas::sized_step))]
+pub fn step_and_note(alloc: Global, state: &mut State, event: &Event) -> Result<Stepped, NoMemory>
+    requires allowed { table.is_allowed state.old event.now ≡ true }
+    requires few_rows { length state.old.rows ≤ 8192 }
+    requires few_children { length state.old.children ≤ 32 }
+    requires signals { length state.old.signals ≡ length state.old.rows }
+    ensures state { OnOk result (state.new ≡ table.next state.old event.now) }
+    ensures reply { IfOk result (λ stepped. stepped.reply ≡ table.reply state.old event.now) }
+    ensures note { IfOk result (λ stepped. stepped.note ≡ table.note_made state.old event.now) }
+    ensures err { OnErr result (state.new ≡ state.old) }
+    ensures sure { table.takes_memory event.now ≡ false → IsOk result }
+    ensures sound { IsSound state.old → IsSound state.new }
+    ensures sizes { HasSizesOf state.old state.new }
+    ensures sized { IsSized state.old → IsSized state.new }
+{
     match *event {
-        Event::Accept(slot) => Ok(accept(state, slot)),
-        Event::Park(name, kind) => Ok(park(state, name, kind)),
-        Event::Hold(name) => Ok(hold(state, name)),
-        Event::Queue(name) => Ok(queue(state, name)),
-        Event::Start(name) => Ok(start(state, name)),
+        Event::Accept(slot) => Ok(Stepped::of(accept(state, slot))),
+        Event::Park(name, kind) => Ok(Stepped::of(park(state, name, kind))),
+        Event::Hold(name) => Ok(Stepped::of(hold(state, name))),
+        Event::Queue(name) => Ok(Stepped::of(queue(state, name))),
+        Event::Start(name) => Ok(Stepped::of(start(state, name))),
         Event::Answer(name, ask) => answer(alloc, state, name, &ask),
-        Event::Linger(name, cause) => Ok(linger(state, name, cause)),
-        Event::Close(name, _, _) => Ok(close(state, name)),
-        Event::Ready(slot) => Ok(ready(state, slot)),
-        Event::Tick(moment) => Ok(tick(state, moment)),
-        Event::StartChild(child) => Ok(start_child(state, child)),
-        Event::Command(ref commanded) => Ok(command(state, commanded)),
-        Event::Retire(child) => Ok(retire(state, child)),
+        Event::Linger(name, cause) => Ok(Stepped::of(linger(state, name, cause))),
+        Event::Close(name, _, _) => Ok(Stepped::of(close(state, name))),
+        Event::Ready(slot) => Ok(Stepped::of(ready(state, slot))),
+        Event::Tick(moment) => Ok(Stepped::of(tick(state, moment))),
+        Event::StartChild(child) => Ok(Stepped::of(start_child(state, child))),
+        Event::Command(ref commanded) => Ok(Stepped::of(command(state, commanded))),
+        Event::Retire(child) => Ok(Stepped::of(retire(state, child))),
     }
 }
 
@@ -70,12 +107,45 @@ fn accept(state: &mut State, slot: u32) -> Reply
     Reply::Took(ConnName { slot, life }, child, generation)
 }
 
+/// Since when the row has waited for its request, where it waits for the rest of it from now on.
+fn began_at(state: &State, row: &Row) -> Moment
+    ensures { result ≡ table.began_at state.now.moment row.now }
+{
+    row.began.unwrap_or(state.moment)
+}
+
+/// Since when the row has waited for its request, where it waits for this from now on.
+fn began_after(state: &State, kind: Kind, row: &Row) -> Option<Moment>
+    ensures { result ≡ table.began_after state.now.moment kind row.now }
+{
+    match kind {
+        Kind::Reading => Some(began_at(state, row)),
+        Kind::KeepAlive | Kind::Writing | Kind::Linger | Kind::ShortLinger => row.began,
+    }
+}
+
+/// Until when the rest of a request is waited for, which has been waited for since then.
+fn read_until(state: &State, shape: &Shape, began: Moment) -> Moment
+    ensures { result ≡ table.read_until state.now.moment shape.now began }
+{
+    let rest = state.later(shape.read_ms);
+    if shape.whole_ms == 0 {
+        rest
+    } else {
+        rest.min(later(began, shape.whole_ms))
+    }
+}
+
 /// When the wait of the row for this is over.
 fn wait_until(state: &State, kind: Kind, row: &Row) -> Moment
     ensures { result ≡ table.wait_until state.now kind row.now }
 {
     match kind {
-        Kind::Reading | Kind::Writing => state.later(state.child_of(row).shape.read_ms),
+        Kind::Reading => {
+            let shape = state.child_of(row).shape;
+            read_until(state, &shape, began_at(state, row))
+        }
+        Kind::Writing => state.later(state.child_of(row).shape.read_ms),
         Kind::KeepAlive => state.later(state.child_of(row).shape.keep_ms),
         Kind::Linger | Kind::ShortLinger => row.deadline,
     }
@@ -91,7 +161,8 @@ fn park(state: &mut State, name: ConnName, kind: Kind) -> Reply
         unreachable!()
     };
     let deadline = wait_until(state, kind, row);
-    state.rows.park(name.slot, kind, deadline);
+    let began = began_after(state, kind, row);
+    state.rows.park(name.slot, kind, deadline, began);
     Reply::Done
 }
 
@@ -164,13 +235,16 @@ pub(crate) fn is_last_for(state: &State, ask: &Ask, row: &Row) -> bool
 }
 
 #[tactic(auto, using(crate::proofs::ListLemmas::update_as))]
-fn answer(alloc: Global, state: &mut State, name: ConnName, ask: &Ask) -> Result<Reply, NoMemory>
+fn answer(alloc: Global, state: &mut State, name: ConnName, ask: &Ask) -> Result<Stepped, NoMemory>
     requires may { table.may_answer state.old name ≡ true }
     requires few_rows { length state.old.rows ≤ 8192 }
     requires few_children { length state.old.children ≤ 32 }
     ensures state { OnOk result (state.new ≡ table.next_answer state.old name ask.now) }
     ensures reply { IfOk result
-        (λ answer. answer ≡ Noted (table.noted_at state.old name.slot ask.now)) }
+        (λ stepped. stepped.reply ≡ Noted (table.noted_at state.old name.slot ask.now)) }
+    ensures note { IfOk result (λ stepped. stepped.note
+        ≡ option_map (table.note_for state.old name.slot ask.now)
+        (slice_get state.old.rows name.slot)) }
     ensures err { OnErr result (state.new ≡ state.old) }
     ensures sure { ask.now.page ≡ false → IsOk result }
 {
@@ -179,7 +253,10 @@ fn answer(alloc: Global, state: &mut State, name: ConnName, ask: &Ask) -> Result
     };
     let note = state.note_for(alloc, name, ask)?;
     state.rows.answer(name.slot, &note, ask.refused);
-    Ok(Reply::Noted(note.last))
+    Ok(Stepped {
+        reply: Reply::Noted(note.last),
+        note: Some(note),
+    })
 }
 
 #[tactic(auto, using(crate::proofs::ListLemmas::update_as))]

@@ -1,6 +1,7 @@
 pub mod AnswerLemmas
 pub mod ApartLemmas
 pub mod BoundLemmas
+pub mod CallLemmas
 pub mod CodeLemmas
 pub mod ConnLemmas
 pub mod DropLemmas

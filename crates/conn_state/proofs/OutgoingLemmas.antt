@@ -116,10 +116,23 @@ pending-offered site u =
     ∙ sym (append_assoc u.head (take 65536 (range_bytes site u.body)) (drop 65536 (range_bytes site u.body)))
 
 -- how many bytes are offered
-offered-length : (site : SeenSite) (u : Unsent) → IsUnsentOf site u → length (offered site u) ≡ length u.head + min 65536 (range_len u.body)
+pub offered-length : (site : SeenSite) (u : Unsent) → IsUnsentOf site u → length (offered site u) ≡ length u.head + min 65536 (range_len u.body)
 offered-length site u of =
     length-append u.head (take 65536 (range_bytes site u.body))
     ∙ ap (λ n. length u.head + n) (length-take 65536 (range_bytes site u.body) ∙ ap (λ n. min 65536 n) (body-length site u.body of))
+
+-- how many bytes of the head are left once some more were sent
+pub head-behind : (u u' : Unsent) (n : ℕ) → u' ≡ unsent_behind n u → length u'.head ≡ length u.head - n
+head-behind u u' n left = ap (λ (x : Unsent). length x.head) left ∙ length-drop n u.head
+
+-- how many bytes a range has without some at its front
+range-behind : (n : ℕ) (body : Option FileRange) → range_len (option_map (range_behind n) body) ≡ range_len body - n
+range-behind n None = omega arith
+range-behind n (Some r) = omega arith
+
+-- how many bytes of the body are left then
+pub body-behind : (u u' : Unsent) (n : ℕ) → u' ≡ unsent_behind n u → range_len u'.body ≡ range_len u.body - (n - length u.head)
+body-behind u u' n left = ap (λ (x : Unsent). range_len x.body) left ∙ range-behind (n - length u.head) u.body
 
 -- no more was taken than is left
 pub taken-fits : (site : SeenSite) (u : Unsent) (n : ℕ) → IsUnsentOf site u → n ≤ length (offered site u) → n ≤ length u.head + range_len u.body

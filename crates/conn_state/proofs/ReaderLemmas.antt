@@ -257,6 +257,7 @@ come-piece goes_on link link' old new count buffer more reads is some few left =
       };
       some = omega (arith, size, reads.fits.1 some);
       few = omega (arith, size, reads.fits.0, few);
+      kept = ap (λ (r : SeenReader). r.unread) left;
       same_stage = ap (λ (r : SeenReader). r.stage) left;
     }
 

@@ -1,8 +1,11 @@
 pub mod Answered
+pub mod Calls
+pub mod CallsInside
 pub mod Conn
 pub mod ConnInside
 pub mod Follows
 pub mod Items
+pub mod KeptNotesInside
 pub mod Known
 pub mod LingerInside
 pub mod Outgoing

@@ -26,6 +26,7 @@ pub record HasComeSome (link link' : LinkSeen) (old new : SeenReader) : Type 0 w
   pub come : HasCome link link' old new
   pub some : 0 < length come.got
   pub few : length come.got ≤ read_piece
+  pub kept : new.unread ≡ old.unread ++ come.got
   pub same_stage : new.stage ≡ old.stage
 
 -- the read ended the turn with an answer, where more had to come

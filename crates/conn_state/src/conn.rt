@@ -18,6 +18,7 @@ ghost use Rattle.conn_state.specs.Answered.{IsEnded, IsEndOf, IsShown};
 
 use crate::ended::Ended;
 use crate::exchange::{ReadAnswer, read_item};
+use crate::kept_notes::KeptNotes;
 use crate::known::{Known, Nothing};
 use crate::laws::{
     answered_items_go_on, answered_items_stay, follows_what_was_read, kept_bytes_go_on,
@@ -32,14 +33,11 @@ use crate::turn::{LastLinger, LastTurn, LingerTurn, ReadTurn, WriteTurn};
 use file_table::Site;
 use http_core::Plan;
 use http_read::{Limits, keeps_answer, keeps_spelling};
-use mpm_base::{Cause, ConnName, Link, NoMemory, Note, Notes, Octets, Tail};
+use mpm_base::{Cause, ConnName, Link, NoMemory, Note, Octets, Tail};
 use std::alloc::Global;
 use std::marker::{Model, PhantomData};
 use std::snapshot::Snapshot;
 use std::sync::Arc;
-
-/// For how many notes room is taken at once: so a connection with many of them has little room that it doesn't use.
-const NOTES_AT_ONCE: usize = 8;
 
 /// A connection over a link, served of the site of its generation. Where `N` knows the clients, the link is that of one of them.
 #[derive(Drop)]
@@ -50,7 +48,7 @@ pub struct Conn<L: Link, N: Known> {
     generation: u32,
     site: Arc<Site>,
     link: L,
-    notes: Notes,
+    notes: KeptNotes,
     unsent: Outgoing,
     reader: RequestReader,
     turn: LastTurn,
@@ -134,7 +132,7 @@ impl<L: Link, N: Known> Conn<L, N> {
             generation,
             site,
             link,
-            notes: Notes::make(alloc),
+            notes: KeptNotes::make(alloc),
             unsent: Outgoing::of(Octets::make(alloc), None),
             reader: RequestReader::new(alloc, limits),
             turn: LastTurn::New,
@@ -258,8 +256,8 @@ impl<L: Link, N: Known> Conn<L, N> {
         turn
     }
 
-    /// Takes the note of the response to what the last turn asked. The response becomes pending. Where memory lacks nothing
-    /// but the turn changes, and the connection can only be ended.
+    /// Takes the note of the response to what the last turn asked. The response becomes pending, and of the note its code alone is
+    /// kept. Where memory lacks nothing but the turn changes, and the connection can only be ended.
     pub fn answer(&mut self, note: Note) -> Result<(), NoMemory>
         requires asked { IsNoteOf self.old.turn note }
         requires date { IsSecond note.date }
@@ -272,7 +270,7 @@ impl<L: Link, N: Known> Conn<L, N> {
         responses_have_bytes();
         follows_what_was_read();
         refusals_have_their_codes();
-        match take_note(self.alloc, &self.site, &self.plan, &mut self.notes, note) {
+        match take_note(self.alloc, &self.site, &self.plan, &mut self.notes, &note) {
             Ok(unsent) => {
                 self.unsent = unsent;
                 self.reader.leave_item();
@@ -365,41 +363,32 @@ impl<L: Link, N: Known> Conn<L, N> {
     }
 }
 
-/// Makes the response of the note, by the plan of a request or to a refusal, and puts the note behind the others. Where memory
-/// lacks nothing changes.
+/// Makes the response of the note, by the plan of a request or to a refusal, and notes it behind the others. Where memory lacks nothing
+/// changes.
 fn take_note(
     alloc: Global,
     site: &Site,
     plan: &Option<Plan>,
-    notes: &mut Notes,
-    note: Note,
+    notes: &mut KeptNotes,
+    note: &Note,
 ) -> Result<Outgoing, NoMemory>
-    requires date { IsSecond note.date }
+    requires date { IsSecond note.now.date }
     requires served { IfSome plan.now (λ p. IsServedOf site.now p.served) }
-    requires code { plan.now ≡ None → refuses_head note.code ≡ true }
-    ensures ok { OnOk result (notes.new ≡ notes.old ++ note ∷ []) }
+    requires code { plan.now ≡ None → refuses_head note.now.code ≡ true }
+    ensures ok { OnOk result (notes.new ≡ notes.old ++ note.now ∷ []) }
     ensures planned { IfOk result (λ unsent. (request : RequestParts)
         → plan.now ≡ Some (plan_for site.now request)
-        → IsResponse site.now (inl request) note (pending_bytes site.now unsent)) }
+        → IsResponse site.now (inl request) note.now (pending_bytes site.now unsent)) }
     ensures refused { IfOk result (λ unsent. plan.now ≡ None → (expected : Bool)
-        → IsResponse site.now (inr (record { code = note.code; expected = expected }))
-        note (pending_bytes site.now unsent)) }
+        → IsResponse site.now (inr (record { code = note.now.code; expected = expected }))
+        note.now (pending_bytes site.now unsent)) }
     ensures of { IfOk result (IsUnsentOf site.now) }
     ensures err { OnErr result (notes.new ≡ notes.old) }
 {
-    if notes.len() % NOTES_AT_ONCE == 0 {
-        notes.reserve_exact(NOTES_AT_ONCE)?;
-    }
-    match plan {
-        Some(plan) => {
-            let unsent = respond(alloc, site, plan, &note)?;
-            notes.push(note)?;
-            Ok(unsent)
-        }
-        None => {
-            let unsent = refuse(alloc, &note)?;
-            notes.push(note)?;
-            Ok(unsent)
-        }
-    }
+    let unsent = match plan {
+        Some(plan) => respond(alloc, site, plan, note)?,
+        None => refuse(alloc, note)?,
+    };
+    notes.add(note)?;
+    Ok(unsent)
 }

@@ -1,8 +1,9 @@
 //! A connection that ended.
+use crate::kept_notes::KeptNotes;
 use crate::turn::{LastLinger, LastTurn};
 use file_table::Site;
 use http_read::Limits;
-use mpm_base::{Cause, ConnName, Link, Notes, Tail};
+use mpm_base::{Cause, ConnName, Link, Tail};
 use std::marker::Model;
 use std::snapshot::Snapshot;
 
@@ -16,7 +17,7 @@ pub struct Ended<L: Link> {
     /// The generation of its child.
     pub generation: u32,
     /// Its responses.
-    pub notes: Notes,
+    pub notes: KeptNotes,
     /// Why its service ended.
     pub cause: Cause,
     /// How its link was left.

@@ -19,6 +19,7 @@
 mod conn;
 mod ended;
 mod exchange;
+mod kept_notes;
 mod known;
 pub mod laws;
 mod linger;
@@ -33,6 +34,7 @@ mod turn;
 
 pub use conn::Conn;
 pub use ended::Ended;
+pub use kept_notes::KeptNotes;
 pub use known::{Known, Nothing};
 pub use outgoing::{FileRange, Outgoing, send};
 pub use reader::{RequestAnswer, RequestReader};

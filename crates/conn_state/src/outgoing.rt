@@ -3,6 +3,7 @@ ghost use Rattle.std.specs.Prelude.{◌≡◌, ◌==◌, ◌+◌, ◌≤◌, [],
 ghost use Rattle.conn_state.specs.Outgoing.{IsRangeOf, IsUnsentOf, range_bytes, pending_bytes, range_len};
 ghost use Rattle.conn_state.specs.OutgoingInside.{unsent_behind};
 ghost use Rattle.conn_state.specs.Writing.{SendsOn};
+ghost use Rattle.conn_state.specs.Calls.{WritesAll};
 ghost use Rattle.conn_state.specs.Sizes.{write_piece};
 
 use crate::sizes::WRITE_PIECE;
@@ -124,6 +125,8 @@ pub fn send<L: Link>(alloc: Global, link: &mut L, site: &Site, unsent: &mut Outg
         (L.seen link.old).counts (L.seen link.new).counts
         (pending_bytes site.now unsent.old) (pending_bytes site.now unsent.new) result }
     ensures of { IsUnsentOf site.now unsent.new }
+    ensures offers { WritesAll (L.calls link.old) (L.calls link.new)
+        (length unsent.old.head) (range_len unsent.old.body) }
 {
     while !unsent.is_empty() {
         match link.write_pair(unsent.head_left(), unsent.body_piece(site)) {

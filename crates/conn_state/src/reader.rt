@@ -7,6 +7,8 @@ ghost use Rattle.conn_state.specs.Items.{Item};
 ghost use Rattle.conn_state.specs.Turns.{LeavesItem};
 ghost use Rattle.conn_state.specs.Reader.{item_kept, keeps_none, StandsFor, IsAnswerable, IsReading, LeavesRequest, ReadsNext};
 ghost use Rattle.conn_state.specs.ReaderInside.{TakesPiece};
+ghost use Rattle.conn_state.specs.Calls.{ReadsAll};
+ghost use Rattle.conn_state.specs.CallsInside.{ReadsOnce, room_in};
 ghost use Rattle.conn_state.specs.Sizes.{read_piece};
 
 use crate::laws::{
@@ -159,6 +161,7 @@ impl RequestReader {
         requires { IsShortIn self.now.unread self.now.stage }
         ensures some { 0 < result }
         ensures few { result ≤ read_piece }
+        ensures is { result ≡ room_in self.now.unread self.now.stage }
     {
         match &self.stage {
             Stage::Head(_) => READ_PIECE.min(GREATEST_HEAD + 1 - self.unread.as_slice().len()),
@@ -181,7 +184,10 @@ impl RequestReader {
     /// for one.
     fn take_piece<L: Link>(&mut self, link: &mut L) -> Option<RequestAnswer>
         requires { IsShortIn self.old.unread self.old.stage }
-        ensures { TakesPiece (L.seen link.old) (L.seen link.new) self.old self.new result }
+        ensures takes { TakesPiece (L.seen link.old) (L.seen link.new) self.old self.new result }
+        ensures asks { ReadsOnce (L.calls link.old) (L.calls link.new)
+            (room_in self.old.unread self.old.stage)
+            (length self.old.unread) (length self.new.unread) result }
     {
         kept_bytes_go_on();
         let mut buffer = [0; READ_PIECE];
@@ -206,6 +212,7 @@ impl RequestReader {
         ensures reads { ReadsNext (L.seen link.old) (L.seen link.new) self.old self.new result }
         ensures still { (rest : List ℕ) → StandsFor self.old rest → IsAnswerable self.old rest
             → L.seen link.new ≡ L.seen link.old }
+        ensures rooms { ReadsAll (L.calls link.old) (L.calls link.new) (length self.old.unread) }
     {
         keeps_answer();
         keeps_spelling();

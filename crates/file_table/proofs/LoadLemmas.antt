@@ -162,10 +162,11 @@ module _ (root : List ℕ) (names : List (List ℕ)) (i : ℕ) (name : List ℕ)
 -- ---- the site
 
 pub is_site : (order : SiteOrder) (given : List File) (listed names : List (List ℕ)) (site : SeenSite) → listed ≡ names_under order.root given
-    → IsPermutation (filter (lies_under order.root) listed) names → site.index ≡ order.index → site.files ≡ map (file_within order.root given) names
-    → IsInOrder site.files → IsSiteOf order given site
-is_site order given listed names site e all index files in_order = record {
+    → IsPermutation (filter (lies_under order.root) listed) names → site.index ≡ order.index → site.status ≡ order.status
+    → site.files ≡ map (file_within order.root given) names → IsInOrder site.files → IsSiteOf order given site
+is_site order given listed names site e all index status files in_order = record {
   index = index;
+  status = status;
   names = names;
   all = subst (λ l. IsPermutation l names) (ap (filter (lies_under order.root)) e ∙ filter_same (lies_under order.root) _) all;
   files = files;
@@ -180,8 +181,8 @@ pub too_large : (order : SiteOrder) (given : List File) (listed names : List (Li
     → IsPermutation (filter (lies_under order.root) listed) names → All (λ n. lies_under order.root n ≡ true) names
     → IsSortedByKey (λ n. n) (slice_cmp nat_cmp) names → MayNotRead order.root given names (fault.TooLarge name size) → IsTooLargeFile order given name size
 too_large order given listed names name size e all under in_order m = record {
-  site = record { index = order.index; files = map (file_within order.root given) names };
-  is_site = is_site order given listed names _ e all refl refl (in_order_within order.root names _ (named_within order.root given names) under in_order);
+  site = record { index = order.index; status = order.status; files = map (file_within order.root given) names };
+  is_site = is_site order given listed names _ e all refl refl refl (in_order_within order.root names _ (named_within order.root given names) under in_order);
   file = file_within order.root given name;
   first = m.0;
   named = whole_name order.root name m.2;
@@ -212,12 +213,13 @@ module _ (order : SiteOrder) (root : List ℕ) (is_root : root ≡ order.root) (
   all_of_order : IsPermutation (filter (lies_under order.root) listed) names
   all_of_order = subst (λ r. IsPermutation (filter (lies_under r) listed) names) is_root all
 
-  pub loaded_site : (told : Option StoreTold) (files : List File) (site : SeenSite) → site.index ≡ order.index → site.files ≡ files → IsInOrder files
+  pub loaded_site : (told : Option StoreTold) (files : List File) (site : SeenSite) → site.index ≡ order.index → site.status ≡ order.status
+      → site.files ≡ files → IsInOrder files
       → IfSome told (λ t. files ≡ map (file_within root t.files) names)
       → IfSome told (λ t. listed ≡ names_under order.root t.files → MayLoad order t.files (Ok site))
-  loaded_site None files site index is_files in_order known = tt
-  loaded_site (Some t) files site index is_files in_order known = λ e.
-      is_site order t.files listed names site e all_of_order index
+  loaded_site None files site index status is_files in_order known = tt
+  loaded_site (Some t) files site index status is_files in_order known = λ e.
+      is_site order t.files listed names site e all_of_order index status
       (is_files ∙ known ∙ ap (λ r. map (file_within r t.files) names) is_root) (subst IsInOrder (sym is_files) in_order)
 
   by_fault : (given : List File) (e : LoadFault) → length listed ≤ 65536 → IsSortedByKey (λ n. n) (slice_cmp nat_cmp) names → MayNotRead order.root given names e

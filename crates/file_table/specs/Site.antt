@@ -6,9 +6,10 @@ use Rattle.mpm_base.specs.Store.{bytes_of, names_under}
 use Rattle.file_table.specs.declared.site.SiteOrder.{SiteOrder}
 use Rattle.file_table.specs.Order.{IsInOrder}
 
--- what contracts see of a site: the name of the file that stands for a folder, and the files
+-- what contracts see of a site: the name of the file that stands for a folder, whether the status page is served, and the files
 pub record SeenSite : Type 0 where
   pub index : List ℕ
+  pub status : Bool
   pub files : List File
 
 -- the name within a folder of what lies there: what follows the folder's name and a slash
@@ -19,9 +20,10 @@ name_within folder name = drop (length folder + 1) name
 abbrev pub file_within : List ℕ → List File → List ℕ → File
 file_within folder files name = record { name = name_within folder name; bytes = unwrap_or (bytes_of name files) [] }
 
--- the site has the files under the root, in the order of their names there
+-- the site has the files under the root, in the order of their names there, and serves the status page where that is ordered
 pub record IsSiteOf (order : SiteOrder) (given : List File) (site : SeenSite) : Type 0 where
   pub index : site.index ≡ order.index
+  pub status : site.status ≡ order.status
   pub names : List (List ℕ)
   pub all : IsPermutation (names_under order.root given) names
   pub files : site.files ≡ map (file_within order.root given) names

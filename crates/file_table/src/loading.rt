@@ -192,7 +192,7 @@ fn read_site<D: Store>(
         Ok(files) => files,
         Err(fault) => return Err(fault),
     };
-    match Site::of(alloc, order.index.as_slice(), files) {
+    match Site::of(alloc, order.index.as_slice(), order.status, files) {
         Ok(site) => Ok(site),
         Err(NoMemory) => Err(LoadFault::NoMemory),
     }

@@ -7,13 +7,15 @@ use mpm_base::{File, NoMemory, Octets};
 use std::alloc::Global;
 use std::marker::Model;
 
-/// What a site is made of: the folder whose files it has, and the name of the file that stands for a folder.
+/// What a site is made of: the folder whose files it has, the name of the file that stands for a folder, and whether it has the status page.
 #[derive(Debug, Drop)]
 pub struct SiteOrder {
     /// The name of the folder, without a slash at its end; UTF-8.
     pub root: Octets,
     /// The name of the file; UTF-8.
     pub index: Octets,
+    /// Whether the status page is served.
+    pub status: bool,
 }
 
 /// The files under a folder by their names in it, at most 65,536.
@@ -21,6 +23,7 @@ pub struct SiteOrder {
 pub struct Site {
     index: Octets,
     slash_index: Octets,
+    status: bool,
     files: Vec<File>,
 }
 
@@ -31,7 +34,7 @@ impl Model for Site {
 
     ghost Value = { SeenSite };
 
-    ghost view = { λ s. record { index = s.index; files = s.files.items } };
+    ghost view = { λ s. record { index = s.index; status = s.status; files = s.files.items } };
 
     ghost invariant = { λ s. (s.slash_index ≡ 47 ∷ s.index) × IsInOrder s.files.items
         × (length s.files.items ≤ most_files) };
@@ -39,10 +42,16 @@ impl Model for Site {
 
 impl Site {
     /// A site of these files.
-    pub(crate) fn of(alloc: Global, index: &[u8], files: Vec<File>) -> Result<Site, NoMemory>
+    pub(crate) fn of(
+        alloc: Global,
+        index: &[u8],
+        status: bool,
+        files: Vec<File>,
+    ) -> Result<Site, NoMemory>
         requires in_order { IsInOrder files.items }
         requires few { length files.items ≤ most_files }
-        ensures { IfOk result (λ site. site ≡ record { index = index.now; files = files.items }) }
+        ensures { IfOk result (λ site. site
+            ≡ record { index = index.now; status = status; files = files.items }) }
     {
         let mut slash_index = Octets::of(alloc, b"/")?;
         slash_index.add(index)?;
@@ -50,6 +59,7 @@ impl Site {
         Ok(Site {
             index,
             slash_index,
+            status,
             files,
         })
     }
@@ -66,6 +76,13 @@ impl Site {
         ensures { result.now ≡ 47 ∷ self.now.index }
     {
         self.slash_index.as_slice()
+    }
+
+    /// Whether the status page is served.
+    pub fn has_status(&self) -> bool
+        ensures { result ≡ self.now.status }
+    {
+        self.status
     }
 
     /// The files, in the order of their names.

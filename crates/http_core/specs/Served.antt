@@ -1,5 +1,5 @@
 -- What a request is served: the first rule that fits.
-use Rattle.std.specs.Prelude.{ℕ, ◌==◌, ◌||◌, Bool, true, false, not, List, length, codes, Option, Some, None, if◌then◌else◌, slice_get}
+use Rattle.std.specs.Prelude.{ℕ, ◌==◌, ◌&&◌, ◌||◌, Bool, true, false, not, List, length, codes, Option, Some, None, if◌then◌else◌, slice_get}
 use Rattle.std.specs.Str.{bytes_eq}
 use Rattle.mpm_base.specs.declared.store.File.{File}
 use Rattle.http_read.specs.RequestParts.{RequestParts}
@@ -84,11 +84,11 @@ served_of site get range target (resource.Redirect path) = served.Moved (locatio
 served_of site get range target resource.Missing = served.Refused code.NotFound
 served_of site get range target (resource.File place) = served_range place (size_at site place) (range_for get (size_at site place) range)
 
--- what a target serves to GET, or else to HEAD: the status page, where its path is that, for which no range counts; or what it
--- names in the site
+-- what a target serves to GET, or else to HEAD: the status page, where its path is that and the site has the page, for which no range
+-- counts; or what it names in the site
 abbrev pub served_at : SeenSite → Bool → Option (List ℕ) → List ℕ → Served
 served_at site get range target =
-    if is_status_path (path_of target) then served.Page (asks_for_text target)
+    if site.status && is_status_path (path_of target) then served.Page (asks_for_text target)
     else served_of site get range target (resource_of_target site target)
 
 -- what a request is served

@@ -150,7 +150,7 @@ fn served_at(alloc: Global, site: &Site, request: &Request, get: bool) -> Result
 {
     let target = request.target();
     let path = path_of(target);
-    if is_status_path(path) {
+    if site.has_status() && is_status_path(path) {
         return Ok(Served::Page(asks_for_text(target)));
     }
     let found = resource_at(alloc, site, path)?;

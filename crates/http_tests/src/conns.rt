@@ -43,7 +43,7 @@ pub fn conn_of(
 
 /// The site of each connection.
 pub fn site_of(alloc: Global) -> Result<Arc<Site>, NoMemory> {
-    match digits_site(alloc) {
+    match digits_site(alloc, true) {
         Ok(site) => Ok(Arc::new(alloc, site)?),
         Err(_) => Err(NoMemory),
     }

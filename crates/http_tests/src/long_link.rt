@@ -1,6 +1,7 @@
 //! A link in memory whose client sends more than is kept anywhere.
-ghost use Rattle.std.specs.Prelude.{◌≡◌, ◌≤◌, None, length};
+ghost use Rattle.std.specs.Prelude.{◌≡◌, ◌≤◌, None, Some, length};
 
+use http_server::Log;
 use mpm_base::{Got, Link, NoMemory, Octets, Sent};
 use std::alloc::Global;
 
@@ -92,12 +93,15 @@ impl LinkUse {
     }
 }
 
-/// The link of such a client, which has room for all that is written to it. It counts its calls, and tells nothing.
+/// The link of such a client, which has room for all that is written to it. It tells its calls, and counts them.
 #[derive(Drop)]
 pub struct LongLink {
     client: LongClient,
     taken: Octets,
     calls: LinkUse,
+    // Kept for clauses alone.
+    read_log: Log<usize, Got>,
+    write_log: Log<usize, Sent>,
     faults: u64,
     late_reads: u64,
     ends: u64,
@@ -121,6 +125,8 @@ impl LongLink {
                 room: 0,
                 writes: 0,
             },
+            read_log: Log::new(),
+            write_log: Log::new(),
             faults: 0,
             late_reads: 0,
             ends: 0,
@@ -141,42 +147,53 @@ impl LongLink {
 impl Link for LongLink {
     ghost seen = { λ l. record { told = None; counts = record { faults = l.faults; late_reads = l.late_reads; late_writes = 0; ends = l.ends } } };
 
+    ghost calls = { λ l. Some (record { reads = l.read_log.items; writes = l.write_log.items }) };
+
     /// Gives bytes of one part.
     fn read(&mut self, buffer: &mut [u8]) -> Got {
-        self.calls.add_read(buffer.len());
-        if matches!(self.client.part, Part::Nothing) {
+        let room = buffer.len();
+        self.calls.add_read(room);
+        let got = if matches!(self.client.part, Part::Nothing) {
             self.ends = self.ends.saturating_add(1);
-            return Got::End;
-        }
-        let count = self.client.copy(buffer);
-        if count == 0 {
-            self.late_reads = self.late_reads.saturating_add(1);
-            return Got::NotReady;
-        }
-        Got::Got(count as u64)
+            Got::End
+        } else {
+            let count = self.client.copy(buffer);
+            if count == 0 {
+                self.late_reads = self.late_reads.saturating_add(1);
+                Got::NotReady
+            } else {
+                Got::Got(count as u64)
+            }
+        };
+        self.read_log = self.read_log.and(&room, &got);
+        got
     }
 
     fn write(&mut self, bytes: &[u8]) -> Sent {
         self.calls.add_write();
-        match self.taken.add(bytes) {
+        let sent = match self.taken.add(bytes) {
             Ok(()) => Sent::Put(bytes.len() as u64),
             Err(NoMemory) => {
                 self.faults = self.faults.saturating_add(1);
                 Sent::Failed
             }
-        }
+        };
+        self.write_log = self.write_log.and(&bytes.len(), &sent);
+        sent
     }
 
     fn write_pair(&mut self, first: &[u8], second: &[u8]) -> Sent {
         self.calls.add_write();
         let before = self.taken.len();
-        match self.taken.add_pair(first, second) {
+        let sent = match self.taken.add_pair(first, second) {
             Ok(()) => Sent::Put((self.taken.len() - before) as u64),
             Err(NoMemory) => {
                 self.faults = self.faults.saturating_add(1);
                 Sent::Failed
             }
-        }
+        };
+        self.write_log = self.write_log.and(&(first.len() + second.len()), &sent);
+        sent
     }
 
     fn shut(&mut self) -> bool {

@@ -14,20 +14,24 @@ use stand_ins::{Calls, Files, MemStore};
 use std::alloc::Global;
 use test_rows::{Marks, Sheet, number_of, text_of, words};
 
-/// A site of the folder `htdocs`, whose index is `index.html`.
-fn htdocs(alloc: Global) -> Result<SiteOrder, NoMemory>
+/// A site of the folder `htdocs`, whose index is `index.html`, with the status page or without.
+fn htdocs(alloc: Global, status: bool) -> Result<SiteOrder, NoMemory>
     ensures { IfOk result (λ order. IsUtf8 order.root × IsUtf8 order.index) }
 {
     let root = Octets::of(alloc, "htdocs".as_bytes())?;
     let index = Octets::of(alloc, "index.html".as_bytes())?;
-    Ok(SiteOrder { root, index })
+    Ok(SiteOrder {
+        root,
+        index,
+        status,
+    })
 }
 
-/// A site of an index, ten digits, an empty file and a folder.
-pub fn digits_site(alloc: Global) -> Result<Site, LoadFault> {
+/// A site of an index, ten digits, an empty file and a folder, with the status page or without.
+pub fn digits_site(alloc: Global, status: bool) -> Result<Site, LoadFault> {
     let mut files = Files::make(alloc);
     set_digits(&mut files)?;
-    site_with(alloc, files)
+    site_with(alloc, files, status)
 }
 
 /// Sets an index, ten digits, an empty file and a folder.
@@ -42,12 +46,12 @@ fn set_digits(files: &mut Files) -> Result<(), NoMemory> {
 pub fn large_site(alloc: Global, bytes: &[u8]) -> Result<Site, LoadFault> {
     let mut files = Files::make(alloc);
     files.set("htdocs/large.bin", bytes)?;
-    site_with(alloc, files)
+    site_with(alloc, files, true)
 }
 
-/// A site of these files.
-fn site_with(alloc: Global, files: Files) -> Result<Site, LoadFault> {
-    let order = htdocs(alloc)?;
+/// A site of these files, with the status page or without.
+fn site_with(alloc: Global, files: Files, status: bool) -> Result<Site, LoadFault> {
+    let order = htdocs(alloc, status)?;
     let mut store = MemStore::make(alloc, files, Calls::make(alloc));
     load(alloc, &mut store, &order)
 }
@@ -126,19 +130,21 @@ struct Dated {
     last: bool,
 }
 
-/// Shows the response to each head. The words of the section say the second of its date, and whether it is the last.
+/// Shows the response to each head. The words of the section say the second of its date, whether it is the last, and whether the site
+/// hides its status page.
 pub fn show_answers(
     sheet: &mut Sheet,
     alloc: Global,
     kind: &str,
     rows: &str,
 ) -> Result<(), NoMemory> {
-    let (second, last) = words(kind);
+    let (second, rest) = words(kind);
+    let (last, hidden) = words(rest);
     let dated = Dated {
         second: number_of(second),
         last: last == "last",
     };
-    match digits_site(alloc) {
+    match digits_site(alloc, hidden != "hidden") {
         Ok(site) => show_answers_of(sheet, alloc, &site, dated, rows),
         Err(_) => Err(NoMemory),
     }

@@ -1,9 +1,10 @@
 -- What a front and a clock counted where a run opens, in the parts of its turns, and at its end.
 use Rattle.std.proofs.Common.{◌≡◌, ◌⊎◌, inl, inr, IsErrAnd, ◌≤◌, ◌+◌, ℕ, Bool, true, false, cond, List, [], ◌∷◌, None, Option, Some, Result, Ok, Err, max, refl, sym, ap, subst, ◌∙◌, arith}
 use Rattle.std.proofs.lemmas.List.Sums.{sum_by-cons}
-use Rattle.mpm_base.specs.Count.{CountsWhere}
+use Rattle.mpm_base.specs.Count.{CountsWhere, Rises, RisesJustBy}
 use Rattle.mpm_base.specs.Front.{FrontCounts, FrontSeen}
 use Rattle.mpm_base.specs.declared.front.Woke.{Woke}
+use Rattle.mpm_base.specs.declared.given_words.GivenWords.{GivenWords}
 use Rattle.mpm_base.specs.declared.front.Woke.TheVariants as woke
 use Rattle.conn_machine.specs.declared.event.Commanded.TheVariants.{Stop}
 use Rattle.conn_machine.specs.declared.event.Entry.{Entry}
@@ -321,3 +322,14 @@ pub clock-opened : (n : RunNumbers) (first : ℕ) (b : SeenBook) → b ≡ opene
 clock-opened n first b opened =
     let none : b.state.moment ≡ 0 = ap (λ (x : SeenBook). x.state.moment) opened in
     omega (arith, none)
+
+-- behind an answer it counted what it had of these
+pub counts-left : (old x y : FrontCounts) (a d : SeenBook) → y.words ≡ x.words → y.handed ≡ x.handed → CountsToEnd old x a d → CountsToEnd old y a d
+counts-left old x y a d words handed counts first so =
+    let at : CountsRun d first x = counts first so in
+    record {
+      orders = subst (λ (w : GivenWords). CountsBut d.state.going (orders_in d) first.words.graceful w.graceful) (sym words) at.orders;
+      ending = λ ended. subst (λ (w : GivenWords). Rises first.words.graceful_stop w.graceful_stop) (sym words) (at.ending ended);
+      stops = subst (λ (w : GivenWords). RisesJustBy (stops_at d.state.going) first.words.stop w.stop) (sym words) at.stops;
+      links = subst (CountsBut d.state.going d.state.accepted first.handed) (sym handed) at.links;
+    }

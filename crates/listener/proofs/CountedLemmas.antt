@@ -16,7 +16,7 @@ use Rattle.board.specs.Book.{SeenBook}
 use Rattle.board.specs.Editions.{orders_in}
 use Rattle.listener.specs.CountedInside.{CountsOn, CountsUntil, LacksLink}
 use Rattle.listener.specs.OrdersInside.{MayHush}
-use Rattle.listener.proofs.LineLemmas.{other-word}
+use Rattle.listener.proofs.LineLemmas.{IsIdle, other-word}
 use Rattle.run_report.proofs.CountLemmas.{rises-behind}
 
 -- ## Counts
@@ -99,17 +99,16 @@ same-none old new gave = record {
   handed = gave.handed;
 }
 
--- where one says none of the words
-pub same-dropped : (old new : FrontSeen) (line : List ℕ) → ((w : CommandWord) → line ≢ command_word w) → Commands old new (Some line)
-    → CountsSame old.counts new.counts
-same-dropped old new line unknown gave = record {
-  graceful = silent word.Graceful old.counts.words.graceful new.counts.words.graceful gave.words.graceful;
-  graceful_stop = silent word.GracefulStop old.counts.words.graceful_stop new.counts.words.graceful_stop gave.words.graceful_stop;
-  stop = silent word.Stop old.counts.words.stop new.counts.words.stop gave.words.stop;
+-- where one asks for nothing that the table has an event for
+pub same-dropped : (old new : FrontSeen) (line : List ℕ) → IsIdle line → Commands old new (Some line) → CountsSame old.counts new.counts
+same-dropped old new line idle gave = record {
+  graceful = silent word.Graceful idle.graceful old.counts.words.graceful new.counts.words.graceful gave.words.graceful;
+  graceful_stop = silent word.GracefulStop idle.ending old.counts.words.graceful_stop new.counts.words.graceful_stop gave.words.graceful_stop;
+  stop = silent word.Stop idle.stop old.counts.words.stop new.counts.words.stop gave.words.stop;
   handed = gave.handed;
 } where
-  silent : (w : CommandWord) (a b : ℕ) → CountsWhere (says_word w (Some line)) a b → b ≡ a
-  silent w a b counts = counted-same (says_word w (Some line)) a b (other-word line (command_word w) (unknown w)) counts
+  silent : (w : CommandWord) → line ≢ command_word w → (a b : ℕ) → CountsWhere (says_word w (Some line)) a b → b ≡ a
+  silent w differs a b counts = counted-same (says_word w (Some line)) a b (other-word line (command_word w) differs) counts
 
 -- where no link was handed out
 pub same-unhanded : {L : Type 0} (link_seen : L → LinkSeen) (old new : FrontSeen) (answer : Arrival L)

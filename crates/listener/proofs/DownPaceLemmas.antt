@@ -1,6 +1,6 @@
 -- What is left of the pace once the server was stopped for what ended the turns.
 use Rattle.std.proofs.Common.{◌≡◌, ◌⊎◌, inl, inr, ◌+◌, ℕ, List, [], ◌∷◌, ◌++◌, length, map, replicate, Option, None, Some, option_map, IfSome, Result, Ok, Err, refl, sym, ap, subst, ◌∙◌, append-nil, append_assoc}
-use Rattle.mpm_base.specs.Front.{FrontTold, WaitTold, hushed_front}
+use Rattle.mpm_base.specs.Front.{AnswerTold, FrontTold, WaitTold}
 use Rattle.mpm_base.specs.declared.script_line.CommandWord.TheVariants as word
 use Rattle.conn_machine.specs.declared.event.Entry.{Entry}
 use Rattle.conn_machine.specs.declared.event.Why.TheVariants as why
@@ -12,10 +12,13 @@ use Rattle.rounds.specs.EndsInside.{HaltsAs}
 use Rattle.rounds.specs.PartsInside.{GoesDown}
 use Rattle.rounds.specs.declared.ends.End.{End}
 use Rattle.rounds.specs.declared.ends.End.TheVariants as end
+use Rattle.listener.specs.Heard.{AreReadInPlace, Heard}
 use Rattle.listener.specs.Pace.{AreMadeOf, AreSharesOf, AreSharesOfAll, Brought, IsCutShort, KeepsPace, Share, answers_in, brought, made_from, made_of, moment_behind, moved, ordered, progress_at, signalled, taken, ticked, ticks_by}
 use Rattle.listener.specs.ShareInside.{TurnsMake}
 use Rattle.listener.specs.Times.{answers_of}
 use Rattle.listener.proofs.BroughtLemmas.{brings-halts, brings-retires, brought-as, brought-kept, moves-both, stopped_by, unbrought-gone}
+use Rattle.listener.proofs.FrontCallLemmas.{left_front}
+use Rattle.listener.proofs.PlacedLemmas.{behind-moved, behind-none}
 use Rattle.listener.proofs.ShareLemmas.{answers-more, made-more, shares-moved}
 
 -- ## Children that are let go of at the end
@@ -39,13 +42,13 @@ from-more m before last k none =
     ∙ ap (λ (xs : List Brought). made_from m before ++ xs) (moved-more (moment_behind m before) last k none)
     ∙ sym (made-more m before (record last { moves = last.moves + k }))
 
--- ## The front that was hushed
+-- ## The front that was left
 
-shares-hushed : (rows : ℕ) (t : FrontTold) (waits : List WaitTold) (shares : List Share) → AreSharesOf rows t waits shares
-    → AreSharesOf rows (hushed_front t) waits shares
-shares-hushed rows t [] shares are = are
-shares-hushed rows t (w ∷ waits) [] are = are
-shares-hushed rows t (w ∷ []) (s ∷ shares) are = (
+shares-hushed : (rows : ℕ) (more : List AnswerTold) (t : FrontTold) (waits : List WaitTold) (shares : List Share) → AreSharesOf rows t waits shares
+    → AreSharesOf rows (left_front more t) waits shares
+shares-hushed rows more t [] shares are = are
+shares-hushed rows more t (w ∷ waits) [] are = are
+shares-hushed rows more t (w ∷ []) (s ∷ shares) are = (
   record {
     answer = are.0.answer;
     signals = are.0.signals;
@@ -56,7 +59,7 @@ shares-hushed rows t (w ∷ []) (s ∷ shares) are = (
   },
   are.1,
 )
-shares-hushed rows t (w ∷ x ∷ waits) (s ∷ shares) are = (
+shares-hushed rows more t (w ∷ x ∷ waits) (s ∷ shares) are = (
   record {
     answer = are.0.answer;
     signals = are.0.signals;
@@ -65,26 +68,28 @@ shares-hushed rows t (w ∷ x ∷ waits) (s ∷ shares) are = (
     orders = are.0.orders;
     handed = are.0.handed;
   },
-  shares-hushed rows t (x ∷ waits) shares are.1,
+  shares-hushed rows more t (x ∷ waits) shares are.1,
 )
 
-first-hushed : (P : ℕ → Type 0) (t : FrontTold) (waits : List WaitTold) → P (progress_at t waits).read → P (progress_at (hushed_front t) waits).read
-first-hushed P t [] holds = holds
-first-hushed P t (w ∷ waits) holds = holds
+first-hushed : (P : ℕ → Type 0) (more : List AnswerTold) (t : FrontTold) (waits : List WaitTold) → P (progress_at t waits).read
+    → P (progress_at (left_front more t) waits).read
+first-hushed P more t [] holds = holds
+first-hushed P more t (w ∷ waits) holds = holds
 
-taken-hushed : (P : ℕ → Type 0) (t : FrontTold) (waits : List WaitTold) → P (progress_at t waits).accepted → P (progress_at (hushed_front t) waits).accepted
-taken-hushed P t [] holds = holds
-taken-hushed P t (w ∷ waits) holds = holds
+taken-hushed : (P : ℕ → Type 0) (more : List AnswerTold) (t : FrontTold) (waits : List WaitTold) → P (progress_at t waits).accepted
+    → P (progress_at (left_front more t) waits).accepted
+taken-hushed P more t [] holds = holds
+taken-hushed P more t (w ∷ waits) holds = holds
 
-all-hushed : (rows : ℕ) (told told' : Option FrontTold) (shares : List Share) → told' ≡ option_map hushed_front told
+all-hushed : (rows : ℕ) (more : List AnswerTold) (told told' : Option FrontTold) (shares : List Share) → told' ≡ option_map (left_front more) told
     → IfSome told (λ t. AreSharesOfAll rows t shares) → IfSome told' (λ t. AreSharesOfAll rows t shares)
-all-hushed rows None told' shares is are = subst (λ (o : Option FrontTold). IfSome o (λ t. AreSharesOfAll rows t shares)) (sym is) tt
-all-hushed rows (Some t) told' shares is are =
+all-hushed rows more None told' shares is are = subst (λ (o : Option FrontTold). IfSome o (λ t. AreSharesOfAll rows t shares)) (sym is) tt
+all-hushed rows more (Some t) told' shares is are =
     subst (λ (o : Option FrontTold). IfSome o (λ t. AreSharesOfAll rows t shares)) (sym is)
     (record {
-      unread = first-hushed (λ n. n ≡ 0) t t.waits are.unread;
-      untaken = taken-hushed (λ n. n ≡ 0) t t.waits are.untaken;
-      each = shares-hushed rows t t.waits shares are.each;
+      unread = first-hushed (λ n. n ≡ 0) more t t.waits are.unread;
+      untaken = taken-hushed (λ n. n ≡ 0) more t t.waits are.untaken;
+      each = shares-hushed rows more t t.waits shares are.each;
     })
 
 -- ## Shares whose last one has children of the end
@@ -103,6 +108,25 @@ answers-moved None before last moves are = tt
 answers-moved (Some calls) before last moves are =
     answers-more before (record last { moves = moves }) ∙ sym (answers-more before last) ∙ are
 
+-- and the lines are read in their places among them
+places-moved : (told : Option FrontTold) (entries : List Entry) (first : ℕ) (before : List Share) (last : Share) (moves : ℕ) (heard : List Heard)
+    → IfSome told (AreReadInPlace entries first (before ++ last ∷ []) heard)
+    → IfSome told (AreReadInPlace entries first (before ++ record last { moves = moves } ∷ []) heard)
+places-moved None entries first before last moves heard placed = tt
+places-moved (Some t) entries first before last moves heard placed =
+    λ few. behind-moved t entries (replicate first moved) 0 t.waits before last moves heard (placed few)
+
+places-none : (told : Option FrontTold) (entries : List Entry) (first first' : ℕ) (heard : List Heard) → IfSome told (AreReadInPlace entries first [] heard)
+    → IfSome told (AreReadInPlace entries first' [] heard)
+places-none None entries first first' heard placed = tt
+places-none (Some t) entries first first' heard placed =
+    λ few. behind-none t entries (replicate first moved) (replicate first' moved) 0 t.waits heard (placed few)
+
+-- the pace, and these lines in their places among its shares
+abbrev pub PacesLines : ℕ → Option FrontTold → Option (List (ℕ × ℕ)) → Going → List Entry → List Heard → Type 0
+PacesLines rows told calls going entries heard =
+    (pace : KeepsPace rows told calls going entries) × IfSome told (AreReadInPlace entries pace.first pace.shares heard)
+
 -- ## What the end brings
 
 -- what stops the server, and the children that are let go of then
@@ -118,91 +142,105 @@ down-brings turns b d down =
 -- ## The pace in the end
 
 -- the pace of a run that stopped so, whose entries bring this
-module _ (rows : ℕ) (told : Option FrontTold) (calls : Option (List (ℕ × ℕ))) (entries : List Entry) (first : ℕ) where
+module _ (rows : ℕ) (told : Option FrontTold) (calls : Option (List (ℕ × ℕ))) (entries : List Entry) (first : ℕ) (heard : List Heard) where
   -- where all was made of the shares, with the last of which none was handed out
   whole-down : (going : Going) (before : List Share) (last : Share) (made : List Brought) (k : ℕ)
       → IfSome told (λ t. AreSharesOfAll rows t (before ++ last ∷ [])) → IfSome calls (λ calls. answers_in (before ++ last ∷ []) ≡ answers_of calls)
       → last.handed ≡ 0 → made ≡ made_from 0 (before ++ last ∷ []) → brought entries ≡ replicate first moved ++ (made ++ replicate k moved)
-      → ((shares : List Share) (all : List Brought) → all ≡ made_from 0 shares → AreMadeOf going shares all) → KeepsPace rows told calls going entries
-  whole-down going before last made k are answers none made_are brings makes = record {
-    shares = before ++ record last { moves = last.moves + k } ∷ [];
-    waits = all-moved rows told before last (last.moves + k) are;
-    answers = answers-moved calls before last (last.moves + k) answers;
-    first = first;
-    made = made ++ replicate k moved;
-    brought_is = brings;
-    are =
-        makes (before ++ record last { moves = last.moves + k } ∷ []) (made ++ replicate k moved)
-        (ap (λ (xs : List Brought). xs ++ replicate k moved) made_are ∙ from-more 0 before last k none);
-  }
+      → ((shares : List Share) (all : List Brought) → all ≡ made_from 0 shares → AreMadeOf going shares all)
+      → IfSome told (AreReadInPlace entries first (before ++ last ∷ []) heard) → PacesLines rows told calls going entries heard
+  whole-down going before last made k are answers none made_are brings makes placed = (
+    record {
+      shares = before ++ record last { moves = last.moves + k } ∷ [];
+      waits = all-moved rows told before last (last.moves + k) are;
+      answers = answers-moved calls before last (last.moves + k) answers;
+      first = first;
+      made = made ++ replicate k moved;
+      brought_is = brings;
+      are =
+          makes (before ++ record last { moves = last.moves + k } ∷ []) (made ++ replicate k moved)
+          (ap (λ (xs : List Brought). xs ++ replicate k moved) made_are ∙ from-more 0 before last k none);
+    },
+    places-moved told entries first before last (last.moves + k) heard placed,
+  )
 
   -- where nothing was signalled of the last one
   overdue-down : (before : List Share) (last : Share) (made : List Brought) (k : ℕ) → IfSome told (λ t. AreSharesOfAll rows t (before ++ last ∷ []))
       → IfSome calls (λ calls. answers_in (before ++ last ∷ []) ≡ answers_of calls) → last.handed ≡ 0
       → made ≡ made_from 0 (before ++ record last { signals = [] } ∷ []) → brought entries ≡ replicate first moved ++ (made ++ replicate k moved)
-      → KeepsPace rows told calls (Halted why.Overdue) entries
-  overdue-down before last made k are answers none made_are brings = record {
-    shares = before ++ record last { moves = last.moves + k } ∷ [];
-    waits = all-moved rows told before last (last.moves + k) are;
-    answers = answers-moved calls before last (last.moves + k) answers;
-    first = first;
-    made = made ++ replicate k moved;
-    brought_is = brings;
-    are =
-        record {
-          before = before;
-          last = record last { moves = last.moves + k };
-          shares_are = refl;
-          made_are =
-              ap (λ (xs : List Brought). xs ++ replicate k moved) made_are ∙ from-more 0 before (record last { signals = [] }) k none;
-        };
-  }
+      → IfSome told (AreReadInPlace entries first (before ++ last ∷ []) heard) → PacesLines rows told calls (Halted why.Overdue) entries heard
+  overdue-down before last made k are answers none made_are brings placed = (
+    record {
+      shares = before ++ record last { moves = last.moves + k } ∷ [];
+      waits = all-moved rows told before last (last.moves + k) are;
+      answers = answers-moved calls before last (last.moves + k) answers;
+      first = first;
+      made = made ++ replicate k moved;
+      brought_is = brings;
+      are =
+          record {
+            before = before;
+            last = record last { moves = last.moves + k };
+            shares_are = refl;
+            made_are =
+                ap (λ (xs : List Brought). xs ++ replicate k moved) made_are ∙ from-more 0 before (record last { signals = [] }) k none;
+          };
+    },
+    places-moved told entries first before last (last.moves + k) heard placed,
+  )
 
   -- where the end was missing of the last one
   cut-down : (shares : List Share) (made : List Brought) (k : ℕ) → IfSome told (λ t. AreSharesOfAll rows t shares)
       → IfSome calls (λ calls. answers_in shares ≡ answers_of calls) → IsCutShort shares made
-      → brought entries ≡ replicate first moved ++ (made ++ replicate k moved) → KeepsPace rows told calls (Halted why.NoMemory) entries
-  cut-down shares made k are answers cut brings =
-      let so_far = made_from 0 cut.before ++ cut.part in
-      record {
-        shares = shares;
-        waits = are;
-        answers = answers;
-        first = first;
-        made = made ++ replicate k moved;
-        brought_is = brings;
-        are =
-            inr (record {
-              before = cut.before;
-              last = cut.last;
-              part = cut.part;
-              missing = cut.missing;
-              behind = cut.behind + k;
-              shares_are = cut.shares_are;
-              made_are =
-                  ap (λ (xs : List Brought). xs ++ replicate k moved) cut.made_are
-                  ∙ append_assoc so_far (replicate cut.behind moved) (replicate k moved)
-                  ∙ ap (λ (xs : List Brought). so_far ++ xs) (moves-both cut.behind k);
-              rest = cut.rest;
-            });
-      }
+      → brought entries ≡ replicate first moved ++ (made ++ replicate k moved) → IfSome told (AreReadInPlace entries first shares heard)
+      → PacesLines rows told calls (Halted why.NoMemory) entries heard
+  cut-down shares made k are answers cut brings placed =
+      let so_far = made_from 0 cut.before ++ cut.part in (
+        record {
+          shares = shares;
+          waits = are;
+          answers = answers;
+          first = first;
+          made = made ++ replicate k moved;
+          brought_is = brings;
+          are =
+              inr (record {
+                before = cut.before;
+                last = cut.last;
+                part = cut.part;
+                missing = cut.missing;
+                behind = cut.behind + k;
+                shares_are = cut.shares_are;
+                made_are =
+                    ap (λ (xs : List Brought). xs ++ replicate k moved) cut.made_are
+                    ∙ append_assoc so_far (replicate cut.behind moved) (replicate k moved)
+                    ∙ ap (λ (xs : List Brought). so_far ++ xs) (moves-both cut.behind k);
+                rest = cut.rest;
+              });
+        },
+        placed,
+      )
 
   -- where there was no share they are of the first ones
   none-down : (made : List Brought) (k : ℕ) → IfSome told (λ t. AreSharesOfAll rows t []) → IfSome calls (λ calls. answers_in [] ≡ answers_of calls)
-      → made ≡ [] → brought entries ≡ replicate first moved ++ (made ++ replicate k moved) → KeepsPace rows told calls (Halted why.NoMemory) entries
-  none-down made k are answers none brings = record {
-    shares = [];
-    waits = are;
-    answers = answers;
-    first = first + k;
-    made = [];
-    brought_is =
-        brings
-        ∙ ap (λ (xs : List Brought). replicate first moved ++ (xs ++ replicate k moved)) none
-        ∙ moves-both first k
-        ∙ sym (append-nil (replicate (first + k) moved));
-    are = inl refl;
-  }
+      → made ≡ [] → brought entries ≡ replicate first moved ++ (made ++ replicate k moved) → IfSome told (AreReadInPlace entries first [] heard)
+      → PacesLines rows told calls (Halted why.NoMemory) entries heard
+  none-down made k are answers none brings placed = (
+    record {
+      shares = [];
+      waits = are;
+      answers = answers;
+      first = first + k;
+      made = [];
+      brought_is =
+          brings
+          ∙ ap (λ (xs : List Brought). replicate first moved ++ (xs ++ replicate k moved)) none
+          ∙ moves-both first k
+          ∙ sym (append-nil (replicate (first + k) moved));
+      are = inl refl;
+    },
+    places-none told entries first (first + k) heard placed,
+  )
 
 -- a list has a last item, or is empty
 data EndsWith (shares : List Share) : Type 0 where
@@ -217,17 +255,18 @@ ends-with (s ∷ shares) = by (ends-with shares) where
   by (with_last before last is) = with_last (s ∷ before) last (ap (λ (xs : List Share). s ∷ xs) is)
 
 -- turns that were broken off
-broken-down : (rows : ℕ) (told : Option FrontTold) (calls : Option (List (ℕ × ℕ))) (entries : List Entry) (first : ℕ) (shares : List Share) (made : List Brought)
+broken-down : (rows : ℕ) (told : Option FrontTold) (calls : Option (List (ℕ × ℕ))) (entries : List Entry) (first : ℕ) (heard : List Heard) (shares : List Share) (made : List Brought)
     (k : ℕ) → EndsWith shares → IfSome told (λ t. AreSharesOfAll rows t shares) → IfSome calls (λ calls. answers_in shares ≡ answers_of calls)
     → (made ≡ made_from 0 shares) ⊎ IsCutShort shares made → brought entries ≡ replicate first moved ++ (made ++ replicate k moved)
-    → KeepsPace rows told calls (Halted why.NoMemory) entries
-broken-down rows told calls entries first shares made k ends are answers (inr cut) brings =
-    cut-down rows told calls entries first shares made k are answers cut brings
-broken-down rows told calls entries first shares made k (nothing none) are answers (inl all) brings =
-    none-down rows told calls entries first made k (subst (λ (xs : List Share). IfSome told (λ t. AreSharesOfAll rows t xs)) none are)
+    → IfSome told (AreReadInPlace entries first shares heard) → PacesLines rows told calls (Halted why.NoMemory) entries heard
+broken-down rows told calls entries first heard shares made k ends are answers (inr cut) brings placed =
+    cut-down rows told calls entries first heard shares made k are answers cut brings placed
+broken-down rows told calls entries first heard shares made k (nothing none) are answers (inl all) brings placed =
+    none-down rows told calls entries first heard made k (subst (λ (xs : List Share). IfSome told (λ t. AreSharesOfAll rows t xs)) none are)
     (subst (λ (xs : List Share). IfSome calls (λ calls. answers_in xs ≡ answers_of calls)) none answers) (all ∙ ap (made_from 0) none) brings
-broken-down rows told calls entries first shares made k (with_last before last is) are answers (inl all) brings =
-    cut-down rows told calls entries first shares made k are answers
+    (subst (λ (xs : List Share). IfSome told (AreReadInPlace entries first xs heard)) none placed)
+broken-down rows told calls entries first heard shares made k (with_last before last is) are answers (inl all) brings placed =
+    cut-down rows told calls entries first heard shares made k are answers
     (record {
       before = before;
       last = last;
@@ -239,47 +278,53 @@ broken-down rows told calls entries first shares made k (with_last before last i
           all ∙ ap (made_from 0) is ∙ made-more 0 before last
           ∙ sym (append-nil (made_from 0 before ++ made_of (moment_behind 0 before) last));
       rest = sym (append-nil (made_of (moment_behind 0 before) last));
-    }) brings
+    }) brings placed
 
 -- of turns that ended so
-pub pace-down : (rows : ℕ) (turns : Result End BoardFault) (told told' : Option FrontTold) (calls : Option (List (ℕ × ℕ))) (old going : Going)
-    (entries : List Entry) (first : ℕ) (shares : List Share) (made : List Brought) (k : ℕ) → told' ≡ option_map hushed_front told
+pub pace-down : (rows : ℕ) (answered : List AnswerTold) (turns : Result End BoardFault) (told told' : Option FrontTold) (calls : Option (List (ℕ × ℕ))) (old going : Going)
+    (entries : List Entry) (first : ℕ) (heard : List Heard) (shares : List Share) (made : List Brought) (k : ℕ) → told' ≡ option_map (left_front answered) told
     → HaltsAs turns old going → (turns ≡ Ok end.Gone → (until : Option ℕ) × (old ≡ Ending until)) → IfSome told (λ t. AreSharesOfAll rows t shares)
     → IfSome calls (λ calls. answers_in shares ≡ answers_of calls) → TurnsMake turns shares made
-    → brought entries ≡ replicate first moved ++ (made ++ (map ordered (stopped_by turns) ++ replicate k moved)) → KeepsPace rows told' calls going entries
-pace-down rows (Ok end.Ended) told told' calls old going entries first shares made k hushed halts ending are answers makes brings =
-    subst (λ (x : Going). KeepsPace rows told' calls x entries) (sym halts)
-    (whole-down rows told' calls entries first (Halted why.FrontEnded) makes.before makes.last made k
-    (subst (λ (xs : List Share). IfSome told' (λ t. AreSharesOfAll rows t xs)) makes.shares_are (all-hushed rows told told' shares hushed are))
+    → brought entries ≡ replicate first moved ++ (made ++ (map ordered (stopped_by turns) ++ replicate k moved))
+    → IfSome told' (AreReadInPlace entries first shares heard) → PacesLines rows told' calls going entries heard
+pace-down rows answered (Ok end.Ended) told told' calls old going entries first heard shares made k hushed halts ending are answers makes brings placed =
+    subst (λ (x : Going). PacesLines rows told' calls x entries heard) (sym halts)
+    (whole-down rows told' calls entries first heard (Halted why.FrontEnded) makes.before makes.last made k
+    (subst (λ (xs : List Share). IfSome told' (λ t. AreSharesOfAll rows t xs)) makes.shares_are (all-hushed rows answered told told' shares hushed are))
     (subst (λ (xs : List Share). IfSome calls (λ calls. answers_in xs ≡ answers_of calls)) makes.shares_are answers) makes.none
-    (sym (append-nil made) ∙ makes.made_are ∙ ap (made_from 0) makes.shares_are) brings (λ xs all is. is))
-pace-down rows (Ok end.Failed) told told' calls old going entries first shares made k hushed halts ending are answers makes brings =
-    subst (λ (x : Going). KeepsPace rows told' calls x entries) (sym halts)
-    (whole-down rows told' calls entries first (Halted why.FrontFailed) makes.before makes.last made k
-    (subst (λ (xs : List Share). IfSome told' (λ t. AreSharesOfAll rows t xs)) makes.shares_are (all-hushed rows told told' shares hushed are))
+    (sym (append-nil made) ∙ makes.made_are ∙ ap (made_from 0) makes.shares_are) brings (λ xs all is. is)
+    (subst (λ (xs : List Share). IfSome told' (AreReadInPlace entries first xs heard)) makes.shares_are placed))
+pace-down rows answered (Ok end.Failed) told told' calls old going entries first heard shares made k hushed halts ending are answers makes brings placed =
+    subst (λ (x : Going). PacesLines rows told' calls x entries heard) (sym halts)
+    (whole-down rows told' calls entries first heard (Halted why.FrontFailed) makes.before makes.last made k
+    (subst (λ (xs : List Share). IfSome told' (λ t. AreSharesOfAll rows t xs)) makes.shares_are (all-hushed rows answered told told' shares hushed are))
     (subst (λ (xs : List Share). IfSome calls (λ calls. answers_in xs ≡ answers_of calls)) makes.shares_are answers) makes.none
-    (sym (append-nil made) ∙ makes.made_are ∙ ap (made_from 0) makes.shares_are) brings (λ xs all is. is))
-pace-down rows (Ok end.Asked) told told' calls old going entries first shares made k hushed halts ending are answers makes brings =
+    (sym (append-nil made) ∙ makes.made_are ∙ ap (made_from 0) makes.shares_are) brings (λ xs all is. is)
+    (subst (λ (xs : List Share). IfSome told' (AreReadInPlace entries first xs heard)) makes.shares_are placed))
+pace-down rows answered (Ok end.Asked) told told' calls old going entries first heard shares made k hushed halts ending are answers makes brings placed =
     let stop : List Brought = ordered word.Stop ∷ [] in
-    subst (λ (x : Going). KeepsPace rows told' calls x entries) (sym halts)
-    (whole-down rows told' calls entries first (Halted why.Asked) makes.before makes.last (made ++ stop) k
-    (subst (λ (xs : List Share). IfSome told' (λ t. AreSharesOfAll rows t xs)) makes.shares_are (all-hushed rows told told' shares hushed are))
+    subst (λ (x : Going). PacesLines rows told' calls x entries heard) (sym halts)
+    (whole-down rows told' calls entries first heard (Halted why.Asked) makes.before makes.last (made ++ stop) k
+    (subst (λ (xs : List Share). IfSome told' (λ t. AreSharesOfAll rows t xs)) makes.shares_are (all-hushed rows answered told told' shares hushed are))
     (subst (λ (xs : List Share). IfSome calls (λ calls. answers_in xs ≡ answers_of calls)) makes.shares_are answers) makes.none
     (makes.made_are ∙ ap (made_from 0) makes.shares_are)
-    (brings ∙ ap (λ (xs : List Brought). replicate first moved ++ xs) (sym (append_assoc made stop (replicate k moved)))) (λ xs all is. is))
-pace-down rows (Ok end.Overdue) told told' calls old going entries first shares made k hushed halts ending are answers makes brings =
+    (brings ∙ ap (λ (xs : List Brought). replicate first moved ++ xs) (sym (append_assoc made stop (replicate k moved)))) (λ xs all is. is)
+    (subst (λ (xs : List Share). IfSome told' (AreReadInPlace entries first xs heard)) makes.shares_are placed))
+pace-down rows answered (Ok end.Overdue) told told' calls old going entries first heard shares made k hushed halts ending are answers makes brings placed =
     let un = makes.unsignalled in
-    subst (λ (x : Going). KeepsPace rows told' calls x entries) (sym halts)
-    (overdue-down rows told' calls entries first un.before un.last made k
-    (subst (λ (xs : List Share). IfSome told' (λ t. AreSharesOfAll rows t xs)) un.shares_are (all-hushed rows told told' shares hushed are))
-    (subst (λ (xs : List Share). IfSome calls (λ calls. answers_in xs ≡ answers_of calls)) un.shares_are answers) makes.none un.made_are brings)
-pace-down rows (Ok end.Gone) told told' calls old going entries first shares made k hushed halts ending are answers makes brings =
+    subst (λ (x : Going). PacesLines rows told' calls x entries heard) (sym halts)
+    (overdue-down rows told' calls entries first heard un.before un.last made k
+    (subst (λ (xs : List Share). IfSome told' (λ t. AreSharesOfAll rows t xs)) un.shares_are (all-hushed rows answered told told' shares hushed are))
+    (subst (λ (xs : List Share). IfSome calls (λ calls. answers_in xs ≡ answers_of calls)) un.shares_are answers) makes.none un.made_are brings
+    (subst (λ (xs : List Share). IfSome told' (AreReadInPlace entries first xs heard)) un.shares_are placed))
+pace-down rows answered (Ok end.Gone) told told' calls old going entries first heard shares made k hushed halts ending are answers makes brings placed =
     let until = ending refl in
-    subst (λ (x : Going). KeepsPace rows told' calls x entries) (sym (halts ∙ until.1))
-    (whole-down rows told' calls entries first (Ending until.0) makes.before makes.last made k
-    (subst (λ (xs : List Share). IfSome told' (λ t. AreSharesOfAll rows t xs)) makes.shares_are (all-hushed rows told told' shares hushed are))
+    subst (λ (x : Going). PacesLines rows told' calls x entries heard) (sym (halts ∙ until.1))
+    (whole-down rows told' calls entries first heard (Ending until.0) makes.before makes.last made k
+    (subst (λ (xs : List Share). IfSome told' (λ t. AreSharesOfAll rows t xs)) makes.shares_are (all-hushed rows answered told told' shares hushed are))
     (subst (λ (xs : List Share). IfSome calls (λ calls. answers_in xs ≡ answers_of calls)) makes.shares_are answers) makes.none
-    (sym (append-nil made) ∙ makes.made_are ∙ ap (made_from 0) makes.shares_are) brings (λ xs all is. is))
-pace-down rows (Err fault) told told' calls old going entries first shares made k hushed halts ending are answers makes brings =
-    subst (λ (x : Going). KeepsPace rows told' calls x entries) (sym halts)
-    (broken-down rows told' calls entries first shares made k (ends-with shares) (all-hushed rows told told' shares hushed are) answers makes brings)
+    (sym (append-nil made) ∙ makes.made_are ∙ ap (made_from 0) makes.shares_are) brings (λ xs all is. is)
+    (subst (λ (xs : List Share). IfSome told' (AreReadInPlace entries first xs heard)) makes.shares_are placed))
+pace-down rows answered (Err fault) told told' calls old going entries first heard shares made k hushed halts ending are answers makes brings placed =
+    subst (λ (x : Going). PacesLines rows told' calls x entries heard) (sym halts)
+    (broken-down rows told' calls entries first heard shares made k (ends-with shares) (all-hushed rows answered told told' shares hushed are) answers makes brings placed)

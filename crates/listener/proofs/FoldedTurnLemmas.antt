@@ -43,7 +43,7 @@ module _ (known : Option KnownOutside) (a : SeenListener) (b : SeenBoard) (liste
   all-folded : (first : SeenListener) → HasKept first a → (IsAtStart first.front.told first.board.book → HasPatience a) → WholeFrom known first a
       → WholeFrom known first (record a { board = b })
   all-folded first kept patient whole o n opened begun =
-      whole-folded known o n a b listens (subst (λ (c : _). IsOpenedBy c o) (sym kept.config) opened) (timely-begun known o n first a begun kept.timely)
+      whole-folded known o n first a b listens (subst (λ (c : _). IsOpenedBy c o) (sym kept.config) opened) (timely-begun known o n first a begun kept.timely)
       (λ none. patient (begun.first none)) (whole o n opened begun)
 
   rests-folded : (rest : Rest) → Rests rest a → Rests rest (record a { board = b })

@@ -1,6 +1,6 @@
 -- What a watch, a link that is turned away, the end of listening, a bind and a command line leave of a front.
-use Rattle.std.proofs.Common.{◌≡◌, ℕ, Bool, true, false, not, List, Option, None, Some, is_some, option_map, IfSome, refl, sym, ap, subst, ◌∙◌, arith}
-use Rattle.mpm_base.specs.Front.{FrontTold, FrontSeen, Commands, TellsOn, Binds, after_bind, after_command, after_hush, after_turning_away, after_watch, front_after_turning_away, front_after_watch, hushed_front}
+use Rattle.std.proofs.Common.{◌≡◌, ℕ, Bool, true, false, not, List, [], ◌∷◌, ◌++◌, Option, None, Some, is_some, option_map, IfSome, Result, Ok, Err, refl, sym, ap, subst, ◌∙◌, append-nil, arith}
+use Rattle.mpm_base.specs.Front.{AnswerTold, FrontTold, FrontSeen, Commands, TellsOn, Binds, after_answer, after_bind, after_command, after_hush, after_turning_away, after_watch, front_after_turning_away, front_after_watch, hushed_front}
 use Rattle.mpm_base.specs.GivenWords.{says_word}
 use Rattle.mpm_base.specs.declared.addr.Addr.{Addr}
 use Rattle.mpm_base.specs.declared.conn.ConnName.{ConnName}
@@ -8,8 +8,12 @@ use Rattle.mpm_base.specs.declared.given_words.GivenWords.{GivenWords}
 use Rattle.mpm_base.specs.declared.script_line.CommandWord.TheVariants as word
 use Rattle.mpm_base.specs.Link.{LinkTold}
 use Rattle.conn_machine.specs.declared.state.State.{State}
+use Rattle.board.specs.declared.faults.BoardFault.{BoardFault}
+use Rattle.command_answers.specs.Answers.{stopping_answer}
+use Rattle.rounds.specs.declared.ends.End.{End}
+use Rattle.rounds.specs.declared.ends.End.TheVariants as end
 use Rattle.listener.specs.Watched.{IsHushed}
-use Rattle.listener.specs.ListenInside.{Follows, IsInStep, KeepsStep, OnlyReads, contacts, contacts_of}
+use Rattle.listener.specs.ListenInside.{AnswersStop, Follows, IsInStep, KeepsStep, OnlyReads, contacts, contacts_of}
 use Rattle.listener.specs.Stops.{HasFailedLast, HasGivenAll}
 use Rattle.listener.specs.Times.{waits_of}
 use Rattle.run_report.proofs.CountLemmas.{exactly-stays, where-stays}
@@ -188,4 +192,116 @@ pub reads-trans : (a b c : Option FrontTold) → TellsOn OnlyReads a b → Tells
 reads-trans None b c first second = subst (λ (o : Option FrontTold). TellsOn OnlyReads o c) first second
 reads-trans (Some t) b c first second =
     let later = subst (λ (o : Option FrontTold). TellsOn OnlyReads o c) first.1 second in
-    (later.0, later.1, record { rest = later.2.rest ∙ ap (λ (x : FrontTold). record x { read = later.0.read; hushed = later.0.hushed }) first.2.rest })
+    (later.0, later.1, record { rest = later.2.rest ∙ ap (λ (x : FrontTold). record x { read = later.0.read; answers = later.0.answers; hushed = later.0.hushed }) first.2.rest })
+
+-- ## The end
+
+-- listening was stopped, and then these answers were given
+abbrev pub left_front : List AnswerTold → FrontTold → FrontTold
+left_front more t = record t { hushed = true; answers = t.answers ++ more }
+
+left-answered : (text : List ℕ) (told told' : Option FrontTold) → told' ≡ option_map (after_answer text) (option_map hushed_front told)
+    → (more : List AnswerTold) × (told' ≡ option_map (left_front more) told)
+left-answered text None told' is = ([], is)
+left-answered text (Some t) told' is = (record { read = t.read; text = text } ∷ [], is)
+
+left-hushed : (told told' : Option FrontTold) → told' ≡ option_map hushed_front told → told' ≡ option_map (left_front []) told
+left-hushed None told' is = is
+left-hushed (Some t) told' is = is ∙ ap (λ (answers : List AnswerTold). Some (record t { hushed = true; answers = answers })) (sym (append-nil t.answers))
+
+-- so it is behind turns that ended so
+pub left-so : (turns : Result End BoardFault) (f hushed f' : FrontSeen) → hushed ≡ after_hush f → AnswersStop turns hushed f'
+    → (more : List AnswerTold) × (f'.told ≡ option_map (left_front more) f.told)
+left-so (Ok end.Asked) f hushed f' is given =
+    left-answered stopping_answer f.told f'.told
+    (ap (λ (x : FrontSeen). x.told) given.rest ∙ ap (λ (x : FrontSeen). option_map (after_answer stopping_answer) x.told) is)
+left-so (Ok end.Ended) f hushed f' is same = ([], left-hushed f.told f'.told (ap (λ (x : FrontSeen). x.told) (same ∙ is)))
+left-so (Ok end.Failed) f hushed f' is same = ([], left-hushed f.told f'.told (ap (λ (x : FrontSeen). x.told) (same ∙ is)))
+left-so (Ok end.Overdue) f hushed f' is same = ([], left-hushed f.told f'.told (ap (λ (x : FrontSeen). x.told) (same ∙ is)))
+left-so (Ok end.Gone) f hushed f' is same = ([], left-hushed f.told f'.told (ap (λ (x : FrontSeen). x.told) (same ∙ is)))
+left-so (Err fault) f hushed f' is same = ([], left-hushed f.told f'.told (ap (λ (x : FrontSeen). x.told) (same ∙ is)))
+
+-- and it counted what it had, but for answers
+pub record CountsAsLeft (f f' : FrontSeen) : Type 0 where
+  pub script : f'.script ≡ f.script
+  pub faults : f'.counts.faults ≡ f.counts.faults
+  pub ends : f'.counts.ends ≡ f.counts.ends
+  pub commands : f'.counts.commands ≡ f.counts.commands
+  pub wakes : f'.counts.wakes ≡ f.counts.wakes
+  pub words : f'.counts.words ≡ f.counts.words
+  pub handed : f'.counts.handed ≡ f.counts.handed
+
+left-same : (f f' : FrontSeen) → f' ≡ f → CountsAsLeft f f'
+left-same f f' same = record {
+  script = ap (λ (x : FrontSeen). x.script) same;
+  faults = ap (λ (x : FrontSeen). x.counts.faults) same;
+  ends = ap (λ (x : FrontSeen). x.counts.ends) same;
+  commands = ap (λ (x : FrontSeen). x.counts.commands) same;
+  wakes = ap (λ (x : FrontSeen). x.counts.wakes) same;
+  words = ap (λ (x : FrontSeen). x.counts.words) same;
+  handed = ap (λ (x : FrontSeen). x.counts.handed) same;
+}
+
+pub left-counts : (turns : Result End BoardFault) (hushed f' : FrontSeen) → AnswersStop turns hushed f' → CountsAsLeft hushed f'
+left-counts (Ok end.Asked) hushed f' given = record {
+  script = ap (λ (x : FrontSeen). x.script) given.rest;
+  faults = ap (λ (x : FrontSeen). x.counts.faults) given.rest;
+  ends = ap (λ (x : FrontSeen). x.counts.ends) given.rest;
+  commands = ap (λ (x : FrontSeen). x.counts.commands) given.rest;
+  wakes = ap (λ (x : FrontSeen). x.counts.wakes) given.rest;
+  words = ap (λ (x : FrontSeen). x.counts.words) given.rest;
+  handed = ap (λ (x : FrontSeen). x.counts.handed) given.rest;
+}
+left-counts (Ok end.Ended) hushed f' same = left-same hushed f' same
+left-counts (Ok end.Failed) hushed f' same = left-same hushed f' same
+left-counts (Ok end.Overdue) hushed f' same = left-same hushed f' same
+left-counts (Ok end.Gone) hushed f' same = left-same hushed f' same
+left-counts (Err fault) hushed f' same = left-same hushed f' same
+
+-- what holds of what it told holds of what it tells then, where that is so whatever was answered
+pub left-told : (P : FrontTold → Type 0) (turns : Result End BoardFault) (hushed f' : FrontSeen) → ((text : List ℕ) (t : FrontTold) → P t → P (after_answer text t))
+    → AnswersStop turns hushed f' → IfSome hushed.told P → IfSome f'.told P
+left-told P (Ok end.Asked) hushed f' keeps given holds =
+    answered-holds hushed.told f'.told (ap (λ (x : FrontSeen). x.told) given.rest) holds
+  where
+    answered-holds : (told told' : Option FrontTold) → told' ≡ option_map (after_answer stopping_answer) told → IfSome told P → IfSome told' P
+    answered-holds None told' is holds = subst (λ (x : Option FrontTold). IfSome x P) (sym is) tt
+    answered-holds (Some t) told' is holds = subst (λ (x : Option FrontTold). IfSome x P) (sym is) (keeps stopping_answer t holds)
+left-told P (Ok end.Ended) hushed f' keeps same holds = subst (λ (x : FrontSeen). IfSome x.told P) (sym same) holds
+left-told P (Ok end.Failed) hushed f' keeps same holds = subst (λ (x : FrontSeen). IfSome x.told P) (sym same) holds
+left-told P (Ok end.Overdue) hushed f' keeps same holds = subst (λ (x : FrontSeen). IfSome x.told P) (sym same) holds
+left-told P (Ok end.Gone) hushed f' keeps same holds = subst (λ (x : FrontSeen). IfSome x.told P) (sym same) holds
+left-told P (Err fault) hushed f' keeps same holds = subst (λ (x : FrontSeen). IfSome x.told P) (sym same) holds
+
+left-part : {X : Type 0} (part : FrontTold → X) (more : List AnswerTold) (told told' : Option FrontTold) → ((t : FrontTold) → part (left_front more t) ≡ part t)
+    → told' ≡ option_map (left_front more) told → option_map part told' ≡ option_map part told
+left-part part more None told' same is = ap (option_map part) is
+left-part part more (Some t) told' same is = ap (option_map part) is ∙ ap (λ (x : _). Some x) (same t)
+
+-- what it was bound to, and its dials, are as they were
+pub contacts-left : (turns : Result End BoardFault) (f hushed f' : FrontSeen) → hushed ≡ after_hush f → AnswersStop turns hushed f'
+    → contacts_of f'.told ≡ contacts_of f.told
+contacts-left turns f hushed f' is given =
+    let left = left-so turns f hushed f' is given in
+    left-part contacts left.0 f.told f'.told (λ t. refl) left.1
+
+pub waits-left : (turns : Result End BoardFault) (f hushed f' : FrontSeen) → hushed ≡ after_hush f → AnswersStop turns hushed f'
+    → waits_of f'.told ≡ waits_of f.told
+waits-left turns f hushed f' is given =
+    let left = left-so turns f hushed f' is given in
+    left-part (λ (t : FrontTold). t.waits) left.0 f.told f'.told (λ t. refl) left.1
+
+-- it is still the one that it was
+pub follows-left : (turns : Result End BoardFault) (f hushed f' : FrontSeen) → hushed ≡ after_hush f → AnswersStop turns hushed f' → Follows f f'
+follows-left turns f hushed f' is given =
+    let left = left-so turns f hushed f' is given in
+    let counts = left-counts turns hushed f' given in
+    record {
+      script = counts.script ∙ ap (λ (x : FrontSeen). x.script) is;
+      clients = clients-mapped f.told f'.told (left_front left.0) (λ t. refl) left.1;
+      comings = comings-mapped f.told f'.told (left_front left.0) (λ t. refl) left.1;
+      faults = omega (arith, counts.faults, ap (λ (x : FrontSeen). x.counts.faults) is);
+      ends = omega (arith, counts.ends, ap (λ (x : FrontSeen). x.counts.ends) is);
+      commands = omega (arith, counts.commands, ap (λ (x : FrontSeen). x.counts.commands) is);
+      stops = omega (arith, ap (λ (w : GivenWords). w.stop) counts.words, ap (λ (x : FrontSeen). x.counts.words.stop) is);
+    }

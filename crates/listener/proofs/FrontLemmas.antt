@@ -160,7 +160,7 @@ takes-also : (t t' : FrontTold) → OnlyTakes t t' → OnlyReadsAndTakes t t'
 takes-also t t' only = record {
   rest =
       only.rest
-      ∙ ap (λ (x : FrontTold). record t { accepted = t'.accepted; watches = t'.watches; turned_away = t'.turned_away; read = x.read; hushed = x.hushed; failed = t'.failed })
+      ∙ ap (λ (x : FrontTold). record t { accepted = t'.accepted; watches = t'.watches; turned_away = t'.turned_away; read = x.read; answers = x.answers; hushed = x.hushed; failed = t'.failed })
       (sym only.rest);
 }
 
@@ -168,7 +168,7 @@ reads-also : (t t' : FrontTold) → OnlyReads t t' → OnlyReadsAndTakes t t'
 reads-also t t' only = record {
   rest =
       only.rest
-      ∙ ap (λ (x : FrontTold). record t { accepted = x.accepted; watches = x.watches; turned_away = x.turned_away; read = t'.read; hushed = t'.hushed; failed = x.failed })
+      ∙ ap (λ (x : FrontTold). record t { accepted = x.accepted; watches = x.watches; turned_away = x.turned_away; read = t'.read; answers = t'.answers; hushed = t'.hushed; failed = x.failed })
       (sym only.rest);
 }
 
@@ -177,7 +177,7 @@ reads-takes a b c first second = record {
   rest =
       second.rest
       ∙ ap (λ (x : FrontTold). record x { accepted = c.accepted; watches = c.watches; turned_away = c.turned_away; failed = c.failed }) first.rest
-      ∙ ap (λ (x : FrontTold). record a { accepted = c.accepted; watches = c.watches; turned_away = c.turned_away; read = x.read; hushed = x.hushed; failed = c.failed })
+      ∙ ap (λ (x : FrontTold). record a { accepted = c.accepted; watches = c.watches; turned_away = c.turned_away; read = x.read; answers = x.answers; hushed = x.hushed; failed = c.failed })
       (sym second.rest);
 }
 

@@ -35,7 +35,7 @@ use Rattle.run_report.proofs.CountLemmas.{rises-behind}
 use Rattle.listener.proofs.EditionLemmas.{newest-acts}
 use Rattle.listener.proofs.FrontLemmas.{follows-same, follows-trans}
 use Rattle.listener.proofs.FrontCallLemmas.{follows-command, follows-hushed, reads-command, reads-same, reads-trans}
-use Rattle.listener.proofs.LineLemmas.{HasRead, asks-ending, asks-graceful, asks-nothing, asks-stop, ends-not, is_off, reads-ended, reads-ending, reads-line, reads-none}
+use Rattle.listener.proofs.LineLemmas.{HasRead, IsIdle, asks-ending, asks-graceful, asks-nothing, asks-stop, ends-not, is_off, reads-ended, reads-ending, reads-line, reads-none, words-differ}
 use Rattle.listener.proofs.OrderStandLemmas.{stands-front, stands-line}
 use Rattle.listener.proofs.StandingLemmas.{stands-more}
 use Rattle.listener.proofs.WatchLemmas.{nobody-ordered, watched-as, watched-reads}
@@ -128,6 +128,9 @@ step-told false (Some t) told' s is step = subst (λ (o : Option FrontTold). IsI
 
 pub step-line : (f f' : FrontSeen) (line : List ℕ) (s : State) → Commands f f' (Some line) → IsInStep f.told s → IsInStep f'.told s
 step-line f f' line s gave step = step-told true f.told f'.told s gave.told_is step
+
+pub step-none : (f f' : FrontSeen) (s : State) → Commands f f' None → IsInStep f.told s → IsInStep f'.told s
+step-none f f' s gave step = step-told false f.told f'.told s gave.told_is step
 
 -- ## How the run stands
 
@@ -250,12 +253,12 @@ heeded-more steps known cfg ms ms' ms'' s s' s'' f f' f'' a b c first second = r
 
 -- one asked for nothing
 pub heeded-dropped : ActsInSteps → (known : Option KnownOutside) (c : NamedConfig) (ms : ℕ) (s : StoreSeen) (f f' : FrontSeen) (a : SeenBook) (line : List ℕ)
-    → row_in 0 a ≡ None → StandsInTime a.state → ((w : CommandWord) → line ≢ command_word w) → Commands f f' (Some line)
+    → row_in 0 a ≡ None → StandsInTime a.state → IsIdle line → Commands f f' (Some line)
     → HasHeeded known c ms ms s s f f' a a
-heeded-dropped steps known c ms s f f' a line row in_time unknown gave = record {
+heeded-dropped steps known c ms s f f' a line row in_time idle gave = record {
   does = does-none steps a row;
   words = [];
-  reads = on-line [] line f.told f'.told gave.told_is gave.gives (ends-not line unknown) (λ ending. asks-nothing ending line unknown);
+  reads = on-line [] line f.told f'.told gave.told_is gave.gives (ends-not line idle) (λ ending. asks-nothing ending line idle);
   makes = makes-none a;
   timely = λ before. before;
   in_time = in_time;
@@ -411,18 +414,14 @@ does-unended line words f f' f'' a b is gave step serves reads makes = record {
 
 -- ## Lines that don't stop the server
 
-other-line : (w : CommandWord) (line : List ℕ) → bytes_eq (command_word w) (command_word word.Stop) ≡ false → line ≡ command_word w → line ≢ stop_line
-other-line w line differs is stops =
-    let same : bytes_eq (command_word w) (command_word word.Stop) ≡ bytes_eq (command_word word.Stop) (command_word word.Stop) =
-    ap (λ (l : List ℕ). bytes_eq l (command_word word.Stop)) (sym is ∙ stops) in
-    let both : false ≡ true = sym differs ∙ same in
-    absurd (cc both)
-
 pub graceful-other : (line : List ℕ) → line ≡ command_word word.Graceful → line ≢ stop_line
-graceful-other line is = other-line word.Graceful line refl is
+graceful-other line is = words-differ word.Graceful word.Stop line refl is
 
 pub ending-other : (line : List ℕ) → line ≡ command_word word.GracefulStop → line ≢ stop_line
-ending-other line is = other-line word.GracefulStop line refl is
+ending-other line is = words-differ word.GracefulStop word.Stop line refl is
+
+pub idle-other : (line : List ℕ) → IsIdle line → line ≢ stop_line
+idle-other line idle = idle.stop
 
 -- the line that was read is no stop, and no line before it was
 pub none-stops : (f f' : FrontSeen) (line : List ℕ) → Commands f f' (Some line) → line ≢ stop_line → IfSome f.told HasNoneToHeed

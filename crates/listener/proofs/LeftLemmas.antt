@@ -17,7 +17,8 @@ use Rattle.conn_state.specs.Answered.{SeenEnded}
 use Rattle.conn_state.specs.Known.{KnownOutside}
 use Rattle.board.specs.Editions.{GenerationsKeepTheirEditions, KeepsEditions}
 use Rattle.listener.specs.Counted.{CountsRun, GivesNoEnding}
-use Rattle.listener.specs.RunsInside.{BacksWaits, HasRunBy}
+use Rattle.listener.specs.HeardInside.{WritesOn}
+use Rattle.listener.specs.RunsInside.{BacksWaits, HasRunBy, open_lines_of}
 use Rattle.listener.specs.FirstNumbers.{numbers_of}
 use Rattle.listener.specs.Generations.{Opening, renewed}
 use Rattle.listener.specs.Listen.{HasClosedAll, IsRunFrom}
@@ -82,9 +83,8 @@ store-since going history old mid new same faults (inr broken) = inr (broken.0, 
 -- ## A run
 
 -- what a server that ran by these numbers left of its listener
-pub record LeavesRun (o : Opening) (n : RunNumbers) (l : SeenListener) : Type 0 where
+pub record LeavesRun (o : Opening) (n : RunNumbers) (first l : SeenListener) : Type 0 where
   pub run : IsRunFrom n l.board
-  pub first : SeenListener
   pub stood : HasStood (Some (known_outside o)) o n first l
   pub closed : HasClosedAll l.board
   pub outside : AreOfOutside (Some (known_outside o)) l.board
@@ -95,34 +95,41 @@ pub record LeavesRun (o : Opening) (n : RunNumbers) (l : SeenListener) : Type 0 
   pub unended : GivesNoEnding l.board.book.state.going (all_entries n l.board.book stood.folded) o.front.counts l.front.counts
   pub backed : BacksWaits n l.board
 
+-- such a run, and what it wrote since the listener was the one
+abbrev pub HasWritten : Opening → SeenListener → SeenListener → SeenBoard → Type 0
+HasWritten o first l b = (run : HasRunBy o l.store l.front l.calls b) × WritesOn (open_lines_of run) first.out first.written l.out l.written
+
 -- the laws of editions, and of connections that ended
 module _ (keep : GenerationsKeepTheirEditions) (join : (known : Option KnownOutside) (book : SeenBook) (ended ended' : List SeenEnded) → EndedOfOutside known book ended → EndedOfOutside known book ended' → EndedOfOutside known book (ended ++ ended')) (stay : (known : Option KnownOutside) (old new : SeenBook) (ended : List SeenEnded) → KeepsEditions old new → EndedOfOutside known old ended → EndedOfOutside known new ended) where
-  -- a run that opened so, over the store, the front and the clock that it left so
-  pub has-run-by : (o : Opening) (n : RunNumbers) (l : SeenListener) (b : SeenBoard) → n ≡ numbers_of o.config → b ≡ l.board → LeavesRun o n l
-      → HasRunBy o l.store l.front l.calls b
-  has-run-by o n l b numbers same leaves =
-      let left : LeavesRun o (numbers_of o.config) l = subst (λ (m : RunNumbers). LeavesRun o m l) numbers leaves in
+  -- a run that opened so, over the store, the front and the clock that it left so, and what it wrote
+  pub has-run-by : (o : Opening) (n : RunNumbers) (first l : SeenListener) (b : SeenBoard) → n ≡ numbers_of o.config → b ≡ l.board → LeavesRun o n first l
+      → HasWritten o first l b
+  has-run-by o n first l b numbers same leaves =
+      let left : LeavesRun o (numbers_of o.config) first l = subst (λ (m : RunNumbers). LeavesRun o m first l) numbers leaves in
       let stood = left.stood in
       let m = numbers_of o.config in
-      subst (HasRunBy o l.store l.front l.calls) (sym same)
-      (record {
-        has_run = record {
-          run = left.run;
-          folded = stood.folded;
-          closed = left.closed;
-          ordered = stood.ordered;
-          served = serves-editions keep join stay o m l.board stood.folded stood.outside left.outside.ended;
-          backed = left.backed stood.folded;
-        };
-        outside = record {
-          front = left.front;
-          time = left.time;
-          pace = stood.pace;
-          patient = stood.keeps.patient;
-          stopped = left.stopped;
-        };
-        counted = left.counted;
-        unended = left.unended;
-        given = stood.given;
-        store_is = stood.store;
-      })
+      subst (HasWritten o first l) (sym same) (
+        record {
+          has_run = record {
+            run = left.run;
+            folded = stood.folded;
+            closed = left.closed;
+            ordered = stood.ordered;
+            served = serves-editions keep join stay o m l.board stood.folded stood.outside left.outside.ended;
+            backed = left.backed stood.folded;
+          };
+          outside = record {
+            front = left.front;
+            time = left.time;
+            pace = stood.pace;
+            patient = stood.keeps.patient;
+            stopped = left.stopped;
+          };
+          counted = left.counted;
+          unended = left.unended;
+          given = stood.given;
+          lines = stood.lines;
+          store_is = stood.store;
+        },
+        stood.writes,
+      )

@@ -193,13 +193,43 @@ asks-ending false = refl
 pub other-word : (line other : List ℕ) → line ≢ other → bytes_eq line other ≡ false
 other-word line other differs = false_from_ne_true (bytes_eq line other) (λ same. differs ((bytes_eq-Decides line other).0 same))
 
--- a line that is no word asks for nothing
-pub asks-nothing : (ending : Bool) (line : List ℕ) → ((w : CommandWord) → line ≢ command_word w) → asked_in ending line ≡ []
-asks-nothing ending line unknown =
-    let graceful = other-word line (command_word word.Graceful) (unknown word.Graceful) in
-    let stop = other-word line (command_word word.Stop) (unknown word.Stop) in
-    let ends = other-word line (command_word word.GracefulStop) (unknown word.GracefulStop) in
+-- a line that asks for nothing that the table has an event for
+pub record IsIdle (line : List ℕ) : Type 0 where
+  pub graceful : line ≢ command_word word.Graceful
+  pub stop : line ≢ command_word word.Stop
+  pub ending : line ≢ command_word word.GracefulStop
+
+-- one that is no word is such a line
+pub idle-unknown : (line : List ℕ) → ((w : CommandWord) → line ≢ command_word w) → IsIdle line
+idle-unknown line unknown = record {
+  graceful = unknown word.Graceful;
+  stop = unknown word.Stop;
+  ending = unknown word.GracefulStop;
+}
+
+pub words-differ : (w v : CommandWord) (line : List ℕ) → bytes_eq (command_word w) (command_word v) ≡ false → line ≡ command_word w → line ≢ command_word v
+words-differ w v line differs is other =
+    let same : bytes_eq (command_word w) (command_word v) ≡ bytes_eq (command_word v) (command_word v) =
+    ap (λ (l : List ℕ). bytes_eq l (command_word v)) (sym is ∙ other) in
+    let equal : bytes_eq (command_word v) (command_word v) ≡ true = (bytes_eq-Decides (command_word v) (command_word v)).1 refl in
+    let both : false ≡ true = sym differs ∙ same ∙ equal in
+    absurd (cc both)
+
+-- and so is one that asks for the state
+pub idle-status : (line : List ℕ) → line ≡ command_word word.Status → IsIdle line
+idle-status line is = record {
+  graceful = words-differ word.Status word.Graceful line refl is;
+  stop = words-differ word.Status word.Stop line refl is;
+  ending = words-differ word.Status word.GracefulStop line refl is;
+}
+
+-- it asks for nothing
+pub asks-nothing : (ending : Bool) (line : List ℕ) → IsIdle line → asked_in ending line ≡ []
+asks-nothing ending line idle =
+    let graceful = other-word line (command_word word.Graceful) idle.graceful in
+    let stop = other-word line (command_word word.Stop) idle.stop in
+    let ends = other-word line (command_word word.GracefulStop) idle.ending in
     rw (graceful, stop, ends) refl
 
-pub ends-not : (line : List ℕ) → ((w : CommandWord) → line ≢ command_word w) → asks_to_end line ≡ false
-ends-not line unknown = other-word line (command_word word.GracefulStop) (unknown word.GracefulStop)
+pub ends-not : (line : List ℕ) → IsIdle line → asks_to_end line ≡ false
+ends-not line idle = other-word line (command_word word.GracefulStop) idle.ending

@@ -105,6 +105,8 @@ begun-opened joins known store old n l numbers opened same timeout binds idle = 
       (stands-opened joins known l.config l.edition store old l.front n l.board.book opened timeout binds.commands);
   unused = unused-opened l.front.told l.calls idle;
   unasked = idle.calls_are;
+  words = binds.words;
+  answers = binds.answers_stay;
   first =
       λ none. starts-opened n l.front.told l.calls l.board.book opened idle (nothing-bound n old l.front binds none);
 }

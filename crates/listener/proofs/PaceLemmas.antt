@@ -431,29 +431,30 @@ pace-served steps law rest a b here there abreast patient took read served until
 
 -- ## The end
 
-pub unhushed : (told told' : Option FrontTold) (calls : Option (List (ℕ × ℕ))) (s : State) (history : List Entry) → told' ≡ option_map hushed_front told
+pub unhushed : (change : FrontTold → FrontTold) → ((t : FrontTold) → (change t).comings ≡ t.comings) → ((t : FrontTold) → (change t).waits ≡ t.waits)
+    → (told told' : Option FrontTold) (calls : Option (List (ℕ × ℕ))) (s : State) (history : List Entry) → told' ≡ option_map change told
     → IsPatientRun told calls s history → IsPatientRun told' calls s history
-unhushed None told' calls s history is patient steady = let tells = steady.tells in absurd (cc (is, tells))
-unhushed (Some t) told' calls s history is patient steady =
+unhushed change comings waits None told' calls s history is patient steady = let tells = steady.tells in absurd (cc (is, tells))
+unhushed change comings waits (Some t) told' calls s history is patient steady =
     let tells = steady.tells in
-    let front : hushed_front t ≡ steady.front = cc (is, tells) in
+    let front : change t ≡ steady.front = cc (is, tells) in
     let before : IsSteady (Some t) calls =
     record {
       front = t;
       tells = refl;
       comings = steady.comings;
-      patient = ap (λ (x : FrontTold). x.comings) front ∙ steady.patient;
+      patient = sym (comings t) ∙ ap (λ (x : FrontTold). x.comings) front ∙ steady.patient;
       asked = steady.asked;
       clock = steady.clock;
       echoes = steady.echoes;
     } in
-    subst (λ (ws : List WaitTold). ArePatient steady.comings ws s history) (ap (λ (x : FrontTold). x.waits) front) (patient before)
+    subst (λ (ws : List WaitTold). ArePatient steady.comings ws s history) (sym (waits t) ∙ ap (λ (x : FrontTold). x.waits) front) (patient before)
 
 -- the server was stopped, each connection that waited closed, and each child let go of
 pub patience-down : (turns : Result End BoardFault) (old new : FrontSeen) (calls : Option (List (ℕ × ℕ))) (a d : SeenBook)
     → GoesDown turns a d → new ≡ after_hush old → IsPatientOf old.told calls a → IsPatientOf new.told calls d
 patience-down turns old new calls a d down is patient =
-    unhushed old.told new.told calls d.base d.history (ap (λ (f : FrontSeen). f.told) is)
+    unhushed hushed_front (λ t. refl) (λ t. refl) old.told new.told calls d.base d.history (ap (λ (f : FrontSeen). f.told) is)
     (patience-silent 0 _ None old.told calls down.closed d down.retires.acts (silent-retires down.retires.children).ticks
     (patience-silent 0 _ None old.told calls down.halted down.closed down.closes.acts (silent-gone down.closes.gone).ticks
     (patience-silent 0 _ None old.told calls a down.halted down.halts (silent-halts turns).ticks patient)))

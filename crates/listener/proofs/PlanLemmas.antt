@@ -194,8 +194,9 @@ refused-conf : (o : Opening) (t : StoreTold) (counts counts' : StoreCounts) (why
 refused-conf o t counts counts' why (inl large) = refused-large o t counts counts' why large
 refused-conf o t counts counts' why (inr bad) = refused-bad o t why bad
 
-refused-site : (o : Opening) (t : StoreTold) (counts counts' : StoreCounts) (why : LoadFault) → LacksSite (Some t) o.name o.config counts counts' why → HasNoSite o t
-refused-site o t counts counts' why lacks = record {
+refused-site : (o : Opening) (t : StoreTold) (counts counts' : StoreCounts) (why : LoadFault) (root : List ℕ)
+    → LacksSite (Some t) o.name o.config counts counts' why root → HasNoSite o t
+refused-site o t counts counts' why root lacks = record {
   config = lacks.config;
   accepted = next-config t o.name o.config lacks.config lacks.has;
   fault = why;
@@ -220,12 +221,12 @@ cause-told o number s (Some t) told counts counts' (fault.Conf why) may at is ca
   subst (λ (x : Option StoreTold). IfSome x (λ t. HasNoConfig o (renewed number t))) (sym at)
       (refused-conf o (renewed number t) counts counts' why (subst (λ (x : Option StoreTold). RefusesConfig x o.name counts counts' why) is cause)),
 )
-cause-told o number s None told counts counts' (fault.Load why) may at is cause =
+cause-told o number s None told counts counts' (fault.Load why root) may at is cause =
     (may, subst (λ (x : Option StoreTold). IfSome x (λ t. HasNoSite o (renewed number t))) (sym at) tt)
-cause-told o number s (Some t) told counts counts' (fault.Load why) may at is cause = (
+cause-told o number s (Some t) told counts counts' (fault.Load why root) may at is cause = (
   may,
   subst (λ (x : Option StoreTold). IfSome x (λ t. HasNoSite o (renewed number t))) (sym at)
-      (refused-site o (renewed number t) counts counts' why (subst (λ (x : Option StoreTold). LacksSite x o.name o.config counts counts' why) is cause)),
+      (refused-site o (renewed number t) counts counts' why root (subst (λ (x : Option StoreTold). LacksSite x o.name o.config counts counts' why root) is cause)),
 )
 cause-told o number s told0 told counts counts' fault.StoreFault may at is cause = may
 cause-told o number s told0 told counts counts' fault.NoMemory may at is cause = tt

@@ -115,7 +115,7 @@ failed-count : (reason : ReloadFault) (told : Option StoreTold) (name : List ℕ
     → RisesBy (cond (is_store_refusal (event.Command (commanded.Refused (reason_for reason)))) 1 0) counts.faults counts'.faults
 failed-count fault.Absent told name first counts counts' stays cause = inl (omega (arith, stays))
 failed-count (fault.Conf why) told name first counts counts' stays cause = inl (omega (arith, stays))
-failed-count (fault.Load why) told name first counts counts' stays cause = inl (omega (arith, stays))
+failed-count (fault.Load why root) told name first counts counts' stays cause = inl (omega (arith, stays))
 failed-count fault.StoreFault told name first counts counts' stays cause = rises-one counts.faults counts'.faults cause
 failed-count fault.NoMemory told name first counts counts' stays cause = inl (omega (arith, stays))
 

@@ -45,7 +45,7 @@ no-ticks : (present moment : ℕ) → moment ≡ present → [] ≡ ticks_to pre
 no-ticks present moment same = rw (none-later present moment same) refl
 
 -- time passes as it does by the moment behind the wait
-ticks-for : (answer : Woke) (present moment : ℕ) (calls calls' : Option (List (ℕ × ℕ))) → AsksFor answer present calls calls' moment
+pub ticks-for : (answer : Woke) (present moment : ℕ) (calls calls' : Option (List (ℕ × ℕ))) → AsksFor answer present calls calls' moment
     → ticks_by present (answer_for answer moment) ≡ ticks_to present (moment_for moment)
 ticks-for (woke.Woke m) present moment calls calls' asks = refl
 ticks-for woke.Ended present moment calls calls' asks = no-ticks present moment asks.1

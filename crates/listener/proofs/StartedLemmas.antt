@@ -46,6 +46,7 @@ unused-opened (Some t) calls idle = record {
   watches = idle.front.watches;
   accepted = idle.front.accepted;
   read = idle.front.read;
+  answers = idle.front.answers;
   hushed = idle.front.hushed;
 }
 
@@ -77,6 +78,7 @@ unused-bound listen control (Some t) told' is unused =
       watches = unused.watches;
       turned_away = unused.turned_away;
       read = unused.read;
+      answers = unused.answers;
       bound = refl;
       dialled = unused.dialled;
       hushed = unused.hushed;

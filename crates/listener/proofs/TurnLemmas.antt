@@ -20,6 +20,7 @@ use Rattle.listener.specs.ShareInside.{CutsShare, GoesOnInTime, HushesFor, Makes
 use Rattle.rounds.specs.PartsInside.{NoneHas, PassesTime, ServesSome, StaysTimely, StartsSome}
 use Rattle.rounds.specs.TableInside.{StandsInTime}
 use Rattle.rounds.specs.Timely.{AreTimely, is_at_its_end, is_staffed}
+use Rattle.listener.specs.HeardInside.{Hearing, Hears, HearsUntil, hearing, last_at, made_first}
 use Rattle.listener.specs.StandingInside.{StandsBroken, StandsOn, owed_at}
 use Rattle.listener.specs.Times.{IsInTime, waits_of}
 use Rattle.listener.specs.TurnsInside.{InTime, SeenListener, stands_at}
@@ -167,6 +168,10 @@ module _ (rest : Rest) (pause : Pause) (a w : SeenListener) where
 
 -- ## A round
 
+-- where it stands, and its output
+abbrev pub hears_at : SeenListener → Hearing
+hears_at l = hearing (stands_at l) l.out l.written
+
 -- what became of the front in a round, and that the server goes on behind it
 pub record HasTakenIn (w b : SeenListener) : Type 0 where
   pub timely : StaysTimely w.board.book b.board.book
@@ -185,6 +190,8 @@ pub record HasGoneRound (known : Option KnownOutside) (ended : Option End) (paus
   pub hushes : TellsOn HushesFor w.front.told b.front.told
   pub goes_on : GoesOnInTime ended b.board.book.state
   pub stands : StandsOn known w.config 0 (owed_at ended) (stands_at w) (stands_at b)
+  pub heard :
+      Hears known w.config (made_first pause.moment w.ready w.board.book) (last_at ended) (hears_at w) (hears_at b)
   pub moment : b.board.book.state.moment ≡ max w.board.book.state.moment (moment_for pause.moment)
   pub step : IsInStep b.front.told b.board.book.state
   pub knows : KnowsComing known b.board.book b.config b.store.told
@@ -197,6 +204,7 @@ pub record HasBrokenOff (known : Option KnownOutside) (fault : BoardFault) (paus
   pub share : CutsShare pause.moment w.ready w.front.told b.front.told w.board.book b.board.book
   pub before : is_at_its_end b.board.book.state ≡ false
   pub stands : StandsBroken known w.config (stands_at w) (stands_at b)
+  pub heard : HearsUntil known w.config (made_first pause.moment w.ready w.board.book) (hears_at w) (hears_at b)
   pub listens : IfSome b.front.told (ListensAsServed b.board.book.state)
 
 -- what it did at all

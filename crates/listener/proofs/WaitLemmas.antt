@@ -11,12 +11,14 @@ use Rattle.listener.specs.ListenInside.{AsksFor}
 use Rattle.listener.specs.TurnsInside.{SeenListener}
 
 -- the wait was told this and answered that, the moment is the clock's behind the answer, which tells where it did, and the board is the
--- one that it was; its state is that after the history, and sound. The edition, the store and the configuration are the same
+-- one that it was; its state is that after the history, and sound. The edition, the store, the configuration and the output are the same
 pub record HasWaited (rest : Rest) (pause : Pause) (old new : SeenListener) : Type 0 where
   pub board : new.board ≡ old.board
   pub edition : new.edition ≡ old.edition
   pub store : new.store ≡ old.store
   pub config : new.config ≡ old.config
+  pub out : new.out ≡ old.out
+  pub written : new.written ≡ old.written
   pub state : after old.board.book.base old.board.book.history ≡ old.board.book.state
   pub sound : IsSound old.board.book.state
   pub waits : Waits old.front new.front rest.until rest.quiet pause.woke new.ready
@@ -25,14 +27,16 @@ pub record HasWaited (rest : Rest) (pause : Pause) (old new : SeenListener) : Ty
 
 -- so it was where the present moment is that of the board
 pub has-waited : (rest : Rest) (pause : Pause) (a w : SeenListener) (present : ℕ) → w.board ≡ a.board → w.edition ≡ a.edition → w.store ≡ a.store
-    → w.config ≡ a.config → after a.board.book.base a.board.book.history ≡ a.board.book.state → IsSound a.board.book.state → present ≡ a.board.book.state.moment
+    → w.config ≡ a.config → w.out ≡ a.out → w.written ≡ a.written → after a.board.book.base a.board.book.history ≡ a.board.book.state → IsSound a.board.book.state → present ≡ a.board.book.state.moment
     → Waits a.front w.front rest.until rest.quiet pause.woke w.ready → AsksFor pause.woke present a.calls w.calls pause.moment
     → is_some w.calls ≡ is_some a.calls → HasWaited rest pause a w
-has-waited rest pause a w present board edition store config state sound now waits asks clock = record {
+has-waited rest pause a w present board edition store config out written state sound now waits asks clock = record {
   board = board;
   edition = edition;
   store = store;
   config = config;
+  out = out;
+  written = written;
   state = state;
   sound = sound;
   waits = waits;

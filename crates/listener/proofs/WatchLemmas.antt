@@ -6,7 +6,7 @@ use Rattle.std.proofs.lemmas.List.{map-append}
 use Rattle.std.proofs.lemmas.List.Elements.{filter-append}
 use Rattle.std.specs.List.{flat_map}
 use Rattle.mpm_base.specs.Count.{next_count}
-use Rattle.mpm_base.specs.Front.{FrontTold, GoesForward, TellsOn, WatchTold, after_accept, after_turning_away, after_watch, hushed_front}
+use Rattle.mpm_base.specs.Front.{AnswerTold, FrontTold, GoesForward, TellsOn, WatchTold, after_accept, after_turning_away, after_watch}
 use Rattle.mpm_base.specs.Link.{LinkTold}
 use Rattle.mpm_base.specs.declared.conn.Cause.{Cause}
 use Rattle.mpm_base.specs.declared.conn.Cause.TheVariants.{LinkFailed}
@@ -39,6 +39,7 @@ use Rattle.rounds.specs.PartsInside.{GivesUp, LetsGoOfConns, LetsGoUntil, Depart
 use Rattle.rounds.specs.Moments.{known_slots, ticks_to}
 use Rattle.listener.specs.Watched.{AreClosedAtOnce, IsClosedAtOnce, accepted_names, link_watched, links_from, names_taken, names_given}
 use Rattle.rounds.proofs.AddedLemmas.{added-events, added-own, events_in}
+use Rattle.listener.proofs.FrontCallLemmas.{left_front}
 
 -- ## Events that take no connection
 
@@ -440,8 +441,9 @@ pub watched-turned : (link : Option LinkTold) (told told' : Option FrontTold) (b
     → StaysWatching told told' b b
 watched-turned link told told' b is = watched-mapped told told' (after_turning_away link) b (turned-watches link) is
 
-pub watched-hushed : (told told' : Option FrontTold) (b : SeenBook) → told' ≡ option_map hushed_front told → StaysWatching told told' b b
-watched-hushed told told' b is = watched-mapped told told' hushed_front b (λ t. refl) is
+pub watched-left : (more : List AnswerTold) (told told' : Option FrontTold) (b : SeenBook) → told' ≡ option_map (left_front more) told
+    → StaysWatching told told' b b
+watched-left more told told' b is = watched-mapped told told' (left_front more) b (λ t. refl) is
 
 -- a wait
 pub watched-wait : (until : Option ℕ) (quiet : Bool) (answer : Woke) (ready : List ℕ) (told told' : Option FrontTold) (b : SeenBook)

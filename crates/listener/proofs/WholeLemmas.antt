@@ -8,6 +8,7 @@ use Rattle.conn_machine.specs.declared.event.Entry.{Entry}
 use Rattle.conn_machine.specs.declared.event.Event.{Event}
 use Rattle.conn_machine.specs.declared.state.State.{State}
 use Rattle.conn_machine.specs.Children.{no_child}
+use Rattle.conn_machine.specs.Events.{count_events, is_order}
 use Rattle.conn_machine.specs.Runs.{after}
 use Rattle.conn_machine.specs.States.{unused_row}
 use Rattle.conn_state.specs.Known.{KnownOutside}
@@ -25,6 +26,7 @@ use Rattle.listener.specs.FirstNumbers.{opened_by}
 use Rattle.listener.specs.FirstNumbersInside.{opened_book}
 use Rattle.listener.specs.FoldsInside.{ListensOn}
 use Rattle.listener.specs.Generations.{Opening}
+use Rattle.listener.specs.HeardInside.{HasHeardAll}
 use Rattle.listener.specs.ListenInside.{HasNotBegun, StaysWatching, WatchesAll}
 use Rattle.listener.specs.Pace.{AreSharesOf, AreSharesOfAll, Brought, Share, answers_in, brought, made_from, moment_behind, moved, progress_at}
 use Rattle.listener.specs.Patient.{HasNothingCome, IsPatientEvent, IsPatientRun}
@@ -35,8 +37,10 @@ use Rattle.listener.specs.TurnsInside.{IsBegun, KeepsUp, SeenListener, stands_at
 use Rattle.listener.specs.Watched.{AreClosedAtOnce, link_watched}
 use Rattle.listener.specs.declared.run_numbers.RunNumbers.{RunNumbers}
 use Rattle.listener.proofs.BroughtLemmas.{brings-starts, brought-as, brought-behind}
+use Rattle.listener.proofs.CommandlessLemmas.{commandless-added, commandless-starts}
+use Rattle.listener.proofs.HeardAllLemmas.{all-first, all-later}
 use Rattle.listener.proofs.ShareLemmas.{AreBegunBy}
-use Rattle.listener.proofs.StandingLemmas.{entries-acts}
+use Rattle.listener.proofs.StandingLemmas.{entries-acts, keeps-plain}
 
 -- ## What holds on the way
 
@@ -55,25 +59,26 @@ pub record IsShared (rows : ℕ) (shares : List Share) (t : FrontTold) : Type 0 
   pub begun : AreBegunBy (length t.lines) t.waits
   pub hushed : t.read < greatest_count → t.hushed ≡ list_any asks_to_end (take t.read t.lines)
 
--- the pace of a run that stands so, all of whose entries these are
-pub record IsOnPace (n : RunNumbers) (l : SeenListener) (entries : List Entry) : Type 0 where
+-- the pace of a run that opened so and stands so, all of whose entries these are; and all that was heard, since the listener was the one
+pub record IsOnPace (o : Opening) (n : RunNumbers) (from l : SeenListener) (entries : List Entry) : Type 0 where
   pub shares : List Share
   pub front : IfSome l.front.told (IsShared n.slots shares)
   pub clock : IfSome l.calls (λ calls. answers_in shares ≡ answers_of calls)
   pub first : ℕ
   pub brought_is : brought entries ≡ replicate first moved ++ made_from 0 shares
   pub moment : l.board.book.state.moment ≡ moment_behind 0 shares
+  pub heard : HasHeardAll o n entries first shares None l.front from.out from.written l.out l.written
 
--- both, once the children were started
-pub record IsWhole (known : Option KnownOutside) (o : Opening) (n : RunNumbers) (l : SeenListener) : Type 0 where
+-- both, once the children were started, since the listener was the one
+pub record IsWhole (known : Option KnownOutside) (o : Opening) (n : RunNumbers) (from l : SeenListener) : Type 0 where
   pub past : Past
   pub keeps : KeepsWhole known o n past 0 0 l
   pub begins : BeginsWithStarts (first_children n) (entries_behind past l.board.book)
-  pub pace : IsOnPace n l (entries_behind past l.board.book)
+  pub pace : IsOnPace o n from l (entries_behind past l.board.book)
 
 -- it holds of each run that opened as the first one says
 abbrev pub WholeFrom : Option KnownOutside → SeenListener → SeenListener → Type 0
-WholeFrom known first now = (o : Opening) (n : RunNumbers) → IsOpenedBy first.config o → IsBegun known o n first → IsWhole known o n now
+WholeFrom known first now = (o : Opening) (n : RunNumbers) → IsOpenedBy first.config o → IsBegun known o n first → IsWhole known o n first now
 
 -- it was time for each of the entries that are kept
 pub timely-begun : (known : Option KnownOutside) (o : Opening) (n : RunNumbers) (first now : SeenListener) → IsBegun known o n first
@@ -187,10 +192,26 @@ none-answered : (calls : Option (List (ℕ × ℕ))) → IfSome calls (λ calls.
 none-answered None unasked = tt
 none-answered (Some calls) unasked = sym (ap answers_of unasked)
 
+-- none of the first entries is an order
+begun-orders : (known : Option KnownOutside) (o : Opening) (n : RunNumbers) (l : SeenListener) (b : SeenBoard) → IsBegun known o n l
+    → StartsSome l.board.book b.book → count_events is_order (entries_behind nothing_past b.book) ≡ 0
+begun-orders known o n l b begun starts =
+    let acts = starts.acts in
+    let plain =
+    keeps-plain o (opened_by n) ([] ++ l.board.book.history) acts.entries.0
+    (commandless-added 0 _ None l.board.book b.book acts (commandless-starts starts.children)) in
+    ap (count_events is_order) (entries-acts 0 _ None l.board.book b.book acts [])
+    ∙ plain.orders
+    ∙ ap (λ (x : SeenBook). count_events is_order ([] ++ x.history)) begun.book
+
+begun-told : (P : FrontTold → Type 0) (told : Option FrontTold) → ((t : FrontTold) → HasNotBegun t → P t) → IfSome told HasNotBegun → IfSome told P
+begun-told P None holds unused = tt
+begun-told P (Some t) holds unused = holds t unused
+
 -- what was brought at the start
 pub begun-pace : (known : Option KnownOutside) (o : Opening) (n : RunNumbers) (l : SeenListener) (b : SeenBoard) → IsBegun known o n l
     → StartsSome l.board.book b.book → b.book.state.moment ≡ l.board.book.state.moment
-    → IsOnPace n (record l { board = b }) (entries_behind nothing_past b.book)
+    → IsOnPace o n l (record l { board = b }) (entries_behind nothing_past b.book)
 begun-pace known o n l b begun starts moment =
     let none : brought l.board.book.history ≡ [] = ap (λ (x : SeenBook). brought x.history) begun.book in
     record {
@@ -203,6 +224,11 @@ begun-pace known o n l b begun starts moment =
           ∙ ap (λ (xs : List Brought). xs ++ replicate (length starts.children) moved) none
           ∙ sym (append-nil (replicate (length starts.children) moved));
       moment = moment ∙ ap (λ (x : SeenBook). x.state.moment) begun.book;
+      heard =
+          all-first o n (entries_behind nothing_past b.book) (length starts.children) l.front l.out l.written (begun-orders known o n l b begun starts)
+          (begun-told (λ t. t.read ≡ 0) l.front.told (λ t unused. unused.read) begun.unused)
+          (begun-told (λ t. t.answers ≡ []) l.front.told (λ t unused. unused.answers) begun.unused)
+          (begun-told (λ t. t.waits ≡ []) l.front.told (λ t unused. unused.waits) begun.unused) begun.words begun.answers;
     }
 
 -- and all else, where the children that were started at first are so
@@ -225,12 +251,12 @@ begun-keeps known o n l b opened begun starts stands watched started = record {
 pub whole-begun : (known : Option KnownOutside) (o : Opening) (n : RunNumbers) (l m : SeenListener) → IsOpenedBy l.config o → IsBegun known o n l
     → m ≡ record l { board = m.board } → StartsSome l.board.book m.board.book → BeginsWithStarts (asked_children l.board.book.base) m.board.book.history
     → m.board.book.state.moment ≡ l.board.book.state.moment → StandsOn known l.config 0 0 (stands_at l) (stands_at (record l { board = m.board }))
-    → StaysWatching l.front.told l.front.told l.board.book m.board.book → IsWhole known o n m
+    → StaysWatching l.front.told l.front.told l.board.book m.board.book → IsWhole known o n l m
 whole-begun known o n l m opened begun is starts first moment stands watched =
     let begins : BeginsWithStarts (first_children n) m.board.book.history =
     subst (λ (count : ℕ). BeginsWithStarts count m.board.book.history)
     (ap (λ (x : SeenBook). asked_children x.base) begun.book ∙ ap (min n.shape.target) (length-replicate n.children no_child)) first in
-    subst (IsWhole known o n) (sym is)
+    subst (IsWhole known o n l) (sym is)
     (record {
       past = nothing_past;
       keeps =
@@ -242,30 +268,35 @@ whole-begun known o n l m opened begun is starts first moment stands watched =
 
 -- ## The service
 
--- what another pass did brings nothing
-pub pace-kept : (n : RunNumbers) (a b : SeenListener) (past : Past) → b.front ≡ a.front → b.calls ≡ a.calls
-    → brought b.board.book.history ≡ brought a.board.book.history → b.board.book.state.moment ≡ a.board.book.state.moment
-    → IsOnPace n a (entries_behind past a.board.book) → IsOnPace n b (entries_behind past b.board.book)
-pace-kept n a b past front calls same moment pace = record {
+-- what another pass did brings nothing, and orders nothing
+pub pace-kept : (o : Opening) (n : RunNumbers) (from a : SeenListener) (b : SeenBoard) (past : Past) (more : List Entry)
+    → entries_behind past b.book ≡ entries_behind past a.board.book ++ more
+    → count_events is_order (entries_behind past a.board.book ++ more) ≡ count_events is_order (entries_behind past a.board.book)
+    → brought b.book.history ≡ brought a.board.book.history → b.book.state.moment ≡ a.board.book.state.moment
+    → IsOnPace o n from a (entries_behind past a.board.book) → IsOnPace o n from (record a { board = b }) (entries_behind past b.book)
+pace-kept o n from a b past more grows orders same moment pace = record {
   shares = pace.shares;
-  front = subst (λ (f : _). IfSome f.told (IsShared n.slots pace.shares)) (sym front) pace.front;
-  clock = subst (λ (cs : Option (List (ℕ × ℕ))). IfSome cs (λ calls. answers_in pace.shares ≡ answers_of calls)) (sym calls) pace.clock;
+  front = pace.front;
+  clock = pace.clock;
   first = pace.first;
   brought_is =
-      brought-behind past.entries a.board.book.history b.board.book.history [] (same ∙ sym (append-nil (brought a.board.book.history)))
+      brought-behind past.entries a.board.book.history b.book.history [] (same ∙ sym (append-nil (brought a.board.book.history)))
       ∙ append-nil (brought (past.entries ++ a.board.book.history))
       ∙ pace.brought_is;
   moment = moment ∙ pace.moment;
+  heard =
+      subst (λ (es : List Entry). HasHeardAll o n es pace.first pace.shares None a.front from.out from.written a.out a.written) (sym grows)
+      (all-later o n (entries_behind past a.board.book) more pace.first pace.shares a.front from.out from.written a.out a.written orders pace.heard);
 }
 
 -- ## A fold
 
 -- all entries are the same over a fold of the history
-pub whole-folded : (known : Option KnownOutside) (o : Opening) (n : RunNumbers) (a : SeenListener) (b : SeenBoard) → ListensOn known a.board b → IsOpenedBy a.config o
+pub whole-folded : (known : Option KnownOutside) (o : Opening) (n : RunNumbers) (from a : SeenListener) (b : SeenBoard) → ListensOn known a.board b → IsOpenedBy a.config o
     → AreTimely a.board.book.base a.board.book.history
     → (IfSome o.front.told HasNothingCome → IsPatientRun a.front.told a.calls a.board.book.base a.board.book.history)
-    → IsWhole known o n a → IsWhole known o n (record a { board = b })
-whole-folded known o n a b listens opened timely patient whole =
+    → IsWhole known o n from a → IsWhole known o n from (record a { board = b })
+whole-folded known o n from a b listens opened timely patient whole =
     let keeps = whole.keeps in
     let folded : StandsFolded known o n whole.past (stands_at a) (standing a.edition.stop_ms a.store a.front b.book) =
     listens.folded a.config a.edition.stop_ms a.store a.front o n whole.past opened timely keeps.stands in
@@ -287,7 +318,7 @@ whole-folded known o n a b listens opened timely patient whole =
           };
       begins = subst (BeginsWithStarts (first_children n)) (sym same) whole.begins;
       pace =
-          subst (IsOnPace n (record a { board = b })) (sym same)
+          subst (IsOnPace o n from (record a { board = b })) (sym same)
           (record {
             shares = whole.pace.shares;
             front = whole.pace.front;
@@ -295,6 +326,7 @@ whole-folded known o n a b listens opened timely patient whole =
             first = whole.pace.first;
             brought_is = whole.pace.brought_is;
             moment = ap (λ (s : State). s.moment) listens.state ∙ whole.pace.moment;
+            heard = whole.pace.heard;
           });
     }
   where

@@ -1,6 +1,7 @@
 -- What a run did behind a turn: its pace, and all else.
-use Rattle.std.proofs.Common.{◌≡◌, inl, inr, ◌≤◌, ℕ, List, [], ◌∷◌, ◌++◌, length, max, replicate, Option, None, Some, IfSome, Result, Ok, Err, refl, sym, ap, subst, ◌∙◌, append-nil, append_assoc}
-use Rattle.mpm_base.specs.Front.{FrontTold, moments_in}
+use Rattle.std.proofs.Common.{◌≡◌, inl, inr, ◌≤◌, ℕ, List, [], ◌∷◌, ◌++◌, length, map, max, replicate, Option, None, Some, IfSome, option_map, Bool, Result, Ok, Err, refl, sym, ap, subst, ◌∙◌, append-nil, append_assoc}
+use Rattle.mpm_base.specs.Front.{FrontSeen, FrontTold, moments_in}
+use Rattle.mpm_base.specs.Sink.{SinkSeen}
 use Rattle.mpm_base.specs.declared.front.Woke.{Woke}
 use Rattle.mpm_base.specs.declared.front.Woke.TheVariants as woke
 use Rattle.mpm_base.specs.declared.script_line.CommandWord.TheVariants as word
@@ -16,12 +17,15 @@ use Rattle.rounds.specs.declared.ends.Rest.{Rest}
 use Rattle.rounds.specs.Moments.{known_slots, moment_for}
 use Rattle.rounds.specs.PartsInside.{NoneHas, StartsSome}
 use Rattle.rounds.specs.Started.{BeginsWithStarts}
+use Rattle.rounds.specs.Timely.{AreTimely}
 use Rattle.listener.specs.StartedFirst.{IsStartedFirst, first_children}
 use Rattle.listener.specs.declared.listen.Pause.{Pause}
 use Rattle.listener.specs.declared.run_numbers.RunNumbers.{RunNumbers}
+use Rattle.listener.specs.FirstNumbers.{opened_by}
 use Rattle.listener.specs.Generations.{Opening}
+use Rattle.listener.specs.HeardInside.{HasHeard, HasHeardAll, HasHeardIn, Hears, HearsMore, Unanswered, last_at, made_first, never_answered}
 use Rattle.listener.specs.ListenInside.{HasNoneToHeed, HasNotBegun, IsAtStart, StaysWatching}
-use Rattle.listener.specs.Pace.{AreSharesOfAll, Brought, Share, answers_in, brought, made_from, made_of, moment_behind, moment_by, moved, ordered}
+use Rattle.listener.specs.Pace.{AreSharesOf, AreSharesOfAll, Brought, Share, answers_in, brought, made_from, made_of, moment_behind, moment_by, moved, ordered, signalled, ticked, ticks_by}
 use Rattle.listener.specs.ShareInside.{ComesWith, EndsUntaken, TurnsMake}
 use Rattle.listener.specs.Times.{answers_of}
 use Rattle.listener.specs.ListenInside.{WatchesAll}
@@ -30,44 +34,47 @@ use Rattle.listener.specs.TurnsInside.{HasShares, HasTurned, IsBegun, SeenListen
 use Rattle.rounds.proofs.PassLemmas.{serves-acts}
 use Rattle.rounds.proofs.AddedLemmas.{added-events}
 use Rattle.listener.proofs.BroughtLemmas.{brought-acts, brought-behind, brought-others, brought_by}
-use Rattle.listener.proofs.CommandlessLemmas.{AreCommandless, commandless-served}
+use Rattle.listener.proofs.CommandlessLemmas.{AreCommandless, commandless-added, commandless-served}
 use Rattle.listener.proofs.FrontLemmas.{only-takes, takes-same}
 use Rattle.listener.proofs.HandedLemmas.{counts-same}
+use Rattle.listener.proofs.HeardAllLemmas.{all-turn, keeps-wait, more-none}
+use Rattle.listener.proofs.HeardLineLemmas.{has-kept}
 use Rattle.listener.proofs.PaceLemmas.{HasPatience, patience-past}
 use Rattle.listener.proofs.RoundShareLemmas.{reads-still}
 use Rattle.listener.proofs.ShareLemmas.{made-more, moment-more}
-use Rattle.listener.proofs.SharedLemmas.{answer_for, answers-on, made-for, moment-for, share_for, shared-on, shares-on}
-use Rattle.listener.proofs.StandingLemmas.{so-broken}
+use Rattle.listener.proofs.SharedLemmas.{answer_for, answers-on, made-for, moment-for, share_for, shared-on, shares-on, ticks-for}
+use Rattle.listener.proofs.StandingLemmas.{entries-acts, keeps-plain, so-broken}
 use Rattle.listener.proofs.StandingTurnLemmas.{StandsStep, stands-acted, stands-then, stands-waited}
-use Rattle.listener.proofs.TurnLemmas.{DidSome, HasBrokenOff, HasGoneRound, HasKept, HasServedRows, HasTakenIn}
+use Rattle.listener.proofs.TurnLemmas.{DidSome, HasBrokenOff, HasGoneRound, HasKept, HasServedRows, HasTakenIn, hears_at}
 use Rattle.listener.proofs.WaitLemmas.{HasWaited}
 use Rattle.listener.proofs.WatchLemmas.{nobody-served, watched-as, watched-both, watched-wait}
 use Rattle.listener.proofs.WholeLemmas.{IsOnPace, IsShared, IsWhole, KeepsWhole, WholeFrom, begins-acts, begun-keeps, begun-pace, keeps-up, nothing_past, pace-kept, timely-begun, whole-acts}
 
 -- ## Where the turns end
 
--- the pace of turns that ended so
-pub record EndsOnPace (n : RunNumbers) (turns : Result End BoardFault) (l : SeenListener) (entries : List Entry) : Type 0 where
+-- the pace of turns that ended so, and what was heard, since the listener was the one
+pub record EndsOnPace (o : Opening) (n : RunNumbers) (turns : Result End BoardFault) (from l : SeenListener) (entries : List Entry) : Type 0 where
   pub shares : List Share
   pub are : HasShares n.slots l shares
   pub first : ℕ
   pub made : List Brought
   pub brought_is : brought entries ≡ replicate first moved ++ made
   pub makes : TurnsMake turns shares made
+  pub heard : HasHeardIn turns o n entries first shares l.front from.out from.written l.out l.written
 
 -- and all else
-pub record EndsWhole (known : Option KnownOutside) (o : Opening) (n : RunNumbers) (turns : Result End BoardFault) (l : SeenListener) : Type 0 where
+pub record EndsWhole (known : Option KnownOutside) (o : Opening) (n : RunNumbers) (turns : Result End BoardFault) (from l : SeenListener) : Type 0 where
   pub past : Past
   pub keeps : KeepsWhole known o n past (spare_behind turns) (owed_behind turns) l
-  pub pace : EndsOnPace n turns l (entries_behind past l.board.book)
+  pub pace : EndsOnPace o n turns from l (entries_behind past l.board.book)
 
 abbrev pub EndsFrom : Option KnownOutside → Result End BoardFault → SeenListener → SeenListener → Type 0
-EndsFrom known turns first now = (o : Opening) (n : RunNumbers) → IsOpenedBy first.config o → IsBegun known o n first → EndsWhole known o n turns now
+EndsFrom known turns first now = (o : Opening) (n : RunNumbers) → IsOpenedBy first.config o → IsBegun known o n first → EndsWhole known o n turns first now
 
 -- so they did this of all entries
 pub has-turned : (known : Option KnownOutside) (turns : Result End BoardFault) (first now : SeenListener) → EndsFrom known turns first now
     → (IsAtStart first.front.told first.board.book → HasPatience now) → (o : Opening) (n : RunNumbers) → IsOpenedBy first.config o → IsBegun known o n first
-    → HasTurned known o n turns now
+    → HasTurned known o n turns first now
 has-turned known turns first now ends patient o n opened begun =
     let whole = ends o n opened begun in
     record {
@@ -80,6 +87,7 @@ has-turned known turns first now ends patient o n opened begun =
       made = whole.pace.made;
       brought_is = whole.pace.brought_is;
       makes = whole.pace.makes;
+      heard = whole.pace.heard;
     }
 
 -- the shares of a front that goes on are its shares
@@ -88,14 +96,16 @@ shares-of rows None shares is = tt
 shares-of rows (Some t) shares is = is.are
 
 -- turns that were broken off between two rounds
-pub pace-done : (n : RunNumbers) (fault : BoardFault) (l : SeenListener) (entries : List Entry) → IsOnPace n l entries → EndsOnPace n (Err fault) l entries
-pace-done n fault l entries pace = record {
+pub pace-done : (o : Opening) (n : RunNumbers) (fault : BoardFault) (from l : SeenListener) (entries : List Entry) → IsOnPace o n from l entries
+    → EndsOnPace o n (Err fault) from l entries
+pace-done o n fault from l entries pace = record {
   shares = pace.shares;
   are = record { waits = shares-of n.slots l.front.told pace.shares pace.front; answers = pace.clock };
   first = pace.first;
   made = made_from 0 pace.shares;
   brought_is = pace.brought_is;
   makes = inl refl;
+  heard = (None, tt, pace.heard);
 }
 
 -- ## What is brought
@@ -194,6 +204,82 @@ module _ (steps : ActsInSteps) (known : Option KnownOutside) (rest : Rest) (paus
       ∙ ap (λ (m : ℕ). moment_by m (answer_for pause.woke pause.moment)) here
       ∙ sym (moment-more 0 shares (share_for pause.woke pause.moment s))
 
+  -- ## What was heard
+
+  -- the front read nothing in the wait
+  has-waited-so : (o : Opening) (n : RunNumbers) (past : Past) (pace : IsOnPace o n first a (entries_behind past a.board.book))
+      → HasHeard o (opened_by n) (entries_behind past w.board.book) o.front w.front pace.heard.heard
+  has-waited-so o n past pace =
+      subst (λ (x : SeenBook). HasHeard o (opened_by n) (entries_behind past x) o.front w.front pace.heard.heard) (sym book_is)
+      (has-kept o (opened_by n) (entries_behind past a.board.book) o.front a.front w.front pace.heard.heard
+      (keeps-wait rest.until rest.quiet pause.woke w.ready a.front w.front waited.waits came-a)
+      (subst (λ (x : FrontSeen). HasHeard o (opened_by n) (entries_behind past a.board.book) o.front x pace.heard.heard) (sym pace.heard.gave) pace.heard.has))
+
+  shares-each : (rows : ℕ) (told : Option FrontTold) (shares : List Share) → IfSome told (IsShared rows shares)
+      → IfSome told (λ t. AreSharesOf rows t t.waits shares)
+  shares-each rows None shares is = tt
+  shares-each rows (Some t) shares is = is.are.each
+
+  -- what was made before the first line
+  first-made : (shares : List Share) (s : Share) → s.signals ≡ known_slots (length w.board.book.base.rows) w.ready
+      → a.board.book.state.moment ≡ moment_behind 0 shares
+      → made_first pause.moment w.ready a.board.book
+      ≡ map ticked (ticks_by (moment_behind 0 shares) (answer_for pause.woke pause.moment)) ++ map signalled s.signals
+  first-made shares s signals here =
+      ap (λ (ticks : List ℕ). map ticked ticks ++ map signalled (known_slots (length a.board.book.base.rows) w.ready))
+      (sym (ticks-for pause.woke a.board.book.state.moment pause.moment a.calls w.calls waited.asks)
+      ∙ ap (λ (m : ℕ). ticks_by m (answer_for pause.woke pause.moment)) here)
+      ∙ ap (λ (xs : List ℕ). map ticked (ticks_by (moment_behind 0 shares) (answer_for pause.woke pause.moment)) ++ map signalled xs)
+      (sym (signals ∙ ap (λ (x : SeenBook). known_slots (length x.base.rows) w.ready) book_is))
+
+  -- all lines, with those of a round
+  heard-round : (last : Option Unanswered) (b : SeenListener) (did : DidSome w.board.book b.board.book) → HasTakenIn w b → (s : Share)
+      → ComesWith pause.moment w.ready (length w.board.book.base.rows) s w.front.told b.front.told
+      → Hears known w.config (made_first pause.moment w.ready w.board.book) last (hears_at w) (hears_at b)
+      → (o : Opening) (n : RunNumbers) (past : Past) → IsOpenedBy first.config o → IsBegun known o n first → KeepsWhole known o n past 0 0 a
+      → (pace : IsOnPace o n first a (entries_behind past a.board.book))
+      → HasHeardAll o n (entries_behind past b.board.book) pace.first (pace.shares ++ share_for pause.woke pause.moment s ∷ []) last b.front first.out
+      first.written b.out b.written
+  heard-round last b did took s comes hears o n past opened begun keeps pace =
+      let entries = entries_behind past a.board.book in
+      let acts : Acts 0 did.events None a.board.book b.board.book = subst (λ (x : SeenBook). Acts 0 did.events None x b.board.book) book_is did.acts in
+      let timely = timely-begun known o n first a begun kept.timely in
+      let further =
+      hears o n past pace.heard.heard (subst (λ (c : _). IsOpenedBy c o) (sym waited.config) (opened-a o opened))
+      (subst (λ (x : SeenBook). AreTimely x.base x.history) (sym book_is) timely)
+      (stands-waited rest pause known a w waited o n past (opened-a o opened) timely keeps.stands) (has-waited-so o n past pace) in
+      let from_a : HearsMore o (opened_by n) (entries_behind past b.board.book) (brought entries ++ made_first pause.moment w.ready a.board.book) o.front w.front
+      b.front pace.heard.heard last a.out a.written b.out b.written =
+      subst (λ (x : Bool). HearsMore o (opened_by n) (entries_behind past b.board.book) (brought entries ++ made_first pause.moment w.ready a.board.book) o.front
+      w.front b.front pace.heard.heard last a.out x b.out b.written) waited.written
+      (subst (λ (x : SinkSeen). HearsMore o (opened_by n) (entries_behind past b.board.book) (brought entries ++ made_first pause.moment w.ready a.board.book)
+      o.front w.front b.front pace.heard.heard last x w.written b.out b.written) waited.out
+      (subst (λ (x : SeenBook). HearsMore o (opened_by n) (entries_behind past b.board.book) (brought (entries_behind past x) ++ made_first pause.moment w.ready x)
+      o.front w.front b.front pace.heard.heard last w.out w.written b.out b.written) book_is further)) in
+      all-turn o n n.slots rest.until rest.quiet pause.woke w.ready a.front w.front b.front entries (entries_behind past b.board.book) acts.entries.0 pace.first
+      pace.shares (share_for pause.woke pause.moment s) (made_first pause.moment w.ready a.board.book) s.orders last first.out first.written a.out a.written b.out
+      b.written waited.waits took.front comes.asked (entries-acts 0 did.events None a.board.book b.board.book acts past.entries) pace.brought_is
+      (first-made pace.shares s comes.signals pace.moment) (shares-each n.slots a.front.told pace.shares pace.front) pace.heard from_a
+
+  -- and of a wait behind which nothing was read
+  heard-idle : (o : Opening) (n : RunNumbers) (past : Past) (pace : IsOnPace o n first a (entries_behind past a.board.book)) (s : Share)
+      → HasHeardAll o n (entries_behind past w.board.book) pace.first (pace.shares ++ s ∷ []) None w.front first.out first.written w.out w.written
+  heard-idle o n past pace s =
+      let entries = entries_behind past a.board.book in
+      let made = map ticked (ticks_by (moment_behind 0 pace.shares) s.answer) ++ map signalled s.signals in
+      let none : HearsMore o (opened_by n) (entries_behind past w.board.book) (brought entries ++ made) o.front w.front w.front pace.heard.heard None a.out a.written
+      w.out w.written =
+      subst (λ (x : Bool). HearsMore o (opened_by n) (entries_behind past w.board.book) (brought entries ++ made) o.front w.front w.front pace.heard.heard None a.out x
+      w.out w.written) waited.written
+      (subst (λ (x : SinkSeen). HearsMore o (opened_by n) (entries_behind past w.board.book) (brought entries ++ made) o.front w.front w.front pace.heard.heard None x
+      w.written w.out w.written) waited.out
+      (more-none o (opened_by n) (entries_behind past w.board.book) (brought entries ++ made) o.front w.front pace.heard.heard w.out w.written
+      (has-waited-so o n past pace))) in
+      all-turn o n n.slots rest.until rest.quiet pause.woke w.ready a.front w.front w.front entries (entries_behind past w.board.book) [] pace.first pace.shares s made
+      [] None first.out first.written a.out a.written w.out w.written waited.waits (only-takes _ _ (takes-same _)) (reads-still w.front.told)
+      (ap (λ (x : SeenBook). entries_behind past x) book_is ∙ sym (append-nil entries)) pace.brought_is refl
+      (shares-each n.slots a.front.told pace.shares pace.front) pace.heard none
+
   -- ## Turns that go on
 
   pub whole-round : (b : SeenListener) → HasGoneRound known None pause w b → DidSome w.board.book b.board.book → WholeFrom known first b
@@ -227,6 +313,7 @@ module _ (steps : ActsInSteps) (known : Option KnownOutside) (rest : Rest) (paus
                   ∙ ap (λ (zs : List Brought). replicate pace.first moved ++ zs)
                   (whole-made pace.shares s' xs (made-turn pace.shares s comes.answer_is pace.moment));
               moment = moment-turn pace.shares s b pace.moment gone.moment;
+              heard = heard-round None b did gone.took s comes gone.heard o n before.past opened begun before.keeps pace;
             };
       }
 
@@ -256,6 +343,11 @@ module _ (steps : ActsInSteps) (known : Option KnownOutside) (rest : Rest) (paus
               are = shares-turn n b pace.shares s before.keeps.rows broken.took comes pace.front pace.clock;
               first = pace.first;
               made = made_from 0 pace.shares ++ xs;
+              heard = (
+                broken.heard.0,
+                broken.heard.1,
+                heard-round (option_map never_answered broken.heard.0) b did broken.took s comes broken.heard.2 o n before.past opened begun before.keeps pace,
+              );
               brought_is =
                   brought-on before.past a.board.book b.board.book pace.first (made_from 0 pace.shares) xs
                   (added ∙ ap (λ (x : SeenBook). brought x.history ++ xs) book_is) pace.brought_is;
@@ -297,6 +389,7 @@ module _ (steps : ActsInSteps) (known : Option KnownOutside) (rest : Rest) (paus
               are = shares-turn n b pace.shares s before.keeps.rows gone.took comes pace.front pace.clock;
               first = pace.first;
               made = made_from 0 pace.shares ++ xs;
+              heard = heard-round (last_at (Some end.Asked)) b did gone.took s comes gone.heard o n before.past opened begun before.keeps pace;
               brought_is =
                   brought-on before.past a.board.book b.board.book pace.first (made_from 0 pace.shares) xs
                   (added ∙ ap (λ (x : SeenBook). brought x.history ++ xs) book_is) pace.brought_is;
@@ -332,6 +425,7 @@ module _ (steps : ActsInSteps) (known : Option KnownOutside) (rest : Rest) (paus
               are = shares-turn n b pace.shares s before.keeps.rows gone.took comes pace.front pace.clock;
               first = pace.first;
               made = made_from 0 pace.shares ++ xs;
+              heard = heard-round (last_at (Some end.Overdue)) b did gone.took s comes gone.heard o n before.past opened begun before.keeps pace;
               brought_is =
                   brought-on before.past a.board.book b.board.book pace.first (made_from 0 pace.shares) xs
                   (gone.share.made.1 ∙ ap (λ (x : SeenBook). brought x.history ++ xs) book_is) pace.brought_is;
@@ -367,6 +461,7 @@ module _ (steps : ActsInSteps) (known : Option KnownOutside) (rest : Rest) (paus
               are = shares-turn n b pace.shares s before.keeps.rows gone.took comes pace.front pace.clock;
               first = pace.first;
               made = made_from 0 pace.shares ++ xs;
+              heard = heard-round (last_at (Some end.Gone)) b did gone.took s comes gone.heard o n before.past opened begun before.keeps pace;
               brought_is =
                   brought-on before.past a.board.book b.board.book pace.first (made_from 0 pace.shares) xs
                   (gone.share.made.1 ∙ ap (λ (x : SeenBook). brought x.history ++ xs) book_is) pace.brought_is;
@@ -387,11 +482,15 @@ module _ (steps : ActsInSteps) (known : Option KnownOutside) (rest : Rest) (paus
   abbrev idle_share : Share
   idle_share = record { answer = Some pause.moment; signals = []; orders = []; moves = 0; handed = 0 }
 
-  idle-pace : (turns : Result End BoardFault) → (moments_in pause.woke ≡ []) → w.ready ≡ [] → (o : Opening) (n : RunNumbers) (before : IsWhole known o n a)
+  idle-pace : (turns : Result End BoardFault) → (moments_in pause.woke ≡ []) → w.ready ≡ [] → (o : Opening) (n : RunNumbers) (before : IsWhole known o n first a)
       → ((made : List Brought) → EndsUntaken [] (before.pace.shares ++ share_for pause.woke pause.moment idle_share ∷ []) made
       → TurnsMake turns (before.pace.shares ++ share_for pause.woke pause.moment idle_share ∷ []) made)
-      → EndsOnPace n turns w (entries_behind before.past w.board.book)
-  idle-pace turns none unready o n before makes =
+      → (HasHeardAll o n (entries_behind before.past w.board.book) before.pace.first
+      (before.pace.shares ++ share_for pause.woke pause.moment idle_share ∷ []) None w.front first.out first.written w.out w.written
+      → HasHeardIn turns o n (entries_behind before.past w.board.book) before.pace.first
+      (before.pace.shares ++ share_for pause.woke pause.moment idle_share ∷ []) w.front first.out first.written w.out w.written)
+      → EndsOnPace o n turns first w (entries_behind before.past w.board.book)
+  idle-pace turns none unready o n before makes hears =
       let pace = before.pace in
       let s = idle_share in
       let s' = share_for pause.woke pause.moment s in
@@ -411,6 +510,7 @@ module _ (steps : ActsInSteps) (known : Option KnownOutside) (rest : Rest) (paus
         made = made_from 0 pace.shares;
         brought_is = ap (λ (x : SeenBook). brought (entries_behind before.past x)) book_is ∙ pace.brought_is;
         makes = makes (made_from 0 pace.shares) (record { before = pace.shares; last = s'; shares_are = refl; none = refl; made_are = all });
+        heard = hears (heard-idle o n before.past pace s');
       }
     where
       idle-made : (answer : Woke) (moment present : ℕ) → moments_in answer ≡ []
@@ -425,7 +525,7 @@ module _ (steps : ActsInSteps) (known : Option KnownOutside) (rest : Rest) (paus
       record {
         past = before.past;
         keeps = keeps-idle free o n before.past opened begun before.begins before.keeps;
-        pace = idle-pace (Ok end.Ended) none unready o n before (λ made ends. ends);
+        pace = idle-pace (Ok end.Ended) none unready o n before (λ made ends. ends) (λ all. all);
       }
 
   pub ends-failed : NoneHas a.board.book → moments_in pause.woke ≡ [] → w.ready ≡ [] → EndsFrom known (Ok end.Failed) first w
@@ -434,7 +534,7 @@ module _ (steps : ActsInSteps) (known : Option KnownOutside) (rest : Rest) (paus
       record {
         past = before.past;
         keeps = keeps-idle free o n before.past opened begun before.begins before.keeps;
-        pace = idle-pace (Ok end.Failed) none unready o n before (λ made ends. ends);
+        pace = idle-pace (Ok end.Failed) none unready o n before (λ made ends. ends) (λ all. all);
       }
 
 -- ## The service
@@ -451,7 +551,10 @@ whole-served steps known first a b kept whole served o n opened begun =
     (commandless-served 1 did.events None a.board.book b.board.book (λ (same : 1 ≡ 0). cc) did.acts) in
     let brings : brought b.board.book.history ≡ brought a.board.book.history =
     brought-others steps 1 did.events None a.board.book b.board.book (λ (same : 0 ≡ 1). cc) did.acts in
-    subst (IsWhole known o n) (sym served.others)
+    let plain =
+    keeps-plain o (opened_by n) (entries_behind before.past a.board.book) did.acts.entries.0
+    (commandless-added 1 did.events None a.board.book b.board.book did.acts none) in
+    subst (IsWhole known o n first) (sym served.others)
     (record {
       past = before.past;
       keeps =
@@ -462,7 +565,9 @@ whole-served steps known first a b kept whole served o n opened begun =
           (nobody-served 1 did.events None a.board.book b.board.book (λ (same : 1 ≡ 0). cc) did.acts) served.rest.accepted)
           (λ s history patient. patient) before.begins before.keeps;
       begins = begins-acts n before.past 1 did.events a.board.book b.board.book did.acts before.begins;
-      pace = pace-kept n a there before.past refl refl brings served.rest.moment before.pace;
+      pace =
+          pace-kept o n first a b.board before.past did.acts.entries.0
+          (entries-acts 1 did.events None a.board.book b.board.book did.acts before.past.entries) plain.orders brings served.rest.moment before.pace;
     })
 
 -- where the store may have been renewed once more
@@ -480,7 +585,7 @@ spared known o n past now keeps = record {
 pub ends-done : (known : Option KnownOutside) (fault : BoardFault) (first now : SeenListener) → WholeFrom known first now → EndsFrom known (Err fault) first now
 ends-done known fault first now whole o n opened begun =
     let before = whole o n opened begun in
-    record { past = before.past; keeps = spared known o n before.past now before.keeps; pace = pace-done n fault now (entries_behind before.past now.board.book) before.pace }
+    record { past = before.past; keeps = spared known o n before.past now before.keeps; pace = pace-done o n fault first now (entries_behind before.past now.board.book) before.pace }
 
 -- ## The start
 
@@ -493,15 +598,15 @@ unwaited n (Some t) entries unused = λ waited. absurd (waited unused.waits)
 pub begun-broken : (known : Option KnownOutside) (o : Opening) (n : RunNumbers) (fault : BoardFault) (l m : SeenListener) → IsOpenedBy l.config o
     → IsBegun known o n l → m ≡ record l { board = m.board } → StartsSome l.board.book m.board.book → m.board.book.state.moment ≡ l.board.book.state.moment
     → StandsStep known 0 0 l (record l { board = m.board }) → StaysWatching l.front.told l.front.told l.board.book m.board.book
-    → EndsWhole known o n (Err fault) m
+    → EndsWhole known o n (Err fault) l m
 begun-broken known o n fault l m opened begun is starts moment stands watched =
     let there : SeenListener = record l { board = m.board } in
     let keeps =
     begun-keeps known o n l m.board opened begun starts stands watched
     (unwaited n l.front.told (entries_behind nothing_past m.board.book) begun.unused) in
-    subst (EndsWhole known o n (Err fault)) (sym is)
+    subst (EndsWhole known o n (Err fault) l) (sym is)
     (record {
       past = nothing_past;
       keeps = spared known o n nothing_past there keeps;
-      pace = pace-done n fault there (entries_behind nothing_past m.board.book) (begun-pace known o n l m.board begun starts moment);
+      pace = pace-done o n fault l there (entries_behind nothing_past m.board.book) (begun-pace known o n l m.board begun starts moment);
     })

@@ -1,5 +1,5 @@
 -- What command lines ask for: each `graceful` for one order, taken or refused; the first `graceful-stop` for a graceful stop; and `stop` for
--- a stop, behind which nothing is read. Each other line is dropped. When it is done stands in `Pace.antt`.
+-- a stop, behind which nothing is read. Each other line asks for nothing. When it is done stands in `Pace.antt`.
 use Rattle.std.specs.Prelude.{◌≡◌, ◌≢◌, ◌<◌, ℕ, Bool, true, false, not, ◌&&◌, ◌||◌, List, [], ◌∷◌, ◌++◌, take, bytes_eq, if◌then◌else◌, ⊤}
 use Rattle.mpm_base.specs.CommandWord.{command_word}
 use Rattle.mpm_base.specs.Count.{greatest_count}

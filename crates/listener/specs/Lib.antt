@@ -5,6 +5,9 @@ pub mod FirstNumbers
 pub mod FirstNumbersInside
 pub mod FoldsInside
 pub mod Generations
+pub mod Heard
+pub mod HeardInside
+pub mod LineAnswers
 pub mod Links
 pub mod Listen
 pub mod ListenInside

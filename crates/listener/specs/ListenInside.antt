@@ -7,12 +7,13 @@ use Rattle.conn_machine.specs.States.{is_halted, is_over, is_serving}
 use Rattle.conn_machine.specs.declared.state.State.{State}
 use Rattle.conn_state.specs.Conn.{IsFresh}
 use Rattle.conn_state.specs.Known.{KnownOutside}
-use Rattle.mpm_base.specs.Clock.{Answers}
+use Rattle.mpm_base.specs.Clock.{Answers as AnswersAt}
 use Rattle.mpm_base.specs.Count.{NeverFalls, Rises, greatest_count, next_count}
-use Rattle.mpm_base.specs.Front.{Binds, FrontTold, FrontSeen, BoundTold, DialTold, HasNoneToTake}
+use Rattle.mpm_base.specs.Front.{Answers, Binds, FrontTold, FrontSeen, BoundTold, DialTold, HasNoneToTake}
 use Rattle.mpm_base.specs.Link.{LinkTold}
 use Rattle.mpm_base.specs.declared.conn.ConnName.{ConnName}
 use Rattle.mpm_base.specs.declared.front.Woke.{Woke}
+use Rattle.command_answers.specs.Answers.{stopping_answer}
 use Rattle.listener.specs.Commands.{NoneStops, StopsAtLast, lines_read}
 use Rattle.listener.specs.Links.{HandsOutTaken, TakesLinks, TurnsOneAway}
 use Rattle.rounds.specs.ClosedDown.{HasNoLive, IsClosedDown}
@@ -41,13 +42,13 @@ contacts_of told = option_map contacts told
 pub record OnlyTakes (t t' : FrontTold) : Type 0 where
   pub rest : t' ≡ record t { accepted = t'.accepted; watches = t'.watches; turned_away = t'.turned_away; failed = t'.failed }
 
--- command lines were read, listening was stopped or not, and nothing else happened to the front
+-- command lines were read and answered, listening was stopped or not, and nothing else happened to the front
 pub record OnlyReads (t t' : FrontTold) : Type 0 where
-  pub rest : t' ≡ record t { read = t'.read; hushed = t'.hushed }
+  pub rest : t' ≡ record t { read = t'.read; answers = t'.answers; hushed = t'.hushed }
 
 -- both
 pub record OnlyReadsAndTakes (t t' : FrontTold) : Type 0 where
-  pub rest : t' ≡ record t { accepted = t'.accepted; watches = t'.watches; turned_away = t'.turned_away; read = t'.read; hushed = t'.hushed; failed = t'.failed }
+  pub rest : t' ≡ record t { accepted = t'.accepted; watches = t'.watches; turned_away = t'.turned_away; read = t'.read; answers = t'.answers; hushed = t'.hushed; failed = t'.failed }
 
 -- no command line that was read stops the server, and none was read that didn't come
 pub record HasNoneToHeed (t : FrontTold) : Type 0 where
@@ -78,7 +79,7 @@ HasReadAll told = IfSome told (λ t. t.read ≡ length t.lines)
 -- the moment is what the clock answered, told the one that the wait gave, where it gave one; else it is the present one, and
 -- the clock wasn't asked
 abbrev pub AsksFor : Woke → ℕ → Option (List (ℕ × ℕ)) → Option (List (ℕ × ℕ)) → ℕ → Type 0
-AsksFor (woke.Woke m) present calls calls' moment = Answers calls calls' m moment
+AsksFor (woke.Woke m) present calls calls' moment = AnswersAt calls calls' m moment
 AsksFor woke.Ended present calls calls' moment = (calls' ≡ calls) × (moment ≡ present)
 AsksFor woke.Failed present calls calls' moment = (calls' ≡ calls) × (moment ≡ present)
 
@@ -143,12 +144,13 @@ StaysWatching told told' old new =
 abbrev pub HandedOut : Option FrontTold → State → Type 0
 HandedOut told s = IfSome told (TakesLinks s)
 
--- a front that tells has told no wait and no watch, handed nothing out, given no line, and listens
+-- a front that tells has told no wait and no watch, handed nothing out, given no line and no answer, and listens
 pub record HasNotBegun (t : FrontTold) : Type 0 where
   pub waits : t.waits ≡ []
   pub watches : t.watches ≡ []
   pub accepted : t.accepted ≡ 0
   pub read : t.read ≡ 0
+  pub answers : t.answers ≡ []
   pub hushed : t.hushed ≡ false
 
 -- nothing has come of a front that tells, and of the table nothing was asked: no time has passed, that a patient one tells
@@ -209,3 +211,12 @@ TakesInTo (Some end.Failed) old new s = ⊥
 pub record HasStopped (old new : FrontSeen) (s : State) : Type 0 where
   pub down : IsClosedDown s
   pub cause : StoppedFor old new s
+
+-- the line that asked to stop was answered, where the turns ended for one, and else nothing was done with the front
+abbrev pub AnswersStop : Result End BoardFault → FrontSeen → FrontSeen → Type 0
+AnswersStop (Ok end.Asked) old new = Answers old new stopping_answer
+AnswersStop (Ok end.Ended) old new = new ≡ old
+AnswersStop (Ok end.Failed) old new = new ≡ old
+AnswersStop (Ok end.Overdue) old new = new ≡ old
+AnswersStop (Ok end.Gone) old new = new ≡ old
+AnswersStop (Err fault) old new = new ≡ old

@@ -1,11 +1,11 @@
 -- What the listener keeps of its generations on its way, and what it does for a command line.
-use Rattle.std.specs.Prelude.{◌≡◌, ◌⊎◌, ℕ, ◌+◌, Bool, true, false, List, [], ◌∷◌, ◌++◌, map, if◌then◌else◌, Option, None, Some}
+use Rattle.std.specs.Prelude.{◌≡◌, ◌⊎◌, ℕ, ◌+◌, Bool, true, false, List, [], ◌∷◌, ◌++◌, map, if◌then◌else◌, Option, None, Some, option_map}
 use Rattle.mpm_base.specs.CommandWord.{command_word}
-use Rattle.mpm_base.specs.Front.{Commands, FrontSeen, after_hush}
+use Rattle.mpm_base.specs.Front.{Answers, Commands, FrontSeen, after_hush}
 use Rattle.mpm_base.specs.Store.{StoreSeen, StoreTold}
 use Rattle.mpm_base.specs.declared.script_line.CommandWord.{CommandWord}
 use Rattle.mpm_base.specs.declared.script_line.CommandWord.TheVariants as word
-use Rattle.conn_machine.specs.declared.event.Commanded.TheVariants.{Graceful, Refused}
+use Rattle.conn_machine.specs.declared.event.Commanded.TheVariants.{Graceful, Refused, GracefulStop}
 use Rattle.conn_machine.specs.declared.event.Event.TheVariants as event
 use Rattle.conn_machine.specs.Table.{next}
 use Rattle.conn_state.specs.Known.{KnownOutside}
@@ -17,11 +17,14 @@ use Rattle.restart_control.specs.declared.reload_fault.ReloadFault.{ReloadFault}
 use Rattle.restart_control.specs.declared.reload_fault.ReloadFault.TheVariants as fault
 use Rattle.conn_machine.specs.declared.event.Refusal.{Refusal}
 use Rattle.conn_machine.specs.declared.event.Refusal.TheVariants as refusal
-use Rattle.listener.specs.Generations.{Opening, known_edition, head_limits_of}
+use Rattle.command_answers.specs.Answers.{generation_answer, memory_answer}
+use Rattle.mpm_base.specs.declared.shape.Shape.{Shape}
+use Rattle.listener.specs.Generations.{Opening, known_edition, head_limits_of, renewed}
+use Rattle.listener.specs.LineAnswers.{IsRefusalAnswer}
 use Rattle.listener.specs.Outside.{clients_told}
 use Rattle.listener.specs.Orders.{shape_by}
 use Rattle.listener.specs.Pace.{brought, ordered}
-use Rattle.listener.specs.StandingInside.{KnowsLater, Standing, StandsBroken, StandsOn, standing}
+use Rattle.listener.specs.StandingInside.{IsOpenedBy, KnowsLater, Standing, StandsBroken, StandsOn, standing}
 use Rattle.listener.specs.declared.edition.LoadedEdition.{LoadedEdition}
 use Rattle.listener.specs.declared.edition.NamedConfig.{NamedConfig}
 
@@ -41,7 +44,7 @@ owed_by asked = if asked then 1 else 0
 abbrev pub reason_for : ReloadFault → Refusal
 reason_for fault.Absent = refusal.Absent
 reason_for (fault.Conf f) = refusal.Conf
-reason_for (fault.Load f) = refusal.Site
+reason_for (fault.Load f root) = refusal.Site
 reason_for fault.StoreFault = refusal.Store
 reason_for fault.NoMemory = refusal.NoMemory
 
@@ -88,6 +91,11 @@ abbrev pub end_if : Bool → List CommandWord
 end_if true = word.GracefulStop ∷ []
 end_if false = []
 
+-- a graceful stop was begun by an event of the listener, where the server took connections
+abbrev pub ActsEnding : Bool → SeenBook → SeenBook → Type 0
+ActsEnding true old new = (until : Option ℕ) × Acts 0 (event.Command (GracefulStop until) ∷ []) None old new
+ActsEnding false old new = Acts 0 [] None old new
+
 -- a run stands on over whichever front gave a line of that word, which was done
 abbrev pub StandsBehind : Option KnownOutside → NamedConfig → CommandWord → (FrontSeen → Standing) → (FrontSeen → Standing) → Type 0
 StandsBehind known c asked old new =
@@ -118,3 +126,44 @@ IsHushedIf false old new = new ≡ old
 -- the front is as it was, or listening was stopped
 abbrev pub MayHush : FrontSeen → FrontSeen → Type 0
 MayHush old new = (new ≡ old) ⊎ (new ≡ after_hush old)
+
+-- ## What a restart is answered
+
+-- it is refused for the reason, and answered so whatever the run: its edition is the next one of this store
+abbrev pub AnswersRefusal : NamedConfig → StoreSeen → Refusal → List ℕ → Type 0
+AnswersRefusal c store reason answer =
+    (o : Opening) (orders : ℕ) → IsOpenedBy c o → store.told ≡ option_map (renewed orders) o.store.told
+    → IsRefusalAnswer o (orders + 1) reason answer
+
+-- a plan was carried out, and the answer is the generation's number; or memory lacked for it
+abbrev pub AnswersPlan : SeenBook → SeenBook → List ℕ → Type 0
+AnswersPlan old new answer =
+    ((new.state.newest ≡ old.state.newest + 1) × (answer ≡ generation_answer (old.state.newest + 1)))
+    ⊎ (Refuses refusal.NoMemory old new × (answer ≡ memory_answer))
+
+-- a generation began by an event of the listener, and the answer is its number
+pub record AnswersBegin (old new : SeenBook) (answer : List ℕ) : Type 0 where
+  pub shape : Shape
+  pub acts : Acts 0 (event.Command (Graceful shape) ∷ []) None old new
+  pub says : answer ≡ generation_answer (old.state.newest + 1)
+
+-- a restart was refused by an event of the listener, and the answer says why
+pub record AnswersRefused (c : NamedConfig) (store : StoreSeen) (old new : SeenBook) (answer : List ℕ) : Type 0 where
+  pub reason : Refusal
+  pub refuses : Refuses reason old new
+  pub says : AnswersRefusal c store reason answer
+
+-- a restart by the next edition of this store is answered by the event that the listener made for it
+abbrev pub AnswersRestart : NamedConfig → StoreSeen → SeenBook → SeenBook → List ℕ → Type 0
+AnswersRestart c store old new answer = AnswersBegin old new answer ⊎ AnswersRefused c store old new answer
+
+-- ## The next line
+
+-- the sender of the line before was answered, where that is still to be done
+abbrev pub AnswersIf : Option (List ℕ) → FrontSeen → FrontSeen → Type 0
+AnswersIf None old new = new ≡ old
+AnswersIf (Some text) old new = Answers old new text
+
+-- so it was, and then the front gave this line, or none
+abbrev pub GivesNext : Option (List ℕ) → FrontSeen → FrontSeen → Option (List ℕ) → Type 0
+GivesNext answer old new line = (mid : FrontSeen) × AnswersIf answer old mid × Commands mid new line

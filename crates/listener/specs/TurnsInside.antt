@@ -1,6 +1,7 @@
 -- What is seen of a listener with all that it works on, what it needs to take turns, and what its turns do.
-use Rattle.std.specs.Prelude.{◌≡◌, ◌<◌, ℕ, List, [], ◌++◌, length, replicate, Option, Result, is_some, IfSome, OnErr, OnOk}
+use Rattle.std.specs.Prelude.{◌≡◌, ◌<◌, ℕ, Bool, List, [], ◌++◌, length, replicate, Option, Result, is_some, IfSome, OnErr, OnOk}
 use Rattle.mpm_base.specs.Front.{FrontCounts, FrontSeen}
+use Rattle.mpm_base.specs.Sink.{SinkSeen}
 use Rattle.mpm_base.specs.Store.{StoreSeen}
 use Rattle.conn_machine.specs.Events.{count_events}
 use Rattle.conn_machine.specs.declared.event.Entry.{Entry}
@@ -23,6 +24,8 @@ use Rattle.listener.specs.CountedInside.{CountsSo}
 use Rattle.listener.specs.FirstNumbers.{opened_by}
 use Rattle.listener.specs.FirstNumbersInside.{opened_book}
 use Rattle.listener.specs.Generations.{Opening}
+use Rattle.listener.specs.Heard.{KeepsLines, open_lines}
+use Rattle.listener.specs.HeardInside.{HasHeardIn, WritesOn}
 use Rattle.listener.specs.Listen.{HasFolded}
 use Rattle.listener.specs.ListenInside.{Follows, HandedOut, HandsOut, HasNoneToHeed, HasNotBegun, HasStopped, HeedsUntil, IsAtStart, IsInStep, ListensAsServed, TurnsEnd, WatchesAll, contacts_of}
 use Rattle.listener.specs.Orders.{AreOrdered}
@@ -41,7 +44,8 @@ use Rattle.listener.specs.Watched.{IsHushed}
 -- ## A listener
 
 -- what is seen of a listener with its front, its clock and its store: the board, the front, the calls of the clock, the slots that the last
--- wait gave, what the newest generation works by, the store, and the configuration by which the server opened
+-- wait gave, what the newest generation works by, the store, the configuration by which the server opened, and the output, with whether what
+-- stands in it was written whole
 pub record SeenListener : Type 0 where
   pub board : SeenBoard
   pub front : FrontSeen
@@ -50,11 +54,23 @@ pub record SeenListener : Type 0 where
   pub edition : LoadedEdition
   pub store : StoreSeen
   pub config : NamedConfig
+  pub out : SinkSeen
+  pub written : Bool
 
 -- the same, of its parts
-abbrev pub listener_of : SeenBoard → FrontSeen → Option (List (ℕ × ℕ)) → List ℕ → LoadedEdition → StoreSeen → NamedConfig → SeenListener
-listener_of board front calls ready edition store config =
-    record { board = board; front = front; calls = calls; ready = ready; edition = edition; store = store; config = config }
+abbrev pub listener_of : SeenBoard → FrontSeen → Option (List (ℕ × ℕ)) → List ℕ → LoadedEdition → StoreSeen → NamedConfig → SinkSeen → Bool → SeenListener
+listener_of board front calls ready edition store config out written =
+    record {
+      board = board;
+      front = front;
+      calls = calls;
+      ready = ready;
+      edition = edition;
+      store = store;
+      config = config;
+      out = out;
+      written = written;
+    }
 
 -- where its run stands
 abbrev pub stands_at : SeenListener → Standing
@@ -86,9 +102,11 @@ pub record IsBegun (known : Option KnownOutside) (o : Opening) (n : RunNumbers) 
   pub unused : IfSome l.front.told HasNotBegun
   pub unasked : IfSome l.calls (λ calls. calls ≡ [])
   pub first : IfSome o.front.told HasNothingCome → IsAtStart l.front.told l.board.book
+  pub words : l.front.counts.words ≡ o.front.counts.words
+  pub answers : l.front.counts.answers ≡ o.front.counts.answers
 
--- what the turns of a run that opened so did, of all its entries, until they ended so
-pub record HasTurned (known : Option KnownOutside) (o : Opening) (n : RunNumbers) (turns : Result End BoardFault) (now : SeenListener) : Type 0 where
+-- what the turns of a run that opened so did, of all its entries, until they ended so, since the listener was the one
+pub record HasTurned (known : Option KnownOutside) (o : Opening) (n : RunNumbers) (turns : Result End BoardFault) (from now : SeenListener) : Type 0 where
   pub past : Past
   pub stands : StandsSo known o n past (spare_behind turns) (owed_behind turns) (stands_at now)
   pub keeps : KeepsUp o n now (entries_behind past now.board.book)
@@ -98,6 +116,7 @@ pub record HasTurned (known : Option KnownOutside) (o : Opening) (n : RunNumbers
   pub made : List Brought
   pub brought_is : brought (entries_behind past now.board.book) ≡ replicate first moved ++ made
   pub makes : TurnsMake turns shares made
+  pub heard : HasHeardIn turns o n (entries_behind past now.board.book) first shares now.front from.out from.written now.out now.written
 
 -- ## What it needs to take turns
 
@@ -119,7 +138,7 @@ pub record MayListen (known : Option KnownOutside) (now : SeenListener) : Type 0
 -- graceful stop is at its end exactly where the turns ended for that; and what the turns did with the front, the clock and the waits is what
 -- they ended with
 pub record AreOver (known : Option KnownOutside) (turns : Result End BoardFault) (first now : SeenListener) : Type 0 where
-  pub turned : (o : Opening) (n : RunNumbers) → IsOpenedBy first.config o → IsBegun known o n first → HasTurned known o n turns now
+  pub turned : (o : Opening) (n : RunNumbers) → IsOpenedBy first.config o → IsBegun known o n first → HasTurned known o n turns first now
   pub timely : StaysTimely first.board.book now.board.book
   pub end : is_at_its_end now.board.book.state ≡ is_at_end turns
   pub passes : now.board.book.passes ≡ first.board.book.passes
@@ -149,6 +168,10 @@ pub record HasStood (known : Option KnownOutside) (o : Opening) (n : RunNumbers)
   pub unended :
       (from : FrontCounts) → CountsSo 0 from first.front.counts first.board.book
       → GivesNoEnding now.board.book.state.going (all_entries n now.board.book folded) from now.front.counts
+  pub lines :
+      KeepsLines o (opened_by n) pace.first pace.shares o.front now.front now.board.book.state.going (all_entries n now.board.book folded)
+  pub writes :
+      WritesOn (open_lines (opened_by n) (all_entries n now.board.book folded) lines.heard) first.out first.written now.out now.written
 
 -- it listened to the end, since it was the first: the same behind the stop of the server, which closed down, and the front listens no more
 pub record HasListened (known : Option KnownOutside) (first now : SeenListener) : Type 0 where

@@ -15,10 +15,11 @@ ghost use Rattle.board.specs.Finds.{acceptable, next_deadline_of};
 ghost use Rattle.board.specs.Book.{row_in};
 ghost use Rattle.board.specs.Editions.{orders_in};
 ghost use Rattle.worker_group.specs.Service.{IsUp, LeavesRest, RefusalLasts};
-ghost use Rattle.listener.specs.ListenInside.{AsksFor, Follows, HandsOut, HasNoneToHeed, IsArrival, IsInStep, IsKnownOfFront, ListensAsServed, OnlyReadsAndTakes, OnlyTakes, StaysWatching, TakesInTo, TellsAlike, TookAll};
+ghost use Rattle.listener.specs.ListenInside.{AnswersStop, AsksFor, Follows, HandsOut, HasNoneToHeed, IsArrival, IsInStep, IsKnownOfFront, ListensAsServed, OnlyReadsAndTakes, OnlyTakes, StaysWatching, TakesInTo, TellsAlike, TookAll};
 ghost use Rattle.rounds.specs.TableInside.{IsOpening, IsRestful, NoneDueLate, StandsInTime, asked_children};
 ghost use Rattle.listener.specs.Counted.{AsksOnce};
 ghost use Rattle.listener.specs.CountedInside.{ClocksOn, CountsOn, CountsToEnd, CountsUntil, KeepsClockFrom, LacksLink, MovesClock, TurnsCount};
+ghost use Rattle.listener.specs.HeardInside.{Hears, HearsUntil, KeepsHeard, hearing, last_at, made_first};
 ghost use Rattle.listener.specs.OrdersInside.{KnowsComing, ServesNewest};
 ghost use Rattle.listener.specs.RoundInside.{BreaksOff, EndsTaking, FailsTaking, IsTaking, RoundEnds, TakesSome, TakesUntil};
 ghost use Rattle.rounds.specs.PartsInside.{ServesSome, StartsSome, StaysTimely};
@@ -35,12 +36,13 @@ use crate::folding::fold_history;
 use crate::listener_state::Listener;
 use board::BoardFault;
 use board::laws::{generations_keep_their_editions, waits_are_backed_by_calls};
+use command_answers::stopping_answer;
 use conn_machine::laws_of_runs::{
     histories_go_on_by_one_entry, histories_join, rows_change_one_at_a_time,
 };
 use conn_state::{Conn, Known};
 use file_table::Site;
-use mpm_base::{Arrival, Bell, Clock, Front, Gate, Link, Moment, Ready, Store, Woke};
+use mpm_base::{Arrival, Bell, Clock, Front, Gate, Link, Moment, Ready, Sink, Store, Woke};
 use rounds::{
     End, Rest, accept, close_down, find_rest, has_live, is_gone, is_overdue, let_go_of_conns,
     pass_time, retire_all, serve_all, settle, show_state, signal_all, start_children,
@@ -62,20 +64,24 @@ impl<'a, 'c, L: Link + Send, N: Known, B: Bell, G: Gate> Listener<'a, 'c, L, N, 
     /// more can come, a command line asks for it, or a graceful stop is at its end or out of time. The server stops before that for a wait
     /// that failed, and for want of memory where a call that the listener must make was refused for that. However it stops, no further
     /// connection is taken then, each one that waits is closed, and each child is let go of. How it ended is read off the board.
-    pub fn listen<R: Wait, D: Store, F: Front<L = L>, C: Clock>(
+    pub fn listen<R: Wait, D: Store, F: Front<L = L>, C: Clock, K: Sink>(
         &mut self,
         rt: &R,
         store: &mut D,
         front: &mut F,
         clock: &mut C,
+        out: &mut K,
     )
         requires named { IsKnownOfFront N.known (F.seen front.old).told }
         requires may { MayListen N.known (listener_of self.old.board (F.seen front.old)
-            (C.told clock.old) self.old.ready self.old.edition (D.seen store.old) self.old.config) }
+            (C.told clock.old) self.old.ready self.old.edition (D.seen store.old) self.old.config
+            (K.seen out.old) self.old.written) }
         ensures listened { let first = listener_of self.old.board (F.seen front.old)
-            (C.told clock.old) self.old.ready self.old.edition (D.seen store.old) self.old.config in
+            (C.told clock.old) self.old.ready self.old.edition (D.seen store.old) self.old.config
+            (K.seen out.old) self.old.written in
             let now = listener_of self.new.board (F.seen front.new)
-            (C.told clock.new) self.new.ready self.new.edition (D.seen store.new) self.new.config in
+            (C.told clock.new) self.new.ready self.new.edition (D.seen store.new) self.new.config
+            (K.seen out.new) self.new.written in
             HasListened N.known first now }
         ensures counts { CountsToEnd (F.seen front.old).counts (F.seen front.new).counts
             self.old.board.book self.new.board.book }
@@ -84,9 +90,10 @@ impl<'a, 'c, L: Link + Send, N: Known, B: Bell, G: Gate> Listener<'a, 'c, L, N, 
         ensures asked { AsksOnce (F.seen front.old).counts.wakes (F.seen front.new).counts.wakes
             (C.asked clock.old) (C.asked clock.new) }
     {
-        let turns = self.take_turns(rt, store, front, clock);
+        let turns = self.take_turns(rt, store, front, clock, out);
         self.hush(front);
         close_down(&mut self.board, turns);
+        answer_stop(front, turns);
     }
 
     /// Stops listening, where the front still listens.
@@ -104,20 +111,24 @@ impl<'a, 'c, L: Link + Send, N: Known, B: Bell, G: Gate> Listener<'a, 'c, L, N, 
     /// Starts the children, and takes turns with the front until nothing more can come, a wait fails, a command line asks to stop, or a
     /// graceful stop ends, each followed by the service of what is signalled, and by a fold of the history where it may be folded. Err where
     /// the server has to stop before.
-    fn take_turns<R: Wait, D: Store, F: Front<L = L>, C: Clock>(
+    fn take_turns<R: Wait, D: Store, F: Front<L = L>, C: Clock, K: Sink>(
         &mut self,
         rt: &R,
         store: &mut D,
         front: &mut F,
         clock: &mut C,
+        out: &mut K,
     ) -> Result<End, BoardFault>
         requires named { IsKnownOfFront N.known (F.seen front.old).told }
         requires may { MayListen N.known (listener_of self.old.board (F.seen front.old)
-            (C.told clock.old) self.old.ready self.old.edition (D.seen store.old) self.old.config) }
+            (C.told clock.old) self.old.ready self.old.edition (D.seen store.old) self.old.config
+            (K.seen out.old) self.old.written) }
         ensures over { let first = listener_of self.old.board (F.seen front.old)
-            (C.told clock.old) self.old.ready self.old.edition (D.seen store.old) self.old.config in
+            (C.told clock.old) self.old.ready self.old.edition (D.seen store.old) self.old.config
+            (K.seen out.old) self.old.written in
             let now = listener_of self.new.board (F.seen front.new)
-            (C.told clock.new) self.new.ready self.new.edition (D.seen store.new) self.new.config in
+            (C.told clock.new) self.new.ready self.new.edition (D.seen store.new) self.new.config
+            (K.seen out.new) self.new.written in
             AreOver N.known result first now }
         ensures counts { TurnsCount result (F.seen front.old).counts (F.seen front.new).counts
             self.old.board.book self.new.board.book }
@@ -140,7 +151,7 @@ impl<'a, 'c, L: Link + Send, N: Known, B: Bell, G: Gate> Listener<'a, 'c, L, N, 
                 Woke::Failed => return Ok(End::Failed),
                 _ => (),
             }
-            let ended = self.take_in(rt, store, front, pause.moment)?;
+            let ended = self.take_in(rt, store, front, out, pause.moment)?;
             match ended {
                 Some(end) => return Ok(end),
                 None => (),
@@ -209,11 +220,12 @@ impl<'a, 'c, L: Link + Send, N: Known, B: Bell, G: Gate> Listener<'a, 'c, L, N, 
     ///
     /// A connection that a restart of this round lets go of is so in the next one, behind a wait that gives what came for it until then. So
     /// it is served where something had come before the restart.
-    fn take_in<R: Wait, D: Store, F: Front<L = L>>(
+    fn take_in<R: Wait, D: Store, F: Front<L = L>, K: Sink>(
         &mut self,
         rt: &R,
         store: &mut D,
         front: &mut F,
+        out: &mut K,
         moment: Moment,
     ) -> Result<Option<End>, BoardFault>
         requires named { IsKnownOfFront N.known (F.seen front.old).told }
@@ -264,6 +276,16 @@ impl<'a, 'c, L: Link + Send, N: Known, B: Bell, G: Gate> Listener<'a, 'c, L, N, 
             MatchResult result
             (λ ended. CountsOn (owed_at ended) old new self.old.board.book self.new.board.book)
             (λ fault. CountsUntil old new self.old.board.book self.new.board.book) }
+        ensures heard { let old = hearing (standing self.old.edition.stop_ms
+            (D.seen store.old) (F.seen front.old) self.old.board.book)
+            (K.seen out.old) self.old.written in
+            let new = hearing (standing self.new.edition.stop_ms
+            (D.seen store.new) (F.seen front.new) self.new.board.book)
+            (K.seen out.new) self.new.written in
+            let made = made_first moment self.old.ready self.old.board.book in
+            MatchResult result
+            (λ ended. Hears N.known self.old.config made (last_at ended) old new)
+            (λ fault. HearsUntil N.known self.old.config made old new) }
         ensures wakes { (F.seen front.new).counts.wakes ≡ (F.seen front.old).counts.wakes }
         ensures step { OnOk result (IsInStep (F.seen front.new).told self.new.board.book.state) }
         ensures ends { IfOk result
@@ -291,7 +313,7 @@ impl<'a, 'c, L: Link + Send, N: Known, B: Bell, G: Gate> Listener<'a, 'c, L, N, 
         signal_all(&mut self.board, self.ready.slots())?;
         let_go_of_conns(&mut self.board, !self.ready.is_full())?;
         show_state(&self.board);
-        let asked = self.heed(rt, store, front)?;
+        let asked = self.heed(rt, store, front, out)?;
         if asked {
             return Ok(Some(End::Asked));
         }
@@ -341,6 +363,7 @@ impl<'a, 'c, L: Link + Send, N: Known, B: Bell, G: Gate> Listener<'a, 'c, L, N, 
             (λ done. CountsOn 0 old new self.old.board.book self.new.board.book)
             (λ fault. CountsUntil old new self.old.board.book self.new.board.book) }
         ensures wakes { (F.seen front.new).counts.wakes ≡ (F.seen front.old).counts.wakes }
+        ensures heard { KeepsHeard (F.seen front.old) (F.seen front.new) }
         ensures follows { Follows (F.seen front.old) (F.seen front.new) }
         ensures front { TellsOn OnlyTakes (F.seen front.old).told (F.seen front.new).told }
         ensures watched { StaysWatching (F.seen front.old).told (F.seen front.new).told
@@ -349,6 +372,7 @@ impl<'a, 'c, L: Link + Send, N: Known, B: Bell, G: Gate> Listener<'a, 'c, L, N, 
         ensures edition { self.new.edition ≡ self.old.edition }
         ensures ready { self.new.ready ≡ self.old.ready }
         ensures config { self.new.config ≡ self.old.config }
+        ensures written { self.new.written ≡ self.old.written }
         ensures err { IfErr result (λ fault. RefusalLasts fault self.new.board.book) }
     {
         generations_keep_their_editions();
@@ -422,6 +446,7 @@ impl<'a, 'c, L: Link + Send, N: Known, B: Bell, G: Gate> Listener<'a, 'c, L, N, 
         ensures edition { self.new.edition ≡ self.old.edition }
         ensures ready { self.new.ready ≡ self.old.ready }
         ensures config { self.new.config ≡ self.old.config }
+        ensures written { self.new.written ≡ self.old.written }
         ensures err { IfErr result (λ fault. RefusalLasts fault self.new.board.book) }
     {
         histories_go_on_by_one_entry();
@@ -454,6 +479,15 @@ impl<'a, 'c, L: Link + Send, N: Known, B: Bell, G: Gate> Listener<'a, 'c, L, N, 
         let left = settle(&mut self.board, conn, watched);
         show_state(&self.board);
         left
+    }
+}
+
+/// Answers the line that asked to stop, where the turns ended for one: the server has stopped then.
+fn answer_stop<F: Front>(front: &mut F, turns: Result<End, BoardFault>)
+    ensures { AnswersStop turns (F.seen front.old) (F.seen front.new) }
+{
+    if turns == Ok(End::Asked) {
+        front.answer(stopping_answer().as_slice());
     }
 }
 

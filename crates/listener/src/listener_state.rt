@@ -26,6 +26,8 @@ pub struct Listener<'a, 'c, L: Link + Send, N: Known, B: Bell, G: Gate> {
     pub ready: Ready,
     /// What each service passes and rings.
     pub hands: Hands<'a, B, G>,
+    /// Whether what stands in the output before the report was written whole so far.
+    pub written: bool,
 }
 
 impl<'a, 'c, L: Link + Send, N: Known, B: Bell, G: Gate> Listener<'a, 'c, L, N, B, G> {

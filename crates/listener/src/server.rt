@@ -1,6 +1,6 @@
 //! The run of a server over a front and a clock, whichever they are, with what is written where it opens.
 //! Why it is so stands in docs/DECISIONS.md: 78, When warnings are written; 92, What comes before the sockets.
-ghost use Rattle.std.specs.Prelude.{◌≡◌, ℕ, List, [], Some, is_some, IfErr, IfOk, IfSome, OnErr};
+ghost use Rattle.std.specs.Prelude.{◌≡◌, ◌++◌, ℕ, List, [], Some, is_some, IfErr, IfOk, IfSome, OnErr};
 ghost use Rattle.mpm_base.specs.Count.{NeverFalls};
 ghost use Rattle.listener.specs.Unused.{IsUnused};
 ghost use Rattle.board.specs.Board.{AreOfOutside, EndedOfOutside};
@@ -9,7 +9,7 @@ ghost use Rattle.listener.specs.FirstNumbersInside.{AreNumbers, opened_book};
 ghost use Rattle.listener.specs.FirstNumbers as opening;
 ghost use Rattle.listener.specs.OrdersInside.{known_outside, opening_by};
 ghost use Rattle.listener.specs.Generations.{head_limits_of};
-ghost use Rattle.listener.specs.RunsInside.{HasRunBy};
+ghost use Rattle.listener.specs.RunsInside.{HasRunBy, open_lines_of};
 ghost use Rattle.listener.specs.Served.{all_ended, whole_book};
 ghost use Rattle.listener.specs.Counted.{AsksOnce, KeepsClock};
 ghost use Rattle.listener.specs.Links.{EndsLinks};
@@ -43,7 +43,7 @@ use worker_group::Hands;
 pub struct ServedRun<L: Link> {
     /// The table of connections, as the run left it.
     pub board: Board<L, Nothing>,
-    /// Whether the text of the opening was written whole.
+    /// Whether the text of the opening, and each line of it that tells the state, was written whole.
     pub written: bool,
 }
 
@@ -58,7 +58,7 @@ pub enum OpenFault {
 
 /// Runs a server by the configuration, over the store, the front and the clock, to its end, and serves by the edition, and by those that
 /// the store has when a restart asks for them; each service passes the gate. Once the table is there and the front is bound the text is
-/// written; where that fails the server runs all the same.
+/// written, and later a line for each command line that asks for the state; where that fails the server runs all the same.
 ///
 /// The name says what the front tells of its clients, and what the editions of the store are, so that what connections received and what
 /// they are served by are facts of the board's type.
@@ -91,8 +91,9 @@ pub fn run_server<
     requires unasked { IfSome (C.told clock.old) (λ calls. calls ≡ []) }
     ensures run { let opened = opening_by config.entry edition
         (D.seen store.old) (F.seen front.old) in
-        IfOk result (λ s. HasRunBy opened (D.seen store.new) (F.seen front.new)
-        (C.told clock.new) s.board) }
+        IfOk result (λ s. (run : HasRunBy opened (D.seen store.new) (F.seen front.new)
+        (C.told clock.new) s.board)
+        × WritesAll (K.seen out.old) (K.seen out.new) (text.now ++ open_lines_of run) s.written) }
     ensures follows { Follows (F.seen front.old) (F.seen front.new) }
     ensures still { is_some (C.told clock.new) ≡ is_some (C.told clock.old) }
     ensures clocked { IfOk result
@@ -100,8 +101,6 @@ pub fn run_server<
     ensures unclocked { OnErr result (C.greatest clock.new ≡ C.greatest clock.old) }
     ensures asked { AsksOnce (F.seen front.old).counts.wakes (F.seen front.new).counts.wakes
         (C.asked clock.old) (C.asked clock.new) }
-    ensures written { IfOk result
-        (λ s. WritesAll (K.seen out.old) (K.seen out.new) text.now s.written) }
     ensures faults { IfOk result (λ s. NeverFalls (K.seen out.old).faults (K.seen out.new).faults) }
     ensures unopened { IfErr result
         (IsUnopened (opening.numbers_of config.entry.config.now) (F.seen front.old)
@@ -134,8 +133,9 @@ pub fn run_server<
         edition,
         ready,
         hands: Hands { bell: &bell, gate },
+        written,
     };
-    listener.listen(rt, store, front, clock);
+    listener.listen(rt, store, front, clock, out);
     let Listener {
         alloc: _,
         board,
@@ -143,6 +143,7 @@ pub fn run_server<
         edition: _,
         ready: _,
         hands: _,
+        written,
     } = listener;
     show_run(&board, numbers);
     Ok(ServedRun {

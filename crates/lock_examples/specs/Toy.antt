@@ -32,6 +32,7 @@ toy_shape =
       most = 1;
       target = 1;
       children = 1;
+      whole_ms = 0;
     }
 
 -- one slot and one child

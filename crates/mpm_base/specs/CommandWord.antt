@@ -8,3 +8,4 @@ abbrev pub command_word : CommandWord → List ℕ
 command_word word.Graceful = codes "graceful"
 command_word word.GracefulStop = codes "graceful-stop"
 command_word word.Stop = codes "stop"
+command_word word.Status = codes "status"

@@ -5,6 +5,7 @@
 use Rattle.std.specs.Prelude.{◌≡◌, ◌⊎◌, ℕ, ◌-◌, ◌<◌, ◌≤◌, Bool, true, false, not, List, [], ◌∷◌, ◌++◌, length, find, nat_lt, min, Option, None, Some, option_map, is_some, IfSome, slice_get, slice_index_or, ⊤}
 use Rattle.std.specs.List.{flat_map}
 use Rattle.mpm_base.specs.Count.{CountsWhere, next_count, RisesWhere, RisesExactlyWhere}
+use Rattle.mpm_base.specs.GivenAnswers.{CountsAnswer, most_answer}
 use Rattle.mpm_base.specs.GivenWords.{CountsWords}
 use Rattle.mpm_base.specs.Link.{LinkTold, LinkSeen, OnlyFaults, after_close, fresh_link}
 use Rattle.mpm_base.specs.declared.addr.Addr.{Addr}
@@ -13,6 +14,7 @@ use Rattle.mpm_base.specs.declared.front.Arrival.{Arrival}
 use Rattle.mpm_base.specs.declared.front.Arrival.TheVariants as arrival
 use Rattle.mpm_base.specs.declared.front.Woke.{Woke}
 use Rattle.mpm_base.specs.declared.front.Woke.TheVariants as woke
+use Rattle.mpm_base.specs.declared.given_answers.GivenAnswers.{GivenAnswers}
 use Rattle.mpm_base.specs.declared.given_words.GivenWords.{GivenWords}
 use Rattle.mpm_base.specs.declared.script_line.ScriptLine.{ScriptLine}
 
@@ -49,16 +51,22 @@ pub record BoundTold : Type 0 where
   pub listen : Addr
   pub control : Option ℕ
 
--- a dial of a front: the port of this machine, the word that was to be sent there, and what the dial answered
+-- a dial of a front: the port of this machine, the word that was to be sent there, whether that succeeded, and what came back
 pub record DialTold : Type 0 where
   pub port : ℕ
   pub word : List ℕ
   pub answer : Bool
+  pub text : List ℕ
+
+-- what the sender of a command line was answered: how many lines had been read by then, of which the last one is that line, and the text
+pub record AnswerTold : Type 0 where
+  pub read : ℕ
+  pub text : List ℕ
 
 -- what a front that tells has done and has before it: what the client of each connection sends, of those that have arrived
 -- and of those that will; how many have arrived, and how many of these were handed out; its watches, in order; the links
--- that it turned away, in order, each as it was left; the command lines that have come, and how many of these were read;
--- what it was bound to, its dials, in order, and whether listening was stopped; how many things are still to happen; the
+-- that it turned away, in order, each as it was left; the command lines that have come, how many of these were read, and what their
+-- senders were answered, in order; what it was bound to, its dials, in order, and whether listening was stopped; how many things are still to happen; the
 -- moment at which it stands; of a patient one the moments at which something comes by itself, in order; whether an accept
 -- failed since the last wait; and its waits, in order
 pub record FrontTold : Type 0 where
@@ -69,6 +77,7 @@ pub record FrontTold : Type 0 where
   pub turned_away : List LinkTold
   pub lines : List (List ℕ)
   pub read : ℕ
+  pub answers : List AnswerTold
   pub bound : List BoundTold
   pub dialled : List DialTold
   pub hushed : Bool
@@ -79,8 +88,8 @@ pub record FrontTold : Type 0 where
   pub waits : List WaitTold
 
 -- counts that each front keeps, whether it tells or not: of failed binds, waits and dials, of failed accepts, of waits that answered
--- Ended, of waits that gave a moment, of the command lines that it gave, of those of them that say each of the words, and of the links that
--- it handed out
+-- Ended, of waits that gave a moment, of the command lines that it gave, of those of them that say each of the words, of the answers that
+-- their senders were given, and of the links that it handed out
 pub record FrontCounts : Type 0 where
   pub faults : ℕ
   pub accept_faults : ℕ
@@ -88,6 +97,7 @@ pub record FrontCounts : Type 0 where
   pub commands : ℕ
   pub wakes : ℕ
   pub words : GivenWords
+  pub answers : GivenAnswers
   pub handed : ℕ
 
 -- what is seen of a front: the script that it was made of, where it was made of one; what it tells, where it tells; and its
@@ -123,6 +133,7 @@ pub record Binds (old new : FrontSeen) (listen : Addr) (control : Option ℕ) (a
   pub wakes : new.counts.wakes ≡ old.counts.wakes
   pub commands : new.counts.commands ≡ old.counts.commands
   pub words : new.counts.words ≡ old.counts.words
+  pub answers_stay : new.counts.answers ≡ old.counts.answers
   pub handed : new.counts.handed ≡ old.counts.handed
 
 -- the front takes no further connection
@@ -215,6 +226,7 @@ pub record GoesForward (until : Option ℕ) (quiet : Bool) (answer : Woke) (read
   pub come : List (List ℕ)
   pub lines : t'.lines ≡ t.lines ++ come
   pub read : t'.read ≡ t.read
+  pub answers_stay : t'.answers ≡ t.answers
   pub bound : t'.bound ≡ t.bound
   pub dialled : t'.dialled ≡ t.dialled
   pub hushed : t'.hushed ≡ t.hushed
@@ -259,6 +271,7 @@ pub record Waits (old new : FrontSeen) (until : Option ℕ) (quiet : Bool) (answ
   pub wakes : CountsWhere (is_woken answer) old.counts.wakes new.counts.wakes
   pub commands : new.counts.commands ≡ old.counts.commands
   pub words : new.counts.words ≡ old.counts.words
+  pub answers_stay : new.counts.answers ≡ old.counts.answers
   pub handed : new.counts.handed ≡ old.counts.handed
 
 -- ## An accept
@@ -322,6 +335,7 @@ pub record Accepts {L : Type 0} (link_seen : L → LinkSeen) (old new : FrontSee
   pub wakes : new.counts.wakes ≡ old.counts.wakes
   pub commands : new.counts.commands ≡ old.counts.commands
   pub words : new.counts.words ≡ old.counts.words
+  pub answers_stay : new.counts.answers ≡ old.counts.answers
   pub handed : CountsWhere (is_handed answer) old.counts.handed new.counts.handed
 
 -- ## A watch
@@ -376,22 +390,38 @@ pub record Commands (old new : FrontSeen) (answer : Option (List ℕ)) : Type 0 
   pub wakes : new.counts.wakes ≡ old.counts.wakes
   pub commands : RisesExactlyWhere (is_some answer) old.counts.commands new.counts.commands
   pub words : CountsWords answer old.counts.words new.counts.words
+  pub answers_stay : new.counts.answers ≡ old.counts.answers
   pub handed : new.counts.handed ≡ old.counts.handed
+
+-- ## An answer to a command line
+
+-- what the front tells after the sender of the line that was read last was answered with the text
+abbrev pub after_answer : List ℕ → FrontTold → FrontTold
+after_answer text t = record t { answers = t.answers ++ record { read = t.read; text = text } ∷ [] }
+
+-- what is left of the front after that: it counted the answer
+pub record Answers (old new : FrontSeen) (text : List ℕ) : Type 0 where
+  pub rest : new ≡ record old { told = option_map (after_answer text) old.told; counts = record old.counts { answers = new.counts.answers } }
+  pub counted : CountsAnswer text old.counts.answers new.counts.answers
 
 -- ## A dial
 
--- what the front tells after a dial of the port with the word, which answered this
-abbrev pub after_dial : ℕ → List ℕ → Bool → FrontTold → FrontTold
-after_dial port word answer t = record t { dialled = t.dialled ++ record { port = port; word = word; answer = answer } ∷ [] }
+-- what the front tells after a dial of the port with the word, which answered this, and of which this came back
+abbrev pub after_dial : ℕ → List ℕ → Bool → List ℕ → FrontTold → FrontTold
+after_dial port word answer text t =
+    record t { dialled = t.dialled ++ record { port = port; word = word; answer = answer; text = text } ∷ [] }
 
--- what a dial answered, and left of the front
-pub record Dials (old new : FrontSeen) (port : ℕ) (word : List ℕ) (answer : Bool) : Type 0 where
+-- what a dial answered, what came back, at most 512 bytes, none where it failed, and what is left of the front
+pub record Dials (old new : FrontSeen) (port : ℕ) (word : List ℕ) (answer : Bool) (text : List ℕ) : Type 0 where
   pub script : new.script ≡ old.script
-  pub told_is : new.told ≡ option_map (after_dial port word answer) old.told
+  pub told_is : new.told ≡ option_map (after_dial port word answer text) old.told
+  pub few : length text ≤ most_answer
+  pub none : answer ≡ false → text ≡ []
   pub faults : RisesWhere (not answer) old.counts.faults new.counts.faults
   pub accept_faults : new.counts.accept_faults ≡ old.counts.accept_faults
   pub ends : new.counts.ends ≡ old.counts.ends
   pub wakes : new.counts.wakes ≡ old.counts.wakes
   pub commands : new.counts.commands ≡ old.counts.commands
   pub words : new.counts.words ≡ old.counts.words
+  pub answers_stay : new.counts.answers ≡ old.counts.answers
   pub handed : new.counts.handed ≡ old.counts.handed

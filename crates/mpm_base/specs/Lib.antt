@@ -4,6 +4,7 @@ pub mod CommandWord
 pub mod Count
 pub mod Digits
 pub mod Front
+pub mod GivenAnswers
 pub mod GivenWords
 pub mod LetterCase
 pub mod Link

@@ -1,6 +1,6 @@
 -- A link is one connection's way to its client. What it tells of itself, its counts, and what each call does to them.
 -- Why it is so stands in docs/DECISIONS.md: 4, What a link tells of the bytes that come.
-use Rattle.std.specs.Prelude.{◌≡◌, ◌==◌, ℕ, ◌<◌, ◌≤◌, Bool, true, false, not, List, [], ◌++◌, take, drop, length, Option, Some, option_map, IfSome, if◌then◌else◌, ⊤}
+use Rattle.std.specs.Prelude.{◌≡◌, ◌==◌, ℕ, ◌<◌, ◌≤◌, Bool, true, false, not, List, [], ◌∷◌, ◌++◌, take, drop, length, Option, Some, option_map, IfSome, if◌then◌else◌, ⊤}
 use Rattle.mpm_base.specs.Count.{next_count, RisesWhere, RisesExactlyWhere}
 use Rattle.mpm_base.specs.declared.link.Got.{Got}
 use Rattle.mpm_base.specs.declared.link.Got.TheVariants as got
@@ -165,3 +165,19 @@ after_close t = record t { closes = next_count t.closes }
 pub record Closes (old new : LinkSeen) : Type 0 where
   pub told_is : new.told ≡ option_map after_close old.told
   pub only_faults : OnlyFaults false old.counts new.counts
+
+-- ## Calls
+
+-- what a link tells of its calls: of each read for how many bytes there was room and what it answered, and of each write how many bytes it
+-- was offered and what it answered, in their order
+pub record LinkCalls : Type 0 where
+  pub reads : List (ℕ × Got)
+  pub writes : List (ℕ × Sent)
+
+-- a read more, with room for so many bytes
+abbrev pub with_read : ℕ → Got → LinkCalls → LinkCalls
+with_read room answer calls = record calls { reads = calls.reads ++ (room, answer) ∷ [] }
+
+-- a write more, which was offered so many bytes
+abbrev pub with_write : ℕ → Sent → LinkCalls → LinkCalls
+with_write offered answer calls = record calls { writes = calls.writes ++ (offered, answer) ∷ [] }

@@ -11,3 +11,4 @@ abbrev pub is_in_bounds : Shape → Bool
 is_in_bounds s =
     is_between 1 64 s.threads && is_between 1 10000 s.factor && is_between 1000 65535000 s.read_ms && is_between 1 65535000 s.keep_ms
     && is_between 1 65535 s.most && is_between 1 32 s.children && is_between 1 s.children s.target
+    && nat_le s.whole_ms 65535000

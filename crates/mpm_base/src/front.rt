@@ -6,6 +6,7 @@ use crate::conn::{ConnName, Moment};
 use crate::line::Line;
 use crate::link::Link;
 use crate::memory::NoMemory;
+use crate::octets::Octets;
 use crate::ready::Ready;
 use std::alloc::Global;
 use std::sync::Wait;
@@ -37,8 +38,9 @@ pub enum Arrival<L> {
 /// What a front tells of itself (`told`) is there only where the object tells it: the front of a script does, one over
 /// sockets does not. One that tells does so to its end. Its counts are there for every front.
 pub trait Front {
-    ghost use Rattle.std.specs.Prelude.{◌≡◌};
-    ghost use Rattle.mpm_base.specs.Front.{FrontSeen, Accepts, Binds, Commands, Dials, Waits, Watches, after_hush, front_after_turning_away};
+    ghost use Rattle.std.specs.Prelude.{◌≡◌, ◌≤◌, length};
+    ghost use Rattle.mpm_base.specs.GivenAnswers.{most_answer};
+    ghost use Rattle.mpm_base.specs.Front.{FrontSeen, Accepts, Answers, Binds, Commands, Dials, Waits, Watches, after_hush, front_after_turning_away};
 
     /// The links that it hands out.
     type L: Link + Send;
@@ -47,8 +49,8 @@ pub trait Front {
     type B: Bell + Send + Sync;
 
     /// The script that it was made of, which no call changes; what it tells: what has come and what will, what was taken and
-    /// turned away, and its waits; and its counts of failed binds, waits and dials, of failed accepts, of waits that answered Ended, of command
-    /// lines, of those that say each of the words, and of links that it handed out, none of which ever falls.
+    /// turned away, what was answered, and its waits; and its counts of failed binds, waits and dials, of failed accepts, of waits that answered
+    /// Ended, of command lines, of those that say each of the words, of answers, and of links that it handed out, none of which ever falls.
     ghost seen: { Self → FrontSeen };
 
     /// From now on connections are taken at the address, and command lines at the port of this machine, where there is one.
@@ -90,9 +92,17 @@ pub trait Front {
     fn command(&mut self) -> Option<Line>
         ensures commands { Commands (seen self.old) (seen self.new) result };
 
-    /// Sends the word as a command line to the port of this machine, and waits until it is taken. False where the call failed.
-    fn dial(&mut self, port: u16, word: &str) -> bool
-        ensures dials { Dials (seen self.old) (seen self.new) port word.now result };
+    /// The sender of the line that `command` gave last gets the text, at most 512 bytes, and then its connection is closed. It takes no
+    /// memory and waits for nothing: what isn't taken at once is lost, and so is all where the sender has gone, or was answered before. The
+    /// connection of a line that isn't answered is closed when the next line is asked for.
+    fn answer(&mut self, text: &[u8])
+        requires few { length text.now ≤ most_answer }
+        ensures answers { Answers (seen self.old) (seen self.new) text.now };
+
+    /// Sends the word as a command line to the port of this machine, and waits until the server closes. What came back stands in `answer`
+    /// then, in place of what it had: at most 512 bytes, and nothing where the call failed. False where it failed.
+    fn dial(&mut self, port: u16, word: &str, answer: &mut Octets) -> bool
+        ensures dials { Dials (seen self.old) (seen self.new) port word.now result answer.new };
 
     /// A bell that ends the wait of this front.
     fn bell(&mut self, alloc: Global) -> Result<Self::B, NoMemory>

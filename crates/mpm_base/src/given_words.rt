@@ -1,19 +1,23 @@
-//! How many of the command lines that a front gave say each of the words.
+//! How many command lines a front gave, and how many of them say each of the words.
 ghost use Rattle.std.specs.Prelude.{◌≡◌};
 ghost use Rattle.mpm_base.specs.Count.{CountsWhere};
 ghost use Rattle.mpm_base.specs.GivenWords.{CountsWords, no_words};
 
 use crate::line::Line;
 
-/// How many command lines were given that say each of the words. A number that stands at its greatest stays there.
+/// How many command lines were given, and how many of them say each of the words. A number that stands at its greatest stays there.
 #[derive(Clone, Copy, Debug, PartialEq, Eq)]
 pub struct GivenWords {
+    /// All of them.
+    pub all: u64,
     /// Those that say `graceful`.
     pub graceful: u64,
     /// Those that say `graceful-stop`.
     pub graceful_stop: u64,
     /// Those that say `stop`.
     pub stop: u64,
+    /// Those that say `status`.
+    pub status: u64,
 }
 
 impl GivenWords {
@@ -22,9 +26,11 @@ impl GivenWords {
         ensures { result ≡ no_words }
     {
         GivenWords {
+            all: 0,
             graceful: 0,
             graceful_stop: 0,
             stop: 0,
+            status: 0,
         }
     }
 
@@ -39,9 +45,12 @@ impl GivenWords {
         let graceful = text == "graceful";
         let graceful_stop = text == "graceful-stop";
         let stop = text == "stop";
+        let status = text == "status";
+        self.all = counted(self.all, true);
         self.graceful = counted(self.graceful, graceful);
         self.graceful_stop = counted(self.graceful_stop, graceful_stop);
         self.stop = counted(self.stop, stop);
+        self.status = counted(self.status, status);
     }
 }
 

@@ -30,24 +30,34 @@ pub enum Sent {
 /// What a link tells of itself (`told`) is there only where the object tells it: the links of a script do,
 /// a real socket does not. Its counts are there for every link.
 pub trait Link: Drop {
-    ghost use Rattle.std.specs.Prelude.{◌++◌};
-    ghost use Rattle.mpm_base.specs.Link.{LinkSeen, Reads, Writes, Shuts, Closes};
+    ghost use Rattle.std.specs.Prelude.{◌≡◌, ◌++◌, length, Option, option_map};
+    ghost use Rattle.mpm_base.specs.Link.{LinkSeen, LinkCalls, Reads, Writes, Shuts, Closes, with_read, with_write};
 
     /// What it tells: what was received and sent, and whether it was half-closed or closed; and its counts of faults, of calls
     /// that were not ready, and of reads that found the end, none of which ever falls.
     ghost seen: { Self → LinkSeen };
 
+    /// Of a link that tells its calls, how many bytes each of them was for, and what it answered. The links of a script don't.
+    ghost calls: { Self → Option LinkCalls };
+
     /// Reads into the front of the buffer.
     fn read(&mut self, buffer: &mut [u8]) -> Got
-        ensures { Reads (seen self.old) (seen self.new) result buffer.new };
+        ensures reads { Reads (seen self.old) (seen self.new) result buffer.new }
+        ensures asks { calls self.new
+            ≡ option_map (with_read (length buffer.new) result) (calls self.old) };
 
     /// Writes from the front of the piece.
     fn write(&mut self, bytes: &[u8]) -> Sent
-        ensures { Writes (seen self.old) (seen self.new) result bytes.now };
+        ensures writes { Writes (seen self.old) (seen self.new) result bytes.now }
+        ensures offers { calls self.new
+            ≡ option_map (with_write (length bytes.now) result) (calls self.old) };
 
     /// Writes from the front of the one piece followed by the other, by one call.
     fn write_pair(&mut self, first: &[u8], second: &[u8]) -> Sent
-        ensures { Writes (seen self.old) (seen self.new) result (first.now ++ second.now) };
+        ensures writes { Writes (seen self.old) (seen self.new) result (first.now ++ second.now) }
+        ensures offers { calls self.new
+            ≡ option_map (with_write (length (first.now ++ second.now)) result)
+            (calls self.old) };
 
     /// Half-closes the link: the client is told that no more comes. False where the call failed.
     fn shut(&mut self) -> bool

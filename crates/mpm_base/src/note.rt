@@ -78,7 +78,7 @@ pub struct Note {
     pub page: Option<Page>,
 }
 
-// A connection keeps its notes as long as it lives.
+// What is decided is handed on by value.
 const _: () = prove!(size_of::<Note>() <= 32);
 
 /// A list of notes, as contracts see it, in the order of the responses.

@@ -21,6 +21,8 @@ pub enum CommandWord {
     GracefulStop,
     /// `stop`: the server stops at once.
     Stop,
+    /// `status`: what the server does is told, and nothing changes.
+    Status,
 }
 
 /// What happens to the link of a connection.

@@ -18,4 +18,6 @@ pub struct Shape {
     pub target: u32,
     /// Children that may run, 1 to 32.
     pub children: u32,
+    /// RequestReadTimeout in milliseconds, 0 to 65,535,000: for a whole request; 0 stands for no limit.
+    pub whole_ms: u64,
 }

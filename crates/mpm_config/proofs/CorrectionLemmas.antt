@@ -1,10 +1,11 @@
 -- The corrections in terms of plain numbers, and what holds of the numbers after them.
-use Rattle.std.proofs.Common.{◌≡◌, ℕ, ◌+◌, ◌-◌, ◌*◌, ◌/◌, ◌%◌, ◌<◌, ◌≤◌, ◌^◌, ◌==◌, ◌&&◌, Bool, true, nat_lt, if◌then◌else◌, Some, None, unwrap_or, subst, sym, arith}
+use Rattle.std.proofs.Common.{◌≡◌, ℕ, ◌+◌, ◌-◌, ◌*◌, ◌/◌, ◌%◌, ◌<◌, ◌≤◌, ◌^◌, ◌==◌, ◌&&◌, Bool, true, nat_le, nat_lt, if◌then◌else◌, Some, None, unwrap_or, subst, sym, arith}
 use Rattle.std.proofs.Math.Nat.{mul-le-mul_right}
 use Rattle.std.proofs.lemmas.Nat.{le-div, div_below, div-add-mod'}
+use Rattle.std.proofs.lemmas.Bool.{le-leb}
 use Rattle.std.proofs.lemmas.Bool.Decides.{nat_tests}
 use Rattle.mpm_config.specs.declared.numbers.Numbers.{Numbers}
-use Rattle.mpm_config.specs.declared.directive.Quantity.TheVariants.{ServerLimit, ThreadLimit, MinSpareThreads, AsyncRequestWorkerFactor, Timeout, KeepAliveTimeout, MaxKeepAliveRequests}
+use Rattle.mpm_config.specs.declared.directive.Quantity.TheVariants.{ServerLimit, ThreadLimit, MinSpareThreads, AsyncRequestWorkerFactor, Timeout, RequestReadTimeout, KeepAliveTimeout, MaxKeepAliveRequests}
 use Rattle.mpm_config.specs.Numbers.{IsInRange}
 use Rattle.mpm_config.specs.Correction.{order, after_corrections}
 use Rattle.mpm_config.specs.CorrectionInside.{AllReady}
@@ -96,9 +97,9 @@ both x y h k = subst (λ b. (b && y) ≡ true) (sym h) k
 -- a shape whose numbers lie in their bounds is in bounds
 bounded : (s : Shape) → is_between 1 64 s.threads ≡ true → is_between 1 10000 s.factor ≡ true → is_between 1000 65535000 s.read_ms ≡ true
     → is_between 1 65535000 s.keep_ms ≡ true → is_between 1 65535 s.most ≡ true → is_between 1 32 s.children ≡ true
-    → is_between 1 s.children s.target ≡ true → is_in_bounds s ≡ true
-bounded s threads factor read keep most children target =
-    both _ _ (both _ _ (both _ _ (both _ _ (both _ _ (both _ _ threads factor) read) keep) most) children) target
+    → is_between 1 s.children s.target ≡ true → nat_le s.whole_ms 65535000 ≡ true → is_in_bounds s ≡ true
+bounded s threads factor read keep most children target whole =
+    both _ _ (both _ _ (both _ _ (both _ _ (both _ _ (both _ _ (both _ _ threads factor) read) keep) most) children) target) whole
 
 -- the corrected threads of a child
 pub corrected_threads : (n : Numbers) → IsInRange n → (1 ≤ (after_corrections n).threads) × ((after_corrections n).threads ≤ 64)
@@ -111,6 +112,7 @@ in_bounds n h =
     let factor_range = h AsyncRequestWorkerFactor in
     let read_range = h Timeout in
     let keep_range = h KeepAliveTimeout in
+    let whole_range = h RequestReadTimeout in
     let most_range = h MaxKeepAliveRequests in
     let t = threads_bounds n.threads n.thread_limit limit.least limit.greatest in
     let w = workers_bounds n.max_workers (down (one n.threads) n.thread_limit) n.server_limit t.0 servers.least servers.greatest in
@@ -122,3 +124,4 @@ in_bounds n h =
     (within 1 65535 _ (down-ge n.most 65535 1 most_range.least (omega arith)) (down-le n.most 65535))
     (within 1 32 _ w.0 w.1)
     (within 1 _ _ (down-ge (one n.start_servers) _ 1 (one-ge n.start_servers) w.0) (down-le (one n.start_servers) _))
+    (le-leb _ 65535000 whole_range.greatest)

@@ -2,7 +2,7 @@
 use Rattle.std.proofs.Common.{◌≡◌, ℕ, ◌+◌, ◌≤◌, ◌==◌, ◌++◌, nat_lt, if◌then◌else◌, Bool, true, false, List, [], ◌∷◌, Option, Some, None, Result, Ok, Err, length, refl, ap, sym, ◌∙◌, subst, arith}
 use Rattle.std.specs.Result.{IfOk, IfErr}
 use Rattle.mpm_config.specs.declared.directive.Quantity.{Quantity}
-use Rattle.mpm_config.specs.declared.directive.Quantity.TheVariants.{ServerLimit, ThreadLimit, StartServers, MinSpareThreads, MaxSpareThreads, ThreadsPerChild, MaxRequestWorkers, MaxConnectionsPerChild, AsyncRequestWorkerFactor, Timeout, KeepAliveTimeout, MaxKeepAliveRequests, GracefulShutdownTimeout, LimitRequestLine, LimitRequestFieldSize, LimitRequestFields}
+use Rattle.mpm_config.specs.declared.directive.Quantity.TheVariants.{ServerLimit, ThreadLimit, StartServers, MinSpareThreads, MaxSpareThreads, ThreadsPerChild, MaxRequestWorkers, MaxConnectionsPerChild, AsyncRequestWorkerFactor, Timeout, RequestReadTimeout, KeepAliveTimeout, MaxKeepAliveRequests, GracefulShutdownTimeout, LimitRequestLine, LimitRequestFieldSize, LimitRequestFields}
 use Rattle.mpm_config.specs.declared.fault.ConfFault.{ConfFault}
 use Rattle.mpm_config.specs.declared.form.Form.{Form}
 use Rattle.mpm_config.specs.declared.form.Form.TheVariants as form
@@ -29,6 +29,7 @@ set_twice n MaxRequestWorkers a b = refl
 set_twice n MaxConnectionsPerChild a b = refl
 set_twice n AsyncRequestWorkerFactor a b = refl
 set_twice n Timeout a b = refl
+set_twice n RequestReadTimeout a b = refl
 set_twice n KeepAliveTimeout a b = refl
 set_twice n MaxKeepAliveRequests a b = refl
 set_twice n GracefulShutdownTimeout a b = refl
@@ -44,6 +45,7 @@ replaced s v w (sets.Listen a) (sets.Listen b) h = refl
 replaced s v w (sets.ControlListen p) (sets.ControlListen q) h = refl
 replaced s v w sets.DocumentRoot sets.DocumentRoot h = refl
 replaced s v w sets.DirectoryIndex sets.DirectoryIndex h = refl
+replaced s v w (sets.ServerStatus b) (sets.ServerStatus c) h = refl
 replaced s v w sets.ServerName sets.ServerName h = refl
 replaced s v w a b h = absurd h
 

@@ -2,7 +2,7 @@
 use Rattle.std.proofs.Common.{ℕ}
 use Rattle.mpm_config.specs.declared.numbers.Numbers.{Numbers}
 use Rattle.mpm_config.specs.declared.directive.Quantity.{Quantity}
-use Rattle.mpm_config.specs.declared.directive.Quantity.TheVariants.{ServerLimit, ThreadLimit, StartServers, MinSpareThreads, MaxSpareThreads, ThreadsPerChild, MaxRequestWorkers, MaxConnectionsPerChild, AsyncRequestWorkerFactor, Timeout, KeepAliveTimeout, MaxKeepAliveRequests, GracefulShutdownTimeout, LimitRequestLine, LimitRequestFieldSize, LimitRequestFields}
+use Rattle.mpm_config.specs.declared.directive.Quantity.TheVariants.{ServerLimit, ThreadLimit, StartServers, MinSpareThreads, MaxSpareThreads, ThreadsPerChild, MaxRequestWorkers, MaxConnectionsPerChild, AsyncRequestWorkerFactor, Timeout, RequestReadTimeout, KeepAliveTimeout, MaxKeepAliveRequests, GracefulShutdownTimeout, LimitRequestLine, LimitRequestFieldSize, LimitRequestFields}
 use Rattle.mpm_config.specs.Range.{IsAllowed}
 use Rattle.mpm_config.specs.Numbers.{with_number, IsInRange}
 
@@ -17,6 +17,7 @@ set_in_range n h MaxRequestWorkers m w MaxRequestWorkers = w
 set_in_range n h MaxConnectionsPerChild m w MaxConnectionsPerChild = w
 set_in_range n h AsyncRequestWorkerFactor m w AsyncRequestWorkerFactor = w
 set_in_range n h Timeout m w Timeout = w
+set_in_range n h RequestReadTimeout m w RequestReadTimeout = w
 set_in_range n h KeepAliveTimeout m w KeepAliveTimeout = w
 set_in_range n h MaxKeepAliveRequests m w MaxKeepAliveRequests = w
 set_in_range n h GracefulShutdownTimeout m w GracefulShutdownTimeout = w

@@ -1,5 +1,5 @@
 -- A configuration, as contracts see it.
-use Rattle.std.specs.Prelude.{◌≡◌, ℕ, List, Option}
+use Rattle.std.specs.Prelude.{◌≡◌, ℕ, Bool, List, Option}
 use Rattle.std.specs.Str.{IsUtf8}
 use Rattle.mpm_base.specs.declared.addr.Addr.{Addr}
 use Rattle.mpm_config.specs.declared.numbers.Numbers.{Numbers}
@@ -7,7 +7,7 @@ use Rattle.mpm_config.specs.Numbers.{IsInRange}
 use Rattle.mpm_config.specs.Correction.{after_corrections}
 
 -- the numbers as they were written and after the corrections, the address to listen at, the port of the
--- control line, the folder of the files, and the name of a folder's own file
+-- control line, the folder of the files, the name of a folder's own file, and whether the status page is served
 pub record Configuration : Type 0 where
   pub written : Numbers
   pub current : Numbers
@@ -15,6 +15,7 @@ pub record Configuration : Type 0 where
   pub control : Option ℕ
   pub root : List ℕ
   pub index : List ℕ
+  pub status : Bool
 
 -- what every configuration keeps
 pub record IsConfiguration (written current : Numbers) (root index : List ℕ) : Type 0 where

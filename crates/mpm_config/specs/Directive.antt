@@ -2,7 +2,7 @@
 use Rattle.std.specs.Prelude.{ℕ, List, [], ◌∷◌, Option, find, codes, option_map}
 use Rattle.mpm_base.specs.LetterCase.{is_same_ignoring_case}
 use Rattle.mpm_config.specs.declared.directive.Directive.{Directive}
-use Rattle.mpm_config.specs.declared.directive.Directive.TheVariants.{Number, KeepAlive, Listen, ControlListen, DocumentRoot, DirectoryIndex, ServerName}
+use Rattle.mpm_config.specs.declared.directive.Directive.TheVariants.{Number, KeepAlive, Listen, ControlListen, DocumentRoot, DirectoryIndex, ServerStatus, ServerName}
 use Rattle.mpm_config.specs.declared.directive.Quantity.{Quantity}
 use Rattle.mpm_config.specs.declared.directive.Quantity.TheVariants as number
 
@@ -18,6 +18,7 @@ quantity_name number.MaxRequestWorkers = codes "MaxRequestWorkers"
 quantity_name number.MaxConnectionsPerChild = codes "MaxConnectionsPerChild"
 quantity_name number.AsyncRequestWorkerFactor = codes "AsyncRequestWorkerFactor"
 quantity_name number.Timeout = codes "Timeout"
+quantity_name number.RequestReadTimeout = codes "RequestReadTimeout"
 quantity_name number.KeepAliveTimeout = codes "KeepAliveTimeout"
 quantity_name number.MaxKeepAliveRequests = codes "MaxKeepAliveRequests"
 quantity_name number.GracefulShutdownTimeout = codes "GracefulShutdownTimeout"
@@ -49,6 +50,7 @@ names =
     record { text = codes "MaxRequestsPerChild"; directive = Number number.MaxConnectionsPerChild } ∷
     first_name number.AsyncRequestWorkerFactor ∷
     first_name number.Timeout ∷
+    first_name number.RequestReadTimeout ∷
     record { text = codes "KeepAlive"; directive = KeepAlive } ∷
     first_name number.KeepAliveTimeout ∷
     first_name number.MaxKeepAliveRequests ∷
@@ -60,6 +62,7 @@ names =
     record { text = codes "ControlListen"; directive = ControlListen } ∷
     record { text = codes "DocumentRoot"; directive = DocumentRoot } ∷
     record { text = codes "DirectoryIndex"; directive = DirectoryIndex } ∷
+    record { text = codes "ServerStatus"; directive = ServerStatus } ∷
     record { text = codes "ServerName"; directive = ServerName } ∷ []
 
 -- the directive of the first of the names that the word is

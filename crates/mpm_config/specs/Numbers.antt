@@ -2,7 +2,7 @@
 use Rattle.std.specs.Prelude.{ℕ, true, ◌*◌}
 use Rattle.mpm_config.specs.declared.numbers.Numbers.{Numbers}
 use Rattle.mpm_config.specs.declared.directive.Quantity.{Quantity}
-use Rattle.mpm_config.specs.declared.directive.Quantity.TheVariants.{ServerLimit, ThreadLimit, StartServers, MinSpareThreads, MaxSpareThreads, ThreadsPerChild, MaxRequestWorkers, MaxConnectionsPerChild, AsyncRequestWorkerFactor, Timeout, KeepAliveTimeout, MaxKeepAliveRequests, GracefulShutdownTimeout, LimitRequestLine, LimitRequestFieldSize, LimitRequestFields}
+use Rattle.mpm_config.specs.declared.directive.Quantity.TheVariants.{ServerLimit, ThreadLimit, StartServers, MinSpareThreads, MaxSpareThreads, ThreadsPerChild, MaxRequestWorkers, MaxConnectionsPerChild, AsyncRequestWorkerFactor, Timeout, RequestReadTimeout, KeepAliveTimeout, MaxKeepAliveRequests, GracefulShutdownTimeout, LimitRequestLine, LimitRequestFieldSize, LimitRequestFields}
 use Rattle.mpm_config.specs.Range.{range_of, IsAllowed}
 
 -- the number that a directive names
@@ -17,6 +17,7 @@ number_at n MaxRequestWorkers = n.max_workers
 number_at n MaxConnectionsPerChild = n.max_conns
 number_at n AsyncRequestWorkerFactor = n.factor
 number_at n Timeout = n.timeout_ms
+number_at n RequestReadTimeout = n.whole_ms
 number_at n KeepAliveTimeout = n.keep_ms
 number_at n MaxKeepAliveRequests = n.most
 number_at n GracefulShutdownTimeout = n.stop_ms
@@ -36,6 +37,7 @@ with_number n MaxRequestWorkers m = record n { max_workers = m }
 with_number n MaxConnectionsPerChild m = record n { max_conns = m }
 with_number n AsyncRequestWorkerFactor m = record n { factor = m }
 with_number n Timeout m = record n { timeout_ms = m }
+with_number n RequestReadTimeout m = record n { whole_ms = m }
 with_number n KeepAliveTimeout m = record n { keep_ms = m }
 with_number n MaxKeepAliveRequests m = record n { most = m }
 with_number n GracefulShutdownTimeout m = record n { stop_ms = m }
@@ -60,6 +62,7 @@ initial_numbers = record {
   max_conns = default_of MaxConnectionsPerChild;
   factor = default_of AsyncRequestWorkerFactor;
   timeout_ms = default_of Timeout;
+  whole_ms = default_of RequestReadTimeout;
   keep_ms = default_of KeepAliveTimeout;
   keep = true;
   most = default_of MaxKeepAliveRequests;

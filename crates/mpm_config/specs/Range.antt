@@ -2,7 +2,7 @@
 use Rattle.std.specs.Prelude.{ℕ, ◌*◌, ◌≤◌, ◌==◌, ◌&&◌, nat_le, if◌then◌else◌, Option, Some, None}
 use Rattle.mpm_config.specs.declared.range.NumberRange.{NumberRange}
 use Rattle.mpm_config.specs.declared.directive.Quantity.{Quantity}
-use Rattle.mpm_config.specs.declared.directive.Quantity.TheVariants.{ServerLimit, ThreadLimit, StartServers, MinSpareThreads, MaxSpareThreads, ThreadsPerChild, MaxRequestWorkers, MaxConnectionsPerChild, AsyncRequestWorkerFactor, Timeout, KeepAliveTimeout, MaxKeepAliveRequests, GracefulShutdownTimeout, LimitRequestLine, LimitRequestFieldSize, LimitRequestFields}
+use Rattle.mpm_config.specs.declared.directive.Quantity.TheVariants.{ServerLimit, ThreadLimit, StartServers, MinSpareThreads, MaxSpareThreads, ThreadsPerChild, MaxRequestWorkers, MaxConnectionsPerChild, AsyncRequestWorkerFactor, Timeout, RequestReadTimeout, KeepAliveTimeout, MaxKeepAliveRequests, GracefulShutdownTimeout, LimitRequestLine, LimitRequestFieldSize, LimitRequestFields}
 
 -- a line of the table: the default, the least and greatest number that may be written, what 0 is taken as (0: as it is), and what 1 is kept as
 abbrev pub table_line : ℕ → ℕ → ℕ → ℕ → ℕ → NumberRange
@@ -20,6 +20,7 @@ range_of MaxRequestWorkers = table_line 400 0 999999999 0 1
 range_of MaxConnectionsPerChild = table_line 0 0 999999999 0 1
 range_of AsyncRequestWorkerFactor = table_line 200 1 10000 0 1
 range_of Timeout = table_line 60 1 65535 0 1000
+range_of RequestReadTimeout = table_line 0 0 65535 0 1000
 range_of KeepAliveTimeout = table_line 5 1 65535 0 1000
 range_of MaxKeepAliveRequests = table_line 100 0 999999999 65535 1
 range_of GracefulShutdownTimeout = table_line 0 0 65535 0 1000

@@ -100,7 +100,7 @@ pub record ConfigAndWarnings : Type 0 where
 -- the configuration of the settings of a whole text
 abbrev pub configuration_of : Settings → ConfigAndWarnings
 configuration_of s = record {
-  config = record { written = s.numbers; current = after_corrections s.numbers; listen = s.listen; control = s.control; root = s.root; index = s.index };
+  config = record { written = s.numbers; current = after_corrections s.numbers; listen = s.listen; control = s.control; root = s.root; index = s.index; status = s.status };
   warnings = notices s.numbers;
 }
 

@@ -1,7 +1,7 @@
 -- What the line of a directive sets.
 use Rattle.std.specs.Prelude.{ℕ, List, [], ◌∷◌, Option, Some, None, option_map, if◌then◌else◌, Result, Ok, Err}
 use Rattle.mpm_config.specs.declared.directive.Directive.{Directive}
-use Rattle.mpm_config.specs.declared.directive.Directive.TheVariants.{Number, KeepAlive, Listen, ControlListen, DocumentRoot, DirectoryIndex, ServerName}
+use Rattle.mpm_config.specs.declared.directive.Directive.TheVariants.{Number, KeepAlive, Listen, ControlListen, DocumentRoot, DirectoryIndex, ServerStatus, ServerName}
 use Rattle.mpm_config.specs.declared.setting.Setting.{Setting}
 use Rattle.mpm_config.specs.declared.setting.Setting.TheVariants as sets
 use Rattle.mpm_config.specs.declared.setting.Wrong.{Wrong}
@@ -19,6 +19,7 @@ setting_of Listen v = option_map (λ a. sets.Listen a) (address v)
 setting_of ControlListen v = option_map (λ p. sets.ControlListen p) (number port_range v)
 setting_of DocumentRoot v = if is_folder v then Some sets.DocumentRoot else None
 setting_of DirectoryIndex v = if is_file v then Some sets.DirectoryIndex else None
+setting_of ServerStatus v = option_map (λ b. sets.ServerStatus b) (switch v)
 setting_of ServerName v = Some sets.ServerName
 
 -- a setting, and the value that spells it

@@ -1,18 +1,20 @@
 -- What the directives of a text set.
-use Rattle.std.specs.Prelude.{◌≡◌, ℕ, List, [], ◌∷◌, Option, Some, None, codes}
+use Rattle.std.specs.Prelude.{◌≡◌, ℕ, Bool, true, List, [], ◌∷◌, Option, Some, None, codes}
 use Rattle.mpm_base.specs.declared.addr.Addr.{Addr}
 use Rattle.mpm_config.specs.declared.numbers.Numbers.{Numbers}
 use Rattle.mpm_config.specs.declared.setting.Setting.{Setting}
-use Rattle.mpm_config.specs.declared.setting.Setting.TheVariants.{Number, KeepAlive, Listen, ControlListen, DocumentRoot, DirectoryIndex, ServerName}
+use Rattle.mpm_config.specs.declared.setting.Setting.TheVariants.{Number, KeepAlive, Listen, ControlListen, DocumentRoot, DirectoryIndex, ServerStatus, ServerName}
 use Rattle.mpm_config.specs.Numbers.{initial_numbers, with_number}
 
--- the numbers, the address to listen at, the port of the control line, the folder of the files and a folder's own file
+-- the numbers, the address to listen at, the port of the control line, the folder of the files, a folder's own file, and whether the
+-- status page is served
 pub record Settings : Type 0 where
   pub numbers : Numbers
   pub listen : Addr
   pub control : Option ℕ
   pub root : List ℕ
   pub index : List ℕ
+  pub status : Bool
 
 -- the settings of the empty text
 abbrev pub initial_settings : Settings
@@ -22,6 +24,7 @@ initial_settings = record {
   control = None;
   root = codes "htdocs";
   index = codes "index.html";
+  status = true;
 }
 
 -- the settings after one more, which that value spells
@@ -32,6 +35,7 @@ with_setting s v (Listen a) = record s { listen = a }
 with_setting s v (ControlListen p) = record s { control = Some p }
 with_setting s v DocumentRoot = record s { root = v }
 with_setting s v DirectoryIndex = record s { index = v }
+with_setting s v (ServerStatus b) = record s { status = b }
 with_setting s v ServerName = s
 
 -- both settings are of one directive
@@ -42,5 +46,6 @@ IsSameDirective (Listen a) (Listen b) = Unit {0}
 IsSameDirective (ControlListen p) (ControlListen q) = Unit {0}
 IsSameDirective DocumentRoot DocumentRoot = Unit {0}
 IsSameDirective DirectoryIndex DirectoryIndex = Unit {0}
+IsSameDirective (ServerStatus b) (ServerStatus c) = Unit {0}
 IsSameDirective ServerName ServerName = Unit {0}
 IsSameDirective s t = ⊥

@@ -14,4 +14,5 @@ shape_of_numbers n = record {
   most = n.most;
   target = n.start_servers;
   children = n.max_workers / n.threads;
+  whole_ms = n.whole_ms;
 }

@@ -22,6 +22,8 @@ pub struct Config {
     pub root: Octets,
     /// DirectoryIndex, without a `/`.
     pub index: Octets,
+    /// ServerStatus: whether the status page is served.
+    pub status: bool,
 }
 
 impl Model for Config {
@@ -36,6 +38,7 @@ impl Model for Config {
       control = c.control;
       root = c.root;
       index = c.index;
+      status = c.status;
     } };
 
     ghost invariant = { λ c. IsConfiguration c.written c.now c.root c.index };
@@ -79,6 +82,7 @@ fn shape_by(now: &Numbers) -> Shape
         most: now.most,
         target: now.start_servers,
         children: now.max_workers / now.threads,
+        whole_ms: now.whole_ms,
     }
 }
 

@@ -19,6 +19,7 @@ pub enum Quantity {
     MaxConnectionsPerChild,
     AsyncRequestWorkerFactor,
     Timeout,
+    RequestReadTimeout,
     KeepAliveTimeout,
     MaxKeepAliveRequests,
     GracefulShutdownTimeout,
@@ -36,6 +37,7 @@ pub enum Directive {
     ControlListen,
     DocumentRoot,
     DirectoryIndex,
+    ServerStatus,
     ServerName,
 }
 
@@ -47,7 +49,7 @@ pub struct Spelling {
 }
 
 /// Every name of the language, the first spelling of a directive before the others.
-pub const SPELLINGS: [Spelling; 24] = [
+pub const SPELLINGS: [Spelling; 26] = [
     Spelling {
         name: "ServerLimit",
         directive: Directive::Number(Quantity::ServerLimit),
@@ -97,6 +99,10 @@ pub const SPELLINGS: [Spelling; 24] = [
         directive: Directive::Number(Quantity::Timeout),
     },
     Spelling {
+        name: "RequestReadTimeout",
+        directive: Directive::Number(Quantity::RequestReadTimeout),
+    },
+    Spelling {
         name: "KeepAlive",
         directive: Directive::KeepAlive,
     },
@@ -139,6 +145,10 @@ pub const SPELLINGS: [Spelling; 24] = [
     Spelling {
         name: "DirectoryIndex",
         directive: Directive::DirectoryIndex,
+    },
+    Spelling {
+        name: "ServerStatus",
+        directive: Directive::ServerStatus,
     },
     Spelling {
         name: "ServerName",
@@ -189,6 +199,7 @@ impl Quantity {
             Quantity::MaxConnectionsPerChild => "MaxConnectionsPerChild",
             Quantity::AsyncRequestWorkerFactor => "AsyncRequestWorkerFactor",
             Quantity::Timeout => "Timeout",
+            Quantity::RequestReadTimeout => "RequestReadTimeout",
             Quantity::KeepAliveTimeout => "KeepAliveTimeout",
             Quantity::MaxKeepAliveRequests => "MaxKeepAliveRequests",
             Quantity::GracefulShutdownTimeout => "GracefulShutdownTimeout",

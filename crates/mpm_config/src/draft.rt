@@ -22,6 +22,7 @@ pub struct Draft {
     control: Option<u16>,
     root: Octets,
     index: Octets,
+    status: bool,
 }
 
 impl Model for Draft {
@@ -36,6 +37,7 @@ impl Model for Draft {
       control = d.control;
       root = d.root;
       index = d.index;
+      status = d.status;
     } };
 
     ghost invariant = { λ d. AreKept d.numbers d.root d.index };
@@ -55,6 +57,7 @@ impl Draft {
             control: None,
             root: Octets::of(alloc, "htdocs".as_bytes())?,
             index: Octets::of(alloc, "index.html".as_bytes())?,
+            status: true,
         })
     }
 
@@ -70,6 +73,7 @@ impl Draft {
             Setting::ControlListen(port) => self.control = Some(port),
             Setting::DocumentRoot => self.root = Octets::of(alloc, value.as_bytes())?,
             Setting::DirectoryIndex => self.index = Octets::of(alloc, value.as_bytes())?,
+            Setting::ServerStatus(status) => self.status = status,
             Setting::ServerName => (),
         }
         Ok(())
@@ -86,6 +90,7 @@ impl Draft {
             control,
             root,
             index,
+            status,
         } = self;
         let warnings = warnings_of(alloc, &numbers)?;
         let config = Config {
@@ -95,6 +100,7 @@ impl Draft {
             control,
             root,
             index,
+            status,
         };
         Ok((config, warnings))
     }

@@ -6,7 +6,7 @@ use crate::range::{
     ASYNC_REQUEST_WORKER_FACTOR, GRACEFUL_SHUTDOWN_TIMEOUT, KEEP_ALIVE_TIMEOUT,
     LIMIT_REQUEST_FIELD_SIZE, LIMIT_REQUEST_FIELDS, LIMIT_REQUEST_LINE, MAX_CONNECTIONS_PER_CHILD,
     MAX_KEEP_ALIVE_REQUESTS, MAX_REQUEST_WORKERS, MAX_SPARE_THREADS, MIN_SPARE_THREADS,
-    SERVER_LIMIT, START_SERVERS, THREAD_LIMIT, THREADS_PER_CHILD, TIMEOUT,
+    REQUEST_READ_TIMEOUT, SERVER_LIMIT, START_SERVERS, THREAD_LIMIT, THREADS_PER_CHILD, TIMEOUT,
 };
 
 /// The numbers of a configuration, and whether connections are kept.
@@ -32,6 +32,8 @@ pub struct Numbers {
     pub factor: u32,
     /// Timeout in milliseconds, 1,000 to 65,535,000.
     pub timeout_ms: u64,
+    /// RequestReadTimeout in milliseconds, 0 to 65,535,000; 0 stands for no limit.
+    pub whole_ms: u64,
     /// KeepAliveTimeout in milliseconds, 1 to 65,535,000.
     pub keep_ms: u64,
     /// KeepAlive.
@@ -66,6 +68,8 @@ impl Numbers {
             max_conns: MAX_CONNECTIONS_PER_CHILD.default,
             factor: ASYNC_REQUEST_WORKER_FACTOR.default,
             timeout_ms: u64::from(TIMEOUT.default) * u64::from(TIMEOUT.unit),
+            whole_ms: u64::from(REQUEST_READ_TIMEOUT.default)
+                * u64::from(REQUEST_READ_TIMEOUT.unit),
             keep_ms: u64::from(KEEP_ALIVE_TIMEOUT.default) * u64::from(KEEP_ALIVE_TIMEOUT.unit),
             keep: true,
             most: MAX_KEEP_ALIVE_REQUESTS.default,
@@ -92,6 +96,7 @@ impl Numbers {
             Quantity::MaxConnectionsPerChild => u64::from(self.max_conns),
             Quantity::AsyncRequestWorkerFactor => u64::from(self.factor),
             Quantity::Timeout => self.timeout_ms,
+            Quantity::RequestReadTimeout => self.whole_ms,
             Quantity::KeepAliveTimeout => self.keep_ms,
             Quantity::MaxKeepAliveRequests => u64::from(self.most),
             Quantity::GracefulShutdownTimeout => self.stop_ms,
@@ -116,6 +121,7 @@ impl Numbers {
             Quantity::MaxConnectionsPerChild => self.max_conns = number,
             Quantity::AsyncRequestWorkerFactor => self.factor = number,
             Quantity::Timeout => self.timeout_ms = u64::from(number),
+            Quantity::RequestReadTimeout => self.whole_ms = u64::from(number),
             Quantity::KeepAliveTimeout => self.keep_ms = u64::from(number),
             Quantity::MaxKeepAliveRequests => self.most = number,
             Quantity::GracefulShutdownTimeout => self.stop_ms = u64::from(number),

@@ -89,6 +89,13 @@ pub const TIMEOUT: NumberRange = NumberRange {
 };
 
 /// In seconds.
+pub const REQUEST_READ_TIMEOUT: NumberRange = NumberRange {
+    greatest: 65_535,
+    unit: 1_000,
+    ..ANY_WHOLE
+};
+
+/// In seconds.
 pub const KEEP_ALIVE_TIMEOUT: NumberRange = NumberRange {
     default: 5,
     least: 1,
@@ -173,6 +180,7 @@ impl Quantity {
             Quantity::MaxConnectionsPerChild => MAX_CONNECTIONS_PER_CHILD,
             Quantity::AsyncRequestWorkerFactor => ASYNC_REQUEST_WORKER_FACTOR,
             Quantity::Timeout => TIMEOUT,
+            Quantity::RequestReadTimeout => REQUEST_READ_TIMEOUT,
             Quantity::KeepAliveTimeout => KEEP_ALIVE_TIMEOUT,
             Quantity::MaxKeepAliveRequests => MAX_KEEP_ALIVE_REQUESTS,
             Quantity::GracefulShutdownTimeout => GRACEFUL_SHUTDOWN_TIMEOUT,

@@ -18,6 +18,7 @@ pub enum Setting {
     ControlListen(u16),
     DocumentRoot,
     DirectoryIndex,
+    ServerStatus(bool),
     ServerName,
 }
 
@@ -55,6 +56,7 @@ impl Directive {
                     None
                 }
             }
+            Directive::ServerStatus => Some(Setting::ServerStatus(switch(value)?)),
             Directive::ServerName => Some(Setting::ServerName),
         }
     }

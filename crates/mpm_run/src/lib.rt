@@ -5,6 +5,7 @@
 //!
 //! - of a command and its files, `Calls.antt`, `Configured.antt`, `Sites.antt` and `Refusals.antt` of `run_opening`, and `Invocations.antt`
 //!   of `command_words`;
+//! - of what is answered, `Answers.antt` of `command_answers`, `LineAnswers.antt` and `Heard.antt` of `listener`;
 //! - of what is written, `Endings.antt`, `Report.antt`, `Texts.antt` and `Written.antt` of `run_report`;
 //! - of a run, `Runs.antt`, `Listen.antt`, `Served.antt`, `Generations.antt`, `Orders.antt`, `Commands.antt`, `Stops.antt`, `Stores.antt`,
 //!   `FirstNumbers.antt`, `StartedFirst.antt`, `Outside.antt`, `Unused.antt`, `Watched.antt`, `Links.antt`, `Tells.antt`, `Times.antt`,
@@ -24,8 +25,8 @@
 //! lacked; what came with a wait was done behind it and before the next one: time passed to the answer of the clock, each slot that was
 //! given, of those that the table has, was signalled, each command line that was read was done, and each connection that was handed out was
 //! taken, but that the end of that may be missing of the last wait where memory lacked, and its signals where the time of a graceful stop
-//! was over; time passed only where nothing was left to be done, over a front that is patient; and where nothing more could come all that
-//! was to come was taken.
+//! was over; each command line that was read was answered, in order, by what was done for it and by the state behind that; time passed only
+//! where nothing was left to be done, over a front that is patient; and where nothing more could come all that was to come was taken.
 #![tactic(auto)]
 
 mod outcome;

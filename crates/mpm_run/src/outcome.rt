@@ -15,7 +15,7 @@ pub struct Outcome<L: Link> {
     /// The exit status of the process: 0 for a run that came to its end, for a configuration that was tested and is accepted, and for a
     /// command that was sent, 1 for a configuration that is refused, 2 for words that are no command, 3 for a file that can't be read, 4
     /// for a front that failed, 5 for an output that failed, 6 for want of memory, 8 for a script that is refused, 9 for a site that is,
-    /// 10 for a configuration without a control line. 7 is not used.
+    /// 10 for a configuration without a control line, 12 for a restart that the server refused. 7 and 11 are not used.
     pub status: u8,
     /// The line, from 1, at which the script or the configuration is refused, or the place, from 0, at which the latter is no
     /// text; 0 for its size. 0 where the file is missing.

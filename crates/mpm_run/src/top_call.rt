@@ -21,9 +21,10 @@ use std::thread::Threads;
 /// Runs the command that the words give, over the store and the output: `--script FILE` plays the script of that name and `--load N` that
 /// of a load of N connections, both by the configuration and the site that the script's own lines write; `-f FILE` serves, over the front
 /// and the clock, by the configuration of that name and the site of the store; `-t -f FILE` tests the configuration of that name; and
-/// `-k WORD -f FILE` sends the word to the control port of the configuration of that name.
+/// `-k WORD -f FILE` sends the word to the control port of the configuration of that name, and tells what came back.
 ///
-/// All texts go to `out`: the warnings and the report of a run, what a test found, or why there is neither. Each service passes the gate.
+/// All texts go to `out`: the warnings and the report of a run, and between them a line for each command line that asks for the state; what a
+/// test found; what a command was answered; or why there is none of these. Each service passes the gate.
 pub fn run<R: Threads + Wait + Sync, D: Store, F: Front, C: Clock, G: Gate + Sync, K: Sink>(
     rt: &R,
     alloc: Global,
@@ -50,8 +51,9 @@ pub fn run<R: Threads + Wait + Sync, D: Store, F: Front, C: Clock, G: Gate + Syn
     // signalled, each command line that was read did what it asks for, and each connection that was handed out was taken. A restart began a
     // generation by the next edition, or was refused, for what that edition lacks, as it came too late, as the store failed, or as memory
     // lacked; and a graceful stop set the limit that the newest generation's configuration says. Its store was renewed at each restart.
-    // Where its server stopped for want of memory the end of the last wait's part may be missing, and the store may have been renewed once
-    // more. Where nothing more could come, and no graceful stop was begun, each connection of the script was taken.
+    // The sender of each line was answered once, by what was done for it, before the next line was read, and the output has the state for each
+    // line that asks for it. Where its server stopped for want of memory the end of the last wait's part may be missing, and the store may
+    // have been renewed once more. Where nothing more could come, and no graceful stop was begun, each connection of the script was taken.
     //
     // The same of what is left of a server, as far as its front, its clock and its store tell: it was run by the configuration and the
     // site of the store, and then by the editions that the store has at each restart.

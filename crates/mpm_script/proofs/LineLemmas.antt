@@ -267,6 +267,8 @@ one_command word.GracefulStop word.GracefulStop e = refl
 one_command word.GracefulStop other e = absurd (cc)
 one_command word.Stop word.Stop e = refl
 one_command word.Stop other e = absurd (cc)
+one_command word.Status word.Status e = refl
+one_command word.Status other e = absurd (cc)
 
 pub one_line : (text : List ℕ) (line other : ScriptLine) → IsLine text line → IsLine text other → line ≡ other
 unfolding kind_of

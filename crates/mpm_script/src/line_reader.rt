@@ -80,6 +80,8 @@ fn command_line(text: &[u8]) -> Option<CommandWord>
         Some(CommandWord::GracefulStop)
     } else if word == b"stop".as_slice() {
         Some(CommandWord::Stop)
+    } else if word == b"status".as_slice() {
+        Some(CommandWord::Status)
     } else {
         None
     }

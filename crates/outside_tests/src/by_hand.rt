@@ -35,6 +35,7 @@ fn command_by_hand(word: &str) -> CommandWord {
     match word {
         "graceful" => CommandWord::Graceful,
         "graceful-stop" => CommandWord::GracefulStop,
+        "status" => CommandWord::Status,
         _ => CommandWord::Stop,
     }
 }

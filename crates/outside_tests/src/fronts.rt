@@ -3,7 +3,9 @@
 use crate::by_hand::script_by_hand;
 use crate::calls::calls_of;
 use crate::links::show_link_call;
-use mpm_base::{Addr, Arrival, Bell, ConnName, Front, Line, Moment, NoMemory, Ready, Woke};
+use mpm_base::{
+    Addr, Arrival, Bell, ConnName, Front, Line, MOST_ANSWER, Moment, NoMemory, Octets, Ready, Woke,
+};
 use script_front::{FailingFront, ScriptBell, ScriptFront};
 use stand_ins::ScriptLink;
 use std::alloc::Global;
@@ -83,7 +85,8 @@ fn show_call<R: Print + Wait>(
         "bind" | "hush" => show_told(rt, play, word),
         "command" => show_command(rt, play),
         "faults" => show_faults(rt, play),
-        "dial" => show_dial(rt, play, rest),
+        "answer" => show_answer(rt, play, rest),
+        "dial" => show_dial(rt, alloc, play, rest),
         "bell" => show_bell(rt, alloc, play),
         _ => show_link_call(rt, alloc, play.links.as_mut_slice(), word, rest),
     }
@@ -223,17 +226,28 @@ fn show_faults(rt: &impl Print, play: &Play) -> io::Result<()> {
     )
 }
 
-/// Shows the answer of a dial.
-fn show_dial(rt: &impl Print, play: &mut Play, rest: &str) -> io::Result<()> {
-    let (port, word) = words(rest);
-    println!(rt;
-        "{}",
-        is_dialled(play, port.parse::<u16>().unwrap_or(0), word)
-    )
+/// Answers the line that was read last.
+fn show_answer(rt: &impl Print, play: &mut Play, text: &str) -> io::Result<()> {
+    answer(play, text);
+    println!(rt; "done")
 }
 
-fn is_dialled(play: &mut Play, port: u16, word: &str) -> bool {
-    play.front.dial(port, word)
+fn answer(play: &mut Play, text: &str) {
+    if text.len() <= MOST_ANSWER {
+        play.front.answer(text.as_bytes());
+    }
+}
+
+/// Shows the answer of a dial, and how many bytes came back.
+fn show_dial(rt: &impl Print, alloc: Global, play: &mut Play, rest: &str) -> io::Result<()> {
+    let (port, word) = words(rest);
+    let mut came = Octets::make(alloc);
+    let dialled = is_dialled(play, port.parse::<u16>().unwrap_or(0), word, &mut came);
+    println!(rt; "{dialled}, {} bytes", came.len())
+}
+
+fn is_dialled(play: &mut Play, port: u16, word: &str, came: &mut Octets) -> bool {
+    play.front.dial(port, word, came)
 }
 
 /// Makes a bell of the front and rings it.

@@ -26,9 +26,10 @@ next_config told told' name running c read same has carried =
 no_site : (name : List ℕ) (running c : Configuration) (read : ConfigAndWarnings) (s0 s1 s2 s3 : StoreSeen) (fault : LoadFault) → Renews s0 s1 → StoreStays s1 s2
     → HasAccepted s1.told name read → c ≡ with_limits running read.config → s3.told ≡ s2.told → Rises s2.counts.refusals s3.counts.refusals
     → is_limit fault ≡ true → IfSome s2.told (λ t. MayLoad (order_of c) t.files (Err fault))
-    → LacksSite s3.told name running s0.counts s3.counts fault
+    → LacksSite s3.told name running s0.counts s3.counts fault c.root
 no_site name running c read s0 s1 s2 s3 fault renews stays has carried same rises limit may = record {
   config = c;
+  root_is = refl;
   has = next_config s1.told s3.told name running c read (same ∙ stays.told) has carried;
   limit = limit;
   refused = rises_behind s0.counts.refusals s1.counts.refusals s2.counts.refusals s3.counts.refusals renews.refusals stays.refusals rises;
@@ -39,7 +40,7 @@ no_site name running c read s0 s1 s2 s3 fault renews stays has carried same rise
 pub no_plan : (name : List ℕ) (running c : Configuration) (read : ConfigAndWarnings) (s0 s1 s2 s3 : StoreSeen) (fault : LoadFault) → Renews s0 s1 → StoreStays s1 s2
     → HasAccepted s1.told name read → c ≡ with_limits running read.config → LeavesStore {T = SeenSite} s2 s3 (Err fault)
     → IfSome s2.told (λ t. MayLoad (order_of c) t.files (Err fault))
-    → HasCause s3.told name running s0.counts s3.counts (fault_for fault)
+    → HasCause s3.told name running s0.counts s3.counts (fault_for fault c.root)
 no_plan name running c read s0 s1 s2 s3 load.StoreFault renews stays has carried leaves may =
     rises_behind s0.counts.faults s1.counts.faults s2.counts.faults s3.counts.faults renews.faults stays.faults leaves.faults
 no_plan name running c read s0 s1 s2 s3 load.TooMany renews stays has carried leaves may =

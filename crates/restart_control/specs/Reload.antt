@@ -37,9 +37,9 @@ pub record IsNextConfig (told : Option StoreTold) (name : List ℕ) (running c :
   pub has : HasAccepted told name read
   pub carried : c ≡ with_limits running read.config
 
--- what a site is made of: DocumentRoot, and DirectoryIndex as the name of the file that stands for a folder
+-- what a site is made of: DocumentRoot, DirectoryIndex as the name of the file that stands for a folder, and whether ServerStatus is on
 abbrev pub order_of : Configuration → SiteOrder
-order_of c = record { root = c.root; index = c.index }
+order_of c = record { root = c.root; index = c.index; status = c.status }
 
 -- the configuration of a new generation, and a site that is within its limits: where the store tells its files, the one that they make
 -- by that configuration
@@ -72,10 +72,12 @@ pub record HasBadConfig (told : Option StoreTold) (name : List ℕ) (fault : Con
 abbrev pub RefusesConfig : Option StoreTold → List ℕ → StoreCounts → StoreCounts → ConfFault → Type 0
 RefusesConfig told name counts counts' fault = HasLargeConfig told name counts counts' fault ⊎ HasBadConfig told name fault
 
--- by the configuration of the new generation there is no site: its files are more, or larger, than one takes. The store counted a
--- refusal, and where it tells its files they are so
-pub record LacksSite (told : Option StoreTold) (name : List ℕ) (running : Configuration) (counts counts' : StoreCounts) (fault : LoadFault) : Type 0 where
+-- by the configuration of the new generation, whose DocumentRoot is that root, there is no site: its files are more, or larger, than one
+-- takes. The store counted a refusal, and where it tells its files they are so
+pub record LacksSite (told : Option StoreTold) (name : List ℕ) (running : Configuration) (counts counts' : StoreCounts) (fault : LoadFault)
+    (root : List ℕ) : Type 0 where
   pub config : Configuration
+  pub root_is : root ≡ config.root
   pub has : IsNextConfig told name running config
   pub limit : is_limit fault ≡ true
   pub refused : Rises counts.refusals counts'.refusals
@@ -85,6 +87,6 @@ pub record LacksSite (told : Option StoreTold) (name : List ℕ) (running : Conf
 abbrev pub HasCause : Option StoreTold → List ℕ → Configuration → StoreCounts → StoreCounts → ReloadFault → Type 0
 HasCause told name running counts counts' Absent = LacksConfig told name counts counts'
 HasCause told name running counts counts' (Conf fault) = RefusesConfig told name counts counts' fault
-HasCause told name running counts counts' (Load fault) = LacksSite told name running counts counts' fault
+HasCause told name running counts counts' (Load fault root) = LacksSite told name running counts counts' fault root
 HasCause told name running counts counts' StoreFault = Rises counts.faults counts'.faults
 HasCause told name running counts counts' NoMemory = ⊤

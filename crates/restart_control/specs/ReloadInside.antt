@@ -13,7 +13,7 @@ use Rattle.restart_control.specs.declared.reload_fault.ReloadFault.TheVariants.{
 abbrev pub IsNoConfig : List ℕ → ReloadFault → Type 0
 IsNoConfig text Absent = ⊥
 IsNoConfig text (Conf fault) = config_of text ≡ Err fault
-IsNoConfig text (Load fault) = ⊥
+IsNoConfig text (Load fault root) = ⊥
 IsNoConfig text StoreFault = ⊥
 IsNoConfig text NoMemory = ⊤
 
@@ -21,16 +21,16 @@ IsNoConfig text NoMemory = ⊤
 abbrev pub IsUnread : Option StoreTold → List ℕ → StoreCounts → StoreCounts → ReloadFault → Type 0
 IsUnread told name counts counts' Absent = LacksConfig told name counts counts'
 IsUnread told name counts counts' (Conf fault) = RefusesConfig told name counts counts' fault
-IsUnread told name counts counts' (Load fault) = ⊥
+IsUnread told name counts counts' (Load fault root) = ⊥
 IsUnread told name counts counts' StoreFault = Rises counts.faults counts'.faults
 IsUnread told name counts counts' NoMemory = ⊤
 
--- the fault of a restart for that of its site
-abbrev pub fault_for : LoadFault → ReloadFault
-fault_for load.StoreFault = StoreFault
-fault_for load.TooMany = Load load.TooMany
-fault_for (load.TooLarge name size) = Load (load.TooLarge name size)
-fault_for load.NoMemory = NoMemory
+-- the fault of a restart for that of its site, whose folder is that root
+abbrev pub fault_for : LoadFault → List ℕ → ReloadFault
+fault_for load.StoreFault root = StoreFault
+fault_for load.TooMany root = Load load.TooMany root
+fault_for (load.TooLarge name size) root = Load (load.TooLarge name size) root
+fault_for load.NoMemory root = NoMemory
 
 -- the store tells what it told, and no count of it fell
 pub record StoreStays (old new : StoreSeen) : Type 0 where

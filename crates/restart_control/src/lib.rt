@@ -1,6 +1,6 @@
 //! What an operator may ask of a running server, and what a graceful restart makes of its files.
 //!
-//! `read_command` reads a command line: exactly one of three words, which stand in `specs/CommandWord.antt` of `mpm_base`, and `spelling`
+//! `read_command` reads a command line: exactly one of four words, which stand in `specs/CommandWord.antt` of `mpm_base`, and `spelling`
 //! spells one. `reload` goes to the next edition of a store and answers the plan of a new generation, its configuration and its site, or
 //! for each refusal its cause (`specs/Reload.antt`). `load_site` makes the site of a configuration, for a server that starts as for one that
 //! restarts.
@@ -38,6 +38,7 @@ pub fn read_command(line: &str) -> Result<Command, Unknown>
         "graceful" => Ok(Command::Graceful),
         "graceful-stop" => Ok(Command::GracefulStop),
         "stop" => Ok(Command::Stop),
+        "status" => Ok(Command::Status),
         _ => Err(Unknown),
     }
 }
@@ -50,5 +51,6 @@ pub fn spelling(command: Command) -> &'static str
         Command::Graceful => "graceful",
         Command::GracefulStop => "graceful-stop",
         Command::Stop => "stop",
+        Command::Status => "status",
     }
 }

@@ -46,6 +46,9 @@ pub fn reload<D: Store>(
     carry_limits(old, &mut config);
     match load_site(alloc, store, &config) {
         Ok(site) => Ok(Plan { config, site }),
-        Err(fault) => Err(fault_for(fault)),
+        Err(fault) => {
+            let Config { root, .. } = config;
+            Err(fault_for(fault, root))
+        }
     }
 }

@@ -10,8 +10,8 @@ use mpm_base::{NoMemory, Octets, Store};
 use mpm_config::Config;
 use std::alloc::Global;
 
-/// The site of the files under the configuration's DocumentRoot. TooMany or TooLarge where they are more, or larger, than a site takes,
-/// StoreFault where a call of the store failed, NoMemory where memory lacks.
+/// The site of the files under the configuration's DocumentRoot, with the status page where ServerStatus says so. TooMany or TooLarge
+/// where they are more, or larger, than a site takes, StoreFault where a call of the store failed, NoMemory where memory lacks.
 pub fn load_site<D: Store>(alloc: Global, store: &mut D, config: &Config) -> Result<Site, LoadFault>
     ensures leaves { LeavesStore (D.seen store.old) (D.seen store.new) result }
     ensures site { IfSome (D.seen store.old).told (λ t.
@@ -31,17 +31,23 @@ fn site_order(alloc: Global, config: &Config) -> Result<SiteOrder, NoMemory>
 {
     let root = Octets::of(alloc, config.root.as_slice())?;
     let index = Octets::of(alloc, config.index.as_slice())?;
-    Ok(SiteOrder { root, index })
+    Ok(SiteOrder {
+        root,
+        index,
+        status: config.status,
+    })
 }
 
-/// The fault of a restart for that of its site.
-pub(crate) fn fault_for(fault: LoadFault) -> ReloadFault
-    ensures { result ≡ fault_for fault }
+/// The fault of a restart for that of its site, whose folder is that root.
+pub(crate) fn fault_for(fault: LoadFault, root: Octets) -> ReloadFault
+    ensures { result ≡ fault_for fault root }
 {
     match fault {
         LoadFault::StoreFault => ReloadFault::StoreFault,
         LoadFault::NoMemory => ReloadFault::NoMemory,
-        LoadFault::TooMany => ReloadFault::Load(LoadFault::TooMany),
-        LoadFault::TooLarge(name, size) => ReloadFault::Load(LoadFault::TooLarge(name, size)),
+        LoadFault::TooMany => ReloadFault::Load(LoadFault::TooMany, root),
+        LoadFault::TooLarge(name, size) => {
+            ReloadFault::Load(LoadFault::TooLarge(name, size), root)
+        }
     }
 }

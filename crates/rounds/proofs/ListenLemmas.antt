@@ -81,7 +81,9 @@ is-startable s k found = startable-by s k (is_serving s.going) (nat_lt (running_
 
 -- fewer children should run than there may be
 target-within : (shape : Shape) → is_in_bounds shape ≡ true → nat_le shape.target shape.children ≡ true
-target-within shape bounds = (and_parts (nat_le 1 shape.target) (nat_le shape.target shape.children) (and_parts _ (is_between 1 shape.children shape.target) bounds).1).1
+target-within shape bounds =
+    let target = (and_parts _ (is_between 1 shape.children shape.target) (and_parts _ (nat_le shape.whole_ms 65535000) bounds).0).1 in
+    (and_parts (nat_le 1 shape.target) (nat_le shape.target shape.children) target).1
 
 less-within : (n target children : ℕ) → nat_lt n target ≡ true → nat_le target children ≡ true → nat_lt n children ≡ true
 less-within n target children less within = grind (arith, nat_tests)

@@ -90,8 +90,8 @@ first-gone c children gone = by (is_empty c.phase) refl where
 -- at least one child should run
 target-some : (shape : Shape) → is_in_bounds shape ≡ true → 0 < shape.target
 target-some shape bounds =
-    let low : nat_le 1 shape.target ≡ true =
-    (and_parts (nat_le 1 shape.target) (nat_le shape.target shape.children) (and_parts _ (is_between 1 shape.children shape.target) bounds).1).0 in
+    let target = (and_parts _ (is_between 1 shape.children shape.target) (and_parts _ (nat_le shape.whole_ms 65535000) bounds).0).1 in
+    let low : nat_le 1 shape.target ≡ true = (and_parts (nat_le 1 shape.target) (nat_le shape.target shape.children) target).0 in
     grind (arith, nat_tests)
 
 -- what a search finds at once

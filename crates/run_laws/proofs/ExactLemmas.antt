@@ -10,7 +10,7 @@ use Rattle.restart_control.specs.Reload.{most_config, order_of}
 use Rattle.file_table.specs.Load.{IsWithinLimits}
 use Rattle.file_table.specs.Site.{IsSiteOf, SeenSite}
 use Rattle.command_words.specs.Invocations.{NamesConfig, loads, plays, sends, serves, tests}
-use Rattle.run_opening.specs.Calls.{HadConfigAccepted, LoadsSite, StoreFailed}
+use Rattle.run_opening.specs.Calls.{HadConfigAccepted, HasConfigAccepted, LoadsSite, StoreFailed}
 use Rattle.run_opening.specs.Configured.{Configures, IsNoConfig, IsRefused, warnings_of}
 use Rattle.run_opening.specs.Sites.{IsSiteRefusedOf}
 use Rattle.run_report.specs.Texts.{syntax_ok}
@@ -21,11 +21,11 @@ use Rattle.script_run.specs.Played.{HasPlayed}
 use Rattle.script_run.specs.ScriptRefusals.{fault_at}
 use Rattle.script_run.specs.Scripts.{HasConfig, HasScriptSite, IsSiteRefused, most_script}
 use Rattle.script_run.specs.declared.scripted.Scripted.{Scripted}
-use Rattle.server_run.specs.Ends.{IsUnbound}
+use Rattle.server_run.specs.Ends.{EndsRestartRefused, IsUnbound}
 use Rattle.run_laws.specs.Exact.{EndsShowing, HasWritten, LacksIt, UnlessFailing}
 use Rattle.run_laws.specs.Grounds.{AsksLines, HasFitScript, HasLargeScript, HasNoConfig, HasNoSite, HasUnfitScript, LacksNamed, SendsBy, ServesBy, ServesSite, TellsFile, TestsFit, WritesConfig, WritesSite}
 use Rattle.run_laws.specs.Outcomes.{IsOutcome, SeenOutcome}
-use Rattle.run_laws.proofs.WayLemmas.{ConfigWays, LoadWays, OneForm, PlayWays, ScriptWays, SendWays, ServeWays, TestWays, config_large, config_unfit, config_unread, ended-as, holds-of, loads_on, misconfigured, play_unsited, played, plays_on, script_large, script_unfit, script_unread, send_unconfigured, sent, serve_unconfigured, serve_unsited, served, test_unconfigured, test_unwritten, tested, unbound, uncontrolled, undialled, unloaded}
+use Rattle.run_laws.proofs.WayLemmas.{ConfigWays, LoadWays, OneForm, PlayWays, ScriptWays, SendWays, ServeWays, TestWays, config_large, config_unfit, config_unread, ended-as, holds-of, loads_on, misconfigured, play_unsited, played, plays_on, restart_refused, script_large, script_unfit, script_unread, send_unconfigured, sent, sent_unwritten, serve_unconfigured, serve_unsited, served, test_unconfigured, test_unwritten, tested, unbound, uncontrolled, undialled, unloaded}
 use Rattle.run_laws.proofs.FileLemmas.{OneAnswer, had-accepted, had-config, large-file, missing-file, one-config, one-number, refused-accepted, same-bytes, same-line, sure-fault, unread-fails, written-whole}
 
 -- ## A configuration that the words name
@@ -49,7 +49,9 @@ test-named o name (test_unwritten five c accepted shows unwritten) = inr (c, had
 send-named : (o : SeenOutcome) (word : CommandWord) (name : List ℕ) → SendWays o word name → NamedWays o name
 send-named o word name (send_unconfigured way) = inl way
 send-named o word name (uncontrolled ten c accepted control shows) = inr (c, had-accepted o.call name c accepted)
-send-named o word name (sent zero c port accepted control shows dials) = inr (c, had-accepted o.call name c accepted)
+send-named o word name (sent zero c port accepted control shows ends) = inr (c, had-accepted o.call name c accepted)
+send-named o word name (sent_unwritten five c port accepted control shows ends) = inr (c, had-accepted o.call name c accepted)
+send-named o word name (restart_refused twelve c port accepted control shows ends) = inr (c, had-accepted o.call name c accepted)
 send-named o word name (undialled four c port accepted control shows dials) = inr (c, had-accepted o.call name c accepted)
 
 -- where the named configuration is accepted none of these came, but a call of the store that failed
@@ -192,7 +194,7 @@ module _ (one : OneForm) (answer : OneAnswer) (o : SeenOutcome) (is : IsOutcome 
   same-text lines text text' has has' = cc (has, has')
 
   played-config : (lines : List ScriptLine) (text : List ℕ) (s : Scripted) → HasConfig lines text
-      → HasPlayed o.call s.config s.board s.front s.clock s.store → s.front.script ≡ lines → Configures text s.config
+      → HasPlayed o.call s.config s.board s.front s.clock s.store o.status → s.front.script ≡ lines → Configures text s.config
   played-config lines text s has kept script =
       let same = same-text lines text kept.config has (subst (λ (ls : List ScriptLine). HasConfig ls kept.config) script kept.config_is) in
       subst (λ (bs : List ℕ). Configures bs s.config) same kept.accepted
@@ -372,31 +374,44 @@ module _ (one : OneForm) (answer : OneAnswer) (o : SeenOutcome) (is : IsOutcome 
   tests-unwritten c fit lacks =
       elim (ended-as one o is (tests fit.name) fit.command) [ inl way ↦ untold-ends c fit lacks way | inr six ↦ inr (inl six) ]
 
+  -- the configuration that was accepted is that of the file
+  sends-config : (word : CommandWord) (c : Configuration) (by : SendsBy o.call word c) (c' : Configuration) → HasConfigAccepted o.call by.name c' → c' ≡ c
+  sends-config word c by c' accepted = had-config o.call by.name by.bytes c c' by.file by.accepted (had-accepted o.call by.name c' accepted)
+
+  -- so where that has no control line nothing was dialled
+  never-dialled : (word : CommandWord) (c : Configuration) (by : SendsBy o.call word c) (c' : Configuration) (port : ℕ) → c.control ≡ None
+      → HasConfigAccepted o.call by.name c' → c'.control ≡ Some port → ⊥
+  never-dialled word c by c' port none accepted control =
+      let same = sends-config word c by c' accepted in
+      let there : c.control ≡ Some port = subst (λ (x : Configuration). x.control ≡ Some port) same control in absurd (cc (there, none))
+
   uncontrolled-by : (word : CommandWord) (c : Configuration) (by : SendsBy o.call word c) → c.control ≡ None → SendWays o word by.name → EndsShowing o 10 None
   uncontrolled-by word c by none (send_unconfigured way) = inr (inr (config-fails o by.name by.bytes c by.file by.accepted way))
   uncontrolled-by word c by none (uncontrolled ten c' accepted control shows) = inl (ten, shows)
-  uncontrolled-by word c by none (sent zero c' port accepted control shows dials) =
-      let same = had-config o.call by.name by.bytes c c' by.file by.accepted (had-accepted o.call by.name c' accepted) in
-      let there : c.control ≡ Some port = subst (λ (x : Configuration). x.control ≡ Some port) same control in absurd (cc (there, none))
-  uncontrolled-by word c by none (undialled four c' port accepted control shows dials) =
-      let same = had-config o.call by.name by.bytes c c' by.file by.accepted (had-accepted o.call by.name c' accepted) in
-      let there : c.control ≡ Some port = subst (λ (x : Configuration). x.control ≡ Some port) same control in absurd (cc (there, none))
+  uncontrolled-by word c by none (sent zero c' port accepted control shows ends) = absurd (never-dialled word c by c' port none accepted control)
+  uncontrolled-by word c by none (sent_unwritten five c' port accepted control shows ends) = absurd (never-dialled word c by c' port none accepted control)
+  uncontrolled-by word c by none (restart_refused twelve c' port accepted control shows ends) = absurd (never-dialled word c by c' port none accepted control)
+  uncontrolled-by word c by none (undialled four c' port accepted control shows dials) = absurd (never-dialled word c by c' port none accepted control)
 
   pub uncontrolled-ends : (word : CommandWord) (c : Configuration) → SendsBy o.call word c → c.control ≡ None → EndsShowing o 10 None
   uncontrolled-ends word c by none =
       elim (ended-as one o is (sends word by.name) by.command) [ inl way ↦ uncontrolled-by word c by none way | inr six ↦ inr (inl six) ]
 
-  -- a word that could be sent was, where no call of the front failed
+  -- a word that could be sent was, where no call of the front failed, and no write of the output; a restart may have been refused
   sent-by : (word : CommandWord) (c : Configuration) (port : ℕ) (by : SendsBy o.call word c) → c.control ≡ Some port
-      → (Rises o.front.counts.faults o.front'.counts.faults → ⊥) → SendWays o word by.name → EndsShowing o 0 None
-  sent-by word c port by control still (send_unconfigured way) = inr (inr (config-fails o by.name by.bytes c by.file by.accepted way))
-  sent-by word c port by control still (uncontrolled ten c' accepted none shows) =
-      let same = had-config o.call by.name by.bytes c c' by.file by.accepted (had-accepted o.call by.name c' accepted) in
+      → (Rises o.front.counts.faults o.front'.counts.faults → ⊥) → (Rises o.call.sink.faults o.call.sink'.faults → ⊥) → SendWays o word by.name
+      → EndsShowing o 0 None ⊎ ((o.status ≡ 12) × EndsRestartRefused o.call o.front o.front')
+  sent-by word c port by control still output (send_unconfigured way) = inl (inr (inr (config-fails o by.name by.bytes c by.file by.accepted way)))
+  sent-by word c port by control still output (uncontrolled ten c' accepted none shows) =
+      let same = sends-config word c by c' accepted in
       let there : c.control ≡ None = subst (λ (x : Configuration). x.control ≡ None) same none in absurd (cc (there, control))
-  sent-by word c port by control still (sent zero c' port' accepted control' shows dials) = inl (zero, shows)
-  sent-by word c port by control still (undialled four c' port' accepted control' shows dials) = absurd (still dials.faults)
+  sent-by word c port by control still output (sent zero c' port' accepted control' shows ends) = inl (inl (zero, shows))
+  sent-by word c port by control still output (sent_unwritten five c' port' accepted control' shows ends) = absurd (output ends.unwritten.failed)
+  sent-by word c port by control still output (restart_refused twelve c' port' accepted control' shows ends) = inr (twelve, ends)
+  sent-by word c port by control still output (undialled four c' port' accepted control' shows dials) = absurd (still dials.faults)
 
   pub sends-well : (word : CommandWord) (c : Configuration) (port : ℕ) → SendsBy o.call word c → c.control ≡ Some port
-      → (Rises o.front.counts.faults o.front'.counts.faults → ⊥) → EndsShowing o 0 None
-  sends-well word c port by control still =
-      elim (ended-as one o is (sends word by.name) by.command) [ inl way ↦ sent-by word c port by control still way | inr six ↦ inr (inl six) ]
+      → (Rises o.front.counts.faults o.front'.counts.faults → ⊥) → (Rises o.call.sink.faults o.call.sink'.faults → ⊥)
+      → EndsShowing o 0 None ⊎ ((o.status ≡ 12) × EndsRestartRefused o.call o.front o.front')
+  sends-well word c port by control still output =
+      elim (ended-as one o is (sends word by.name) by.command) [ inl way ↦ sent-by word c port by control still output way | inr six ↦ inl (inr (inl six)) ]

@@ -39,6 +39,7 @@ abbrev ends_word : CommandWord → Bool
 ends_word word.Graceful = false
 ends_word word.GracefulStop = true
 ends_word word.Stop = false
+ends_word word.Status = false
 
 -- a line was done that says so
 abbrev ends_brought : Brought → Bool

@@ -4,10 +4,10 @@ use Rattle.conn_machine.specs.declared.event.Why.TheVariants as why
 use Rattle.conn_machine.specs.declared.state.Going.{Going}
 use Rattle.conn_machine.specs.declared.state.Going.TheVariants.{Ending, Halted, Serving}
 use Rattle.board.specs.Board.{SeenBoard}
-use Rattle.run_opening.specs.Configured.{warnings_of}
 use Rattle.run_report.specs.Endings.{EndsAs, IsGoodEnd, MayEndWith, run_text}
 use Rattle.run_report.proofs.EndingLemmas.{may-end}
-use Rattle.server_run.specs.Ends.{HasRunServer}
+use Rattle.script_run.specs.Played.{HasPlayed, texts_of_play}
+use Rattle.server_run.specs.Ends.{HasRunServer, texts_of_server}
 use Rattle.run_laws.specs.Exact.{EndsExactly}
 use Rattle.run_laws.specs.Outcomes.{IsOutcome, SeenOutcome}
 use Rattle.run_laws.proofs.WayLemmas.{holds-of}
@@ -32,8 +32,8 @@ any-status (Halted why.FrontEnded) status may = elim may [ inl zero ↦ inl zero
 any-status (Halted why.FrontFailed) status may = elim may [ inl four ↦ inr (inl four) | inr six ↦ inr (inr (inr six)) ]
 any-status (Halted why.NoMemory) status may = inr (inr (inr may))
 
-pub ends-exactly : (o : SeenOutcome) (warnings : List ℕ) (b : SeenBoard) → EndsAs o.call.sink o.call.sink' warnings b o.status → EndsExactly o warnings b
-ends-exactly o warnings b ends = record {
+pub ends-exactly : (o : SeenOutcome) (texts : List ℕ) (b : SeenBoard) → EndsAs o.call.sink o.call.sink' texts b o.status → EndsExactly o texts b
+ends-exactly o texts b ends = record {
   well = λ zero. ((ends.well zero).going, (ends.well zero).report);
   unwritten = λ five. ((ends.unwritten five).going, (ends.unwritten five).unwritten);
   failed = λ four. (ends.failed four).going;
@@ -41,7 +41,7 @@ ends-exactly o warnings b ends = record {
       λ good written. elim (good-status b.book.state.going o.status good ends.may) [
         | inl zero ↦ inl zero
         | inr other ↦ elim other [
-          | inl five ↦ absurd (written-whole o.call.sink o.call.sink' (run_text warnings b) written (ends.unwritten five).unwritten)
+          | inl five ↦ absurd (written-whole o.call.sink o.call.sink' (run_text texts b) written (ends.unwritten five).unwritten)
           | inr six ↦ inr six
         ]
       ];
@@ -60,12 +60,15 @@ from-some : {X : Type 0} {P : X → Type 0} (o : Option X) → ((x : X) → o �
 from-some None holds = tt
 from-some (Some x) holds = holds x refl
 
-pub played-exactly : (o : SeenOutcome) → IsOutcome o → IfSome o.scripted (λ s. EndsExactly o (warnings_of s.config) s.board)
+pub played-exactly : (o : SeenOutcome) → IsOutcome o
+    → IfSome o.scripted
+    (λ s. (run : HasPlayed o.call s.config s.board s.front s.clock s.store o.status) × EndsExactly o (texts_of_play run) s.board)
 played-exactly o is =
-    from-some o.scripted (λ s some. ends-exactly o (warnings_of s.config) s.board (holds-of _ o.scripted s some is.leaves.ends))
+    from-some o.scripted
+    (λ s some. let run = holds-of _ o.scripted s some is.leaves.kept in (run, ends-exactly o (texts_of_play run) s.board run.ends))
 
 pub served-exactly : (o : SeenOutcome) → IsOutcome o
-    → IfSome o.board (λ b. (run : HasRunServer o.call o.front o.front' o.clock' o.status b) × EndsExactly o (warnings_of run.config) b)
+    → IfSome o.board (λ b. (run : HasRunServer o.call o.front o.front' o.clock' o.status b) × EndsExactly o (texts_of_server run) b)
 served-exactly o is =
     from-some o.board
-    (λ b some. let run = holds-of _ o.board b some is.leaves.server in (run, ends-exactly o (warnings_of run.config) b run.ends))
+    (λ b some. let run = holds-of _ o.board b some is.leaves.server in (run, ends-exactly o (texts_of_server run) b run.ends))

@@ -1,5 +1,5 @@
 -- What a run answers that nothing disturbs.
-use Rattle.std.proofs.Common.{◌≡◌, ◌≢◌, ◌<◌, inl, inr, ℕ, false, List, ◌++◌, map, Option, Some, IsSome, refl, sym, ap, subst, ◌∙◌}
+use Rattle.std.proofs.Common.{◌≡◌, ◌≢◌, ◌⊎◌, ◌<◌, inl, inr, ℕ, false, List, ◌++◌, map, Option, Some, IsSome, refl, sym, ap, subst, ◌∙◌}
 use Rattle.std.specs.List.{list_any}
 use Rattle.mpm_base.specs.Count.{Rises, greatest_count}
 use Rattle.mpm_base.specs.Front.{FrontSeen, FrontTold}
@@ -30,7 +30,7 @@ use Rattle.run_report.specs.Endings.{EndsAs}
 use Rattle.run_report.proofs.EndingLemmas.{may-end}
 use Rattle.script_run.specs.Played.{HasPlayed}
 use Rattle.script_run.specs.declared.scripted.Scripted.{Scripted}
-use Rattle.server_run.specs.Ends.{HasRunServer}
+use Rattle.server_run.specs.Ends.{EndsRestartRefused, HasRunServer}
 use Rattle.run_laws.specs.Grounds.{SendsBy, TestsFit, WritesSite}
 use Rattle.run_laws.specs.Outcomes.{IsOutcome, SeenOutcome}
 use Rattle.run_laws.specs.Undisturbed.{AreServedWhole, EndsPlayed, EndsServed, IsUndisturbed, IsUndisturbedScript, IsUndisturbedServer, NoneAsksStop}
@@ -107,12 +107,12 @@ module _ (laws : RunLaws) (n : RunNumbers) (b : SeenBoard) (run : IsRunFrom n b)
       none-begun (opened_by n) (folded_by n) n.slots calls b.book.state.going (f.entries ++ b.book.history) t made-all pace few none
 
   -- so it ended
-  pub ends-served : (o : SeenOutcome) (t : FrontTold) (calls : Option (List (ℕ × ℕ))) (warnings : List ℕ)
-      → EndsAs o.call.sink o.call.sink' warnings b o.status → IsUndisturbed t b (f.ended ++ b.ended)
+  pub ends-served : (o : SeenOutcome) (t : FrontTold) (calls : Option (List (ℕ × ℕ))) (texts : List ℕ)
+      → EndsAs o.call.sink o.call.sink' texts b o.status → IsUndisturbed t b (f.ended ++ b.ended)
       → KeepsPace n.slots (Some t) calls b.book.state.going (f.entries ++ b.book.history) → HeedsLines b.book.state.going t
       → (b.book.state.going ≡ Halted why.FrontFailed → ⊥) → (Rises o.call.sink.faults o.call.sink'.faults → ⊥) → o.status ≢ 6
       → EndsServed o b (f.ended ++ b.ended)
-  ends-served o t calls warnings ends calm pace heeds unfailed output memory =
+  ends-served o t calls texts ends calm pace heeds unfailed output memory =
       let going = b.book.state.going in
       let none = begun-none t calls pace calm.few calm.lines in
       let ended = ended-going going o.status ends.may (never-to-end none) (not-asked going t heeds calm.few calm.lines) unfailed memory in
@@ -131,15 +131,14 @@ module _ (laws : RunLaws) (n : RunNumbers) (b : SeenBoard) (run : IsRunFrom n b)
 
 -- ## A script
 
-pub script-served : RunLaws → (o : SeenOutcome) (s : Scripted) (played : HasPlayed o.call s.config s.board s.front s.clock s.store) → IsOutcome o
-    → o.scripted ≡ Some s → IsUndisturbedScript o s played → EndsPlayed o s (played.has_run.folded.ended ++ s.board.ended)
-script-served laws o s played is some calm =
+pub script-served : RunLaws → (o : SeenOutcome) (s : Scripted) (played : HasPlayed o.call s.config s.board s.front s.clock s.store o.status)
+    → IsUndisturbedScript o s played → EndsPlayed o s (played.has_run.folded.ended ++ s.board.ended)
+script-served laws o s played calm =
     let left = played.left in
-    let ends = holds-of _ o.scripted s some is.leaves.ends in
     let n = numbers_of s.config in
     let f = played.has_run.folded in
     let run =
-    ends-served laws n s.board played.has_run.run f o s.front.told (Some s.clock) _ ends calm.run left.pace left.front.heeded left.unfailed
+    ends-served laws n s.board played.has_run.run f o s.front.told (Some s.clock) _ played.ends calm.run left.pace left.front.heeded left.unfailed
     calm.output calm.memory in
     record {
       run = run;
@@ -190,9 +189,14 @@ tests-served one answer o c is fit stays output memory =
     ]
 
 pub sends-served : OneForm → OneAnswer → (o : SeenOutcome) (word : CommandWord) (c : Configuration) (port : ℕ) → IsOutcome o → SendsBy o.call word c
-    → c.control ≡ Some port → (StoreFailed o.call → ⊥) → (Rises o.front.counts.faults o.front'.counts.faults → ⊥) → o.status ≢ 6 → o.status ≡ 0
-sends-served one answer o word c port is by control stays front memory =
-    elim (sends-well one answer o is word c port by control front) [
-      | inl zero ↦ zero.0
-      | inr other ↦ elim other [ inl six ↦ absurd (memory six) | inr failed ↦ absurd (stays failed.1) ]
+    → c.control ≡ Some port → (StoreFailed o.call → ⊥) → (Rises o.front.counts.faults o.front'.counts.faults → ⊥)
+    → (Rises o.call.sink.faults o.call.sink'.faults → ⊥) → o.status ≢ 6
+    → (o.status ≡ 0) ⊎ ((o.status ≡ 12) × EndsRestartRefused o.call o.front o.front')
+sends-served one answer o word c port is by control stays front output memory =
+    elim (sends-well one answer o is word c port by control front output) [
+      | inr refused ↦ inr refused
+      | inl ended ↦ elim ended [
+        | inl zero ↦ inl zero.0
+        | inr other ↦ elim other [ inl six ↦ absurd (memory six) | inr failed ↦ absurd (stays failed.1) ]
+      ]
     ]

@@ -112,7 +112,7 @@ wait-of rows t (wait ∷ waits) (x ∷ before) s behind each answers =
 
 -- ## A script
 
-pub passes-unhurried : RunLaws → (o : SeenOutcome) (s : Scripted) (played : HasPlayed o.call s.config s.board s.front s.clock s.store)
+pub passes-unhurried : RunLaws → (o : SeenOutcome) (s : Scripted) (played : HasPlayed o.call s.config s.board s.front s.clock s.store o.status)
     → (before rest : List Entry) (e : Entry) (m : ℕ)
     → played.has_run.folded.entries ++ s.board.book.history ≡ before ++ e ∷ rest
     → e.event ≡ event.Tick m

@@ -1,5 +1,5 @@
 -- How a call of each form ends.
-use Rattle.std.proofs.Common.{◌≡◌, ◌⊎◌, inl, inr, ℕ, ◌++◌, true, false, List, Option, None, Some, IfSome, IsSome, IsSomeAnd, Ok, Err, option_map, refl, subst, arith}
+use Rattle.std.proofs.Common.{◌≡◌, ◌⊎◌, inl, inr, ℕ, ◌++◌, false, List, [], Option, None, Some, IfSome, IsSome, Ok, Err, option_map, refl, subst, arith}
 use Rattle.std.proofs.lemmas.Bool.{cases_eq}
 use Rattle.mpm_base.specs.CommandWord.{command_word}
 use Rattle.mpm_base.specs.Front.{Dials}
@@ -23,15 +23,10 @@ use Rattle.script_run.specs.ScriptRefusals.{EndsRefused, fault_at}
 use Rattle.script_run.specs.Scripts.{HasConfig, HasScript, IsSiteRefused, PlaysLines, most_script}
 use Rattle.script_run.specs.declared.scripted.Scripted.{Scripted}
 use Rattle.mpm_run.specs.ExitStatuses.{EndsConfigRefused, EndsFrontFault, EndsSiteRefused, IsExitStatus, LacksOutput, Succeeds}
-use Rattle.server_run.specs.Ends.{EndsUnread, HasDialled, HasRunServer, IsUnbound}
+use Rattle.server_run.specs.Ends.{EndsRestartRefused, EndsSent, EndsSentUnwritten, EndsUnread, HasDialled, HasRunServer, IsUnbound}
 use Rattle.run_laws.specs.Outcomes.{IsOutcome, SeenOutcome}
 
 -- ## Options
-
--- the value of one of which something holds
-pub some-and : {X : Type 0} {P : X → Type 0} (o : Option X) → IsSomeAnd o P → (x : X) × (o ≡ Some x) × P x
-some-and None holds = absurd holds
-some-and (Some x) holds = (x, refl, holds)
 
 -- the value of one that has one
 pub some-of : {X : Type 0} (o : Option X) → IsSome o → (x : X) × (o ≡ Some x)
@@ -50,7 +45,7 @@ pub data PlayWays (o : SeenOutcome) (lines : List ScriptLine) : Type 0 where
       → o.call.shown ≡ Some number → PlayWays o lines
   play_unsited : o.status ≡ 9 → (text : List ℕ) (c : Configuration) (name : List ℕ) → HasConfig lines text → Configures text c
       → IsSiteRefused lines c name → o.call.shown ≡ None → PlayWays o lines
-  played : (s : Scripted) → o.scripted ≡ Some s → HasPlayed o.call s.config s.board s.front s.clock s.store → s.front.script ≡ lines → PlayWays o lines
+  played : (s : Scripted) → o.scripted ≡ Some s → HasPlayed o.call s.config s.board s.front s.clock s.store o.status → s.front.script ≡ lines → PlayWays o lines
 
 -- so ends one that plays the script of that name: it can't be read, or is too large, or refused; or its lines are played
 pub data ScriptWays (o : SeenOutcome) (name : List ℕ) : Type 0 where
@@ -99,9 +94,13 @@ pub data SendWays (o : SeenOutcome) (word : CommandWord) (name : List ℕ) : Typ
   uncontrolled : o.status ≡ 10 → (c : Configuration) → HasConfigAccepted o.call name c → c.control ≡ None → o.call.shown ≡ None
       → SendWays o word name
   sent : o.status ≡ 0 → (c : Configuration) (port : ℕ) → HasConfigAccepted o.call name c → c.control ≡ Some port → o.call.shown ≡ None
-      → Dials o.front o.front' port (command_word word) true → SendWays o word name
+      → EndsSent o.call o.front o.front' → SendWays o word name
+  sent_unwritten : o.status ≡ 5 → (c : Configuration) (port : ℕ) → HasConfigAccepted o.call name c → c.control ≡ Some port → o.call.shown ≡ None
+      → EndsSentUnwritten o.call o.front o.front' → SendWays o word name
+  restart_refused : o.status ≡ 12 → (c : Configuration) (port : ℕ) → HasConfigAccepted o.call name c → c.control ≡ Some port
+      → o.call.shown ≡ None → EndsRestartRefused o.call o.front o.front' → SendWays o word name
   undialled : o.status ≡ 4 → (c : Configuration) (port : ℕ) → HasConfigAccepted o.call name c → c.control ≡ Some port → o.call.shown ≡ None
-      → Dials o.front o.front' port (command_word word) false → SendWays o word name
+      → Dials o.front o.front' port (command_word word) false [] → SendWays o word name
 
 -- ## How each form ends
 
@@ -132,7 +131,7 @@ module _ (o : SeenOutcome) (is : IsOutcome o) where
   -- a run of one that opened
   played-ended : (s : Scripted) → o.scripted ≡ Some s → Ended o
   played-ended s some =
-      let kept : HasPlayed o.call s.config s.board s.front s.clock s.store = holds-of _ o.scripted s some is.leaves.kept in
+      let kept : HasPlayed o.call s.config s.board s.front s.clock s.store o.status = holds-of _ o.scripted s some is.leaves.kept in
       play-ended s.front.script kept.plays (played s some kept refl)
 
   -- a run of a server that opened
@@ -148,21 +147,32 @@ module _ (o : SeenOutcome) (is : IsOutcome o) where
   named-ended name (inr (inr send)) way = record { form = sends send.0 name; words = send.1; way = send_unconfigured way }
 
   -- one that dialled
-  sent-ended : o.status ≡ 0 → HasDialled o.call o.front o.front' true → Ended o
-  sent-ended zero d =
-      record { form = sends d.word d.sends.name; words = d.sends.command; way = sent zero d.sends.config d.port d.sends.accepted d.sends.control d.sends.shows d.dials }
+  sent-ended : o.status ≡ 0 → EndsSent o.call o.front o.front' → Ended o
+  sent-ended zero e =
+      let d = e.answered.dialled in
+      record { form = sends d.word d.sends.name; words = d.sends.command; way = sent zero d.sends.config d.port d.sends.accepted d.sends.control d.sends.shows e }
 
-  undialled-ended : o.status ≡ 4 → HasDialled o.call o.front o.front' false → Ended o
+  sent-unwritten : o.status ≡ 5 → EndsSentUnwritten o.call o.front o.front' → Ended o
+  sent-unwritten five e =
+      let d = e.answered.dialled in
+      record { form = sends d.word d.sends.name; words = d.sends.command; way = sent_unwritten five d.sends.config d.port d.sends.accepted d.sends.control d.sends.shows e }
+
+  restart-ended : o.status ≡ 12 → EndsRestartRefused o.call o.front o.front' → Ended o
+  restart-ended twelve e =
+      let d = e.dialled in
+      record { form = sends d.word d.sends.name; words = d.sends.command; way = restart_refused twelve d.sends.config d.port d.sends.accepted d.sends.control d.sends.shows e }
+
+  undialled-ended : o.status ≡ 4 → HasDialled o.call o.front o.front' false [] → Ended o
   undialled-ended four d =
       record { form = sends d.word d.sends.name; words = d.sends.command; way = undialled four d.sends.config d.port d.sends.accepted d.sends.control d.sends.shows d.dials }
 
   -- with each exit status
   well-ended : o.status ≡ 0 → Succeeds o.call o.front o.front' o.scripted o.board → Ended o
-  well-ended zero (inl script) = let some = some-and o.scripted script in played-ended some.0 some.1
+  well-ended zero (inl script) = let some = some-of o.scripted script in played-ended some.0 some.1
   well-ended zero (inr (inl server)) = let some = some-of o.board server in served-ended some.0 some.1
   well-ended zero (inr (inr (inl test))) =
       record { form = tests test.name; words = test.command; way = tested zero test.config test.accepted test.shows test.text }
-  well-ended zero (inr (inr (inr send))) = sent-ended zero send.dialled
+  well-ended zero (inr (inr (inr send))) = sent-ended zero send
 
   config-ended : o.status ≡ 1 → EndsConfigRefused o.call → Ended o
   config-ended one (inl script) =
@@ -187,11 +197,12 @@ module _ (o : SeenOutcome) (is : IsOutcome o) where
       record { form = serves u.name; words = u.command; way = unbound four u.config u.site u.accepted u.loads u }
   front-ended four (inr (inr dialled)) = undialled-ended four dialled.dialled
 
-  output-ended : o.status ≡ 5 → LacksOutput o.call o.scripted o.board → Ended o
-  output-ended five (inl script) = let some = some-and o.scripted script in played-ended some.0 some.1
+  output-ended : o.status ≡ 5 → LacksOutput o.call o.front o.front' o.scripted o.board → Ended o
+  output-ended five (inl script) = let some = some-of o.scripted script in played-ended some.0 some.1
   output-ended five (inr (inl server)) = let some = some-of o.board server in served-ended some.0 some.1
-  output-ended five (inr (inr test)) =
+  output-ended five (inr (inr (inl test))) =
       record { form = tests test.name; words = test.command; way = test_unwritten five test.config test.accepted test.shows test.unwritten }
+  output-ended five (inr (inr (inr send))) = sent-unwritten five send
 
   script-ended : o.status ≡ 8 → EndsRefused o.call → Ended o
   script-ended eight (inl large) =
@@ -212,8 +223,8 @@ module _ (o : SeenOutcome) (is : IsOutcome o) where
 
 -- an exit status is one of those that there are
 by-status : {X : Type 0} (s : ℕ) → IsExitStatus s → (s ≡ 0 → X) → (s ≡ 1 → X) → (s ≡ 2 → X) → (s ≡ 3 → X) → (s ≡ 4 → X) → (s ≡ 5 → X) → (s ≡ 6 → X)
-    → (s ≡ 8 → X) → (s ≡ 9 → X) → (s ≡ 10 → X) → X
-by-status s known a b c d e f g h i j =
+    → (s ≡ 8 → X) → (s ≡ 9 → X) → (s ≡ 10 → X) → (s ≡ 12 → X) → X
+by-status s known a b c d e f g h i j k =
     elim (cases_eq s 0) [
       | inl is ↦ a is
       | inr no0 ↦
@@ -241,7 +252,10 @@ by-status s known a b c d e f g h i j =
                                                     elim (cases_eq s 9) [
                                                       | inl is ↦ i is
                                                       | inr no9 ↦
-                                                          elim (cases_eq s 10) [ inl is ↦ j is | inr no10 ↦ absurd (omega arith) ]
+                                                          elim (cases_eq s 10) [
+                                                            | inl is ↦ j is
+                                                            | inr no10 ↦ elim (cases_eq s 12) [ inl is ↦ k is | inr no12 ↦ absurd (omega arith) ]
+                                                          ]
                                                     ]
                                               ]
                                         ]
@@ -265,6 +279,7 @@ ends-somehow o is =
     (λ eight. inl (script-ended o is eight (is.causes.refused eight)))
     (λ nine. inl (site-ended o is nine (is.causes.site_refused nine)))
     (λ ten. inl (control-ended o is ten))
+    (λ twelve. inl (restart-ended o is twelve (is.causes.restart_refused twelve)))
 
 -- ## By the form of the words
 

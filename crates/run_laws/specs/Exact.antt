@@ -5,13 +5,15 @@ use Rattle.command_words.specs.Invocations.{IsNoInvocation}
 use Rattle.conn_machine.specs.declared.event.Why.TheVariants as why
 use Rattle.conn_machine.specs.declared.state.Going.TheVariants.{Halted}
 use Rattle.mpm_base.specs.Count.{Rises}
+use Rattle.mpm_base.specs.GivenAnswers.{says_refused}
 use Rattle.mpm_base.specs.Sink.{SinkSeen}
 use Rattle.mpm_base.specs.declared.script_line.CommandWord.{CommandWord}
 use Rattle.mpm_config.specs.Config.{Configuration}
-use Rattle.server_run.specs.Ends.{HasDialled, HasRunServer, IsUnbound}
+use Rattle.server_run.specs.Ends.{HasDialled, HasRunServer, IsUnbound, texts_of_server}
 use Rattle.run_laws.specs.Grounds.{HasLargeScript, HasNoConfig, HasNoSite, HasUnfitScript, LacksNamed, SendsBy, ServesSite, TestsFit, WritesSite}
 use Rattle.run_laws.specs.Outcomes.{IsOutcome, SeenOutcome}
 use Rattle.run_opening.specs.Calls.{StoreFailed}
+use Rattle.script_run.specs.Played.{HasPlayed, texts_of_play}
 use Rattle.run_opening.specs.Configured.{warnings_of}
 use Rattle.run_report.specs.Endings.{IsGoodEnd, Reports, run_text}
 use Rattle.run_report.specs.Texts.{syntax_ok}
@@ -48,14 +50,15 @@ LacksIt sink sink' text = ¬ (sink'.told ≡ option_map (λ written. written ++ 
 
 -- ## A run that opened
 
--- what is left of a run: 0 and 5 come exactly where it came to a good end, 0 where its warnings and its report were written and 5 where they
--- were not; 4 exactly where its front had failed; and 6 where its server stopped for want of memory, and where memory lacked for the report
-pub record EndsExactly (o : SeenOutcome) (warnings : List ℕ) (b : SeenBoard) : Type 0 where
-  pub well : o.status ≡ 0 → IsGoodEnd b.book.state.going × Reports o.call.sink o.call.sink' warnings b
-  pub unwritten : o.status ≡ 5 → IsGoodEnd b.book.state.going × LeavesUnwritten o.call.sink o.call.sink' (run_text warnings b)
+-- what is left of a run: 0 and 5 come exactly where it came to a good end, 0 where its texts were written, of which these stand before the
+-- report, and 5 where they were not; 4 exactly where its front had failed; and 6 where its server stopped for want of memory, and where
+-- memory lacked for the report
+pub record EndsExactly (o : SeenOutcome) (texts : List ℕ) (b : SeenBoard) : Type 0 where
+  pub well : o.status ≡ 0 → IsGoodEnd b.book.state.going × Reports o.call.sink o.call.sink' texts b
+  pub unwritten : o.status ≡ 5 → IsGoodEnd b.book.state.going × LeavesUnwritten o.call.sink o.call.sink' (run_text texts b)
   pub failed : o.status ≡ 4 → b.book.state.going ≡ Halted why.FrontFailed
-  pub comes_well : IsGoodEnd b.book.state.going → HasWritten o.call.sink o.call.sink' (run_text warnings b) → EndsWith o 0
-  pub comes_unwritten : IsGoodEnd b.book.state.going → LacksIt o.call.sink o.call.sink' (run_text warnings b) → EndsWith o 5
+  pub comes_well : IsGoodEnd b.book.state.going → HasWritten o.call.sink o.call.sink' (run_text texts b) → EndsWith o 0
+  pub comes_unwritten : IsGoodEnd b.book.state.going → LacksIt o.call.sink o.call.sink' (run_text texts b) → EndsWith o 5
   pub comes_failed : b.book.state.going ≡ Halted why.FrontFailed → EndsWith o 4
   pub comes_lacking : b.book.state.going ≡ Halted why.NoMemory → o.status ≡ 6
   pub no_other : (o.status ≡ 0) ⊎ (o.status ≡ 4) ⊎ (o.status ≡ 5) ⊎ (o.status ≡ 6)
@@ -86,16 +89,23 @@ pub record IsExact (o : SeenOutcome) : Type 0 where
   -- 0 or 5: the configuration was to be tested, and is accepted
   pub tested : (c : Configuration) → TestsFit o.call c → HasWritten o.call.sink o.call.sink' (warnings_of c ++ syntax_ok) → EndsShowing o 0 None
   pub untold : (c : Configuration) → TestsFit o.call c → LacksIt o.call.sink o.call.sink' (warnings_of c ++ syntax_ok) → EndsShowing o 5 None
-  -- 0 or 4: the word was sent, or the dial failed, as a front shows that tells its dials
-  pub sent : HasDialled o.call o.front o.front' true → Tells o → EndsWith o 0
-  pub undialled : HasDialled o.call o.front o.front' false → Tells o → EndsWith o 4
+  -- 12, 0 or 5: the word was sent, as a front shows that tells its dials, and what came back says that a restart was refused, or doesn't, and
+  -- was written or wasn't
+  pub refused : (text : List ℕ) → HasDialled o.call o.front o.front' true text → Tells o → says_refused text ≡ true → EndsWith o 12
+  pub sent : (text : List ℕ) → HasDialled o.call o.front o.front' true text → Tells o → says_refused text ≡ false
+      → HasWritten o.call.sink o.call.sink' text → EndsWith o 0
+  pub unanswered : (text : List ℕ) → HasDialled o.call o.front o.front' true text → Tells o → says_refused text ≡ false
+      → LacksIt o.call.sink o.call.sink' text → EndsWith o 5
+  -- 4: the dial failed
+  pub undialled : (text : List ℕ) → HasDialled o.call o.front o.front' false text → Tells o → EndsWith o 4
   -- the run of a script opens where nothing is refused, and so does that of a server, unless its front can't be bound
   pub plays : WritesSite o.call → UnlessFailing o (IsSome o.scripted)
   pub serves : ServesSite o.call → UnlessFailing o (IsSome o.board ⊎ ((o.status ≡ 4) × IsUnbound o.call o.front o.front'))
   -- 0, 4, 5 and 6 of one that opened
-  pub played : IfSome o.scripted (λ s. EndsExactly o (warnings_of s.config) s.board)
+  pub played : IfSome o.scripted
+      (λ s. (run : HasPlayed o.call s.config s.board s.front s.clock s.store o.status) × EndsExactly o (texts_of_play run) s.board)
   pub served : IfSome o.board
-      (λ b. (run : HasRunServer o.call o.front o.front' o.clock' o.status b) × EndsExactly o (warnings_of run.config) b)
+      (λ b. (run : HasRunServer o.call o.front o.front' o.clock' o.status b) × EndsExactly o (texts_of_server run) b)
   -- 4, where none opened: a bind or a dial failed, and the front's count of failed calls rose
   pub unopened : IsNone o.board → o.status ≡ 4 → Rises o.front.counts.faults o.front'.counts.faults
 

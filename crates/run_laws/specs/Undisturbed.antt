@@ -22,7 +22,7 @@ use Rattle.mpm_base.specs.declared.conn.Cause.TheVariants as cause
 use Rattle.mpm_base.specs.declared.script_line.CommandWord.TheVariants as word
 use Rattle.mpm_config.specs.Config.{Configuration}
 use Rattle.mpm_base.specs.declared.script_line.CommandWord.{CommandWord}
-use Rattle.server_run.specs.Ends.{HasRunServer}
+use Rattle.server_run.specs.Ends.{EndsRestartRefused, HasRunServer}
 use Rattle.mpm_script.specs.Clients.{clients_of, names_of}
 use Rattle.run_laws.specs.Grounds.{SendsBy, TestsFit, WritesSite}
 use Rattle.run_laws.specs.Outcomes.{IsOutcome, SeenOutcome}
@@ -68,7 +68,7 @@ pub record IsUndisturbed (t : FrontTold) (b : SeenBoard) (ended : List SeenEnded
   pub links : NoneFailed ended
 
 -- nothing disturbed the run of a script: nor did a write of the output fail, and memory was found
-pub record IsUndisturbedScript (o : SeenOutcome) (s : Scripted) (played : HasPlayed o.call s.config s.board s.front s.clock s.store) : Type 0 where
+pub record IsUndisturbedScript (o : SeenOutcome) (s : Scripted) (played : HasPlayed o.call s.config s.board s.front s.clock s.store o.status) : Type 0 where
   pub run : IsUndisturbed s.front.told s.board (played.has_run.folded.ended ++ s.board.ended)
   pub output : ¬ (Rises o.call.sink.faults o.call.sink'.faults)
   pub memory : o.status ≢ 6
@@ -140,7 +140,7 @@ pub record UndisturbedRunsAnswerEachRequest : Type 0 where
   -- the run of a script that isn't refused, and writes a configuration and a site that aren't, opens
   pub opens : (o : SeenOutcome) → IsOutcome o → WritesSite o.call → ¬ (StoreFailed o.call) → o.status ≢ 6 → IsSome o.scripted
   -- it serves each of its connections, folded ones among them
-  pub script : (o : SeenOutcome) (s : Scripted) (played : HasPlayed o.call s.config s.board s.front s.clock s.store)
+  pub script : (o : SeenOutcome) (s : Scripted) (played : HasPlayed o.call s.config s.board s.front s.clock s.store o.status)
       → IsOutcome o
       → o.scripted ≡ Some s
       → IsUndisturbedScript o s played
@@ -160,12 +160,13 @@ pub record UndisturbedRunsAnswerEachRequest : Type 0 where
       → ¬ (Rises o.call.sink.faults o.call.sink'.faults)
       → o.status ≢ 6
       → o.status ≡ 0
-  -- and so does the sending of a word, where the configuration has a control line
+  -- and so does the sending of a word, where the configuration has a control line, unless what comes back says that a restart was refused
   pub sends : (o : SeenOutcome) (word : CommandWord) (c : Configuration) (port : ℕ)
       → IsOutcome o
       → SendsBy o.call word c
       → c.control ≡ Some port
       → ¬ (StoreFailed o.call)
       → ¬ (Rises o.front.counts.faults o.front'.counts.faults)
+      → ¬ (Rises o.call.sink.faults o.call.sink'.faults)
       → o.status ≢ 6
-      → o.status ≡ 0
+      → (o.status ≡ 0) ⊎ ((o.status ≡ 12) × EndsRestartRefused o.call o.front o.front')

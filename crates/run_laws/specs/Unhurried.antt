@@ -50,7 +50,7 @@ pub record PassesUnhurried (rows : ℕ) (comings : List ℕ) (t : FrontTold) (s 
 -- the law: so it is of each tick of all entries of the run of a script
 abbrev pub NoDeadlineStandsInForService : Type 0
 NoDeadlineStandsInForService =
-    (o : SeenOutcome) (s : Scripted) (played : HasPlayed o.call s.config s.board s.front s.clock s.store)
+    (o : SeenOutcome) (s : Scripted) (played : HasPlayed o.call s.config s.board s.front s.clock s.store o.status)
     → IsOutcome o
     → o.scripted ≡ Some s
     → (before rest : List Entry) (e : Entry) (m : ℕ)

@@ -7,7 +7,7 @@ use Rattle.mpm_base.specs.Sink.{SinkSeen}
 use Rattle.run_report.specs.Endings.{HasEndedGracefully}
 use Rattle.run_report.specs.Report.{board_report}
 use Rattle.run_report.specs.Written.{LeavesUnwritten, WritesText}
-use Rattle.std.specs.Prelude.{◌≡◌, ◌⊎◌, ◌==◌, ℕ, Bool, true, false, if◌then◌else◌, List, ◌++◌, option_map}
+use Rattle.std.specs.Prelude.{◌≡◌, ◌⊎◌, ◌==◌, ℕ, Bool, true, false, ◌&&◌, if◌then◌else◌, List, ◌++◌, option_map}
 use Rattle.conn_machine.specs.declared.event.Why.TheVariants as why
 
 -- the server stopped for one of these, or ended

@@ -6,7 +6,7 @@ pub const ENDED: u8 = 0;
 /// The configuration that was tested is accepted, and that was written.
 pub const ACCEPTED: u8 = 0;
 
-/// The command was sent.
+/// The command was sent, and what came back was written.
 pub const SENT: u8 = 0;
 
 /// The configuration is refused.
@@ -35,3 +35,6 @@ pub const SITE_REFUSED: u8 = 9;
 
 /// The configuration has no control line.
 pub const UNCONTROLLED: u8 = 10;
+
+/// The server refused the restart that the command asks for.
+pub const RESTART_REFUSED: u8 = 12;

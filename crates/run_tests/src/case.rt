@@ -17,6 +17,8 @@ pub struct View {
     pub entries: bool,
     /// Of the history the commands alone.
     pub commands: bool,
+    /// What the senders of command lines were answered.
+    pub answers: bool,
 }
 
 /// What a run is to be over.
@@ -42,6 +44,8 @@ pub struct Case {
     pub bad_watches: Calls,
     /// The calls of `dial` fail.
     pub undialled: bool,
+    /// What comes back of a dial.
+    pub back: Octets,
     /// The calls of the store that fail.
     pub bad_reads: Calls,
     /// The calls of the output that fail.
@@ -68,6 +72,7 @@ impl Case {
             bad_accepts: Calls::make(alloc),
             bad_watches: Calls::make(alloc),
             undialled: false,
+            back: Octets::make(alloc),
             bad_reads: Calls::make(alloc),
             bad_writes: Calls::make(alloc),
             slow: false,
@@ -103,6 +108,7 @@ fn take_line(alloc: Global, case: &mut Case, line: &str) -> Result<(), NoMemory>
         "each" => add_each(&mut case.file, rest),
         "wait" => case.bad_waits.add(number_of(rest)),
         "accept" => case.bad_accepts.add(number_of(rest)),
+        "back" => add_line(&mut case.back, rest),
         "watch" => case.bad_watches.add(number_of(rest)),
         "store" => case.bad_reads.add(number_of(rest)),
         "output" => case.bad_writes.add(number_of(rest)),
@@ -123,6 +129,7 @@ fn take_word(case: &mut Case, word: &str) {
         "report" => case.view.report = true,
         "entries" => case.view.entries = true,
         "commands" => case.view.commands = true,
+        "answers" => case.view.answers = true,
         _ => case.strange = true,
     }
 }

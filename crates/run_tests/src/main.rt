@@ -8,7 +8,7 @@
 //! - `file NAME`: what follows is of the file of that name. What stands before the first such line is of the file `s`. `edition`: what
 //!   follows is of the next edition of the folder, which has no file but those.
 //! - `front NAME`: the front that is handed in plays the script of the file of that name. Without such a line it is one that can't be
-//!   bound, and whose last dial is shown; `undialled`: its dials fail. `wait N`, `accept N`, `watch N`: the wait, the accept, the watch of
+//!   bound, and whose last dial is shown; `undialled`: its dials fail; `back TEXT`: a line that comes back of a dial. `wait N`, `accept N`, `watch N`: the wait, the accept, the watch of
 //!   that number of the front that plays a script fails.
 //! - `| TEXT`: a line of the file. `+ TEXT`: more of it, without the end of a line. `times N TEXT`: the text so many times.
 //! - `each N M TEXT`: a line for each number from N up to M, M left out, in which it stands in place of each `#`.
@@ -16,7 +16,7 @@
 //! - `slow`: the output takes single bytes.
 //! - `history`: the history is shown. `commands`: of it the commands alone. `moments`: in place of each connection, how many children were started, and connections taken
 //!   and closed, at each moment. `report`: nothing of the connections is shown but the report. `entries`: how many entries were folded, and
-//!   how many are kept, is shown. Behind a fold a history has what came after it, and connections are shown that ended after it.
+//!   how many are kept, is shown. `answers`: what the front that plays a script was given for the senders of its command lines is shown. Behind a fold a history has what came after it, and connections are shown that ended after it.
 //!
 //! Runs that take long stand behind all others, restarts and status pages among these, so that each allocation of the others can be made to
 //! fail in turn: `.ci/allocations` does that run by run, alone and with all behind it.
@@ -26,6 +26,7 @@
 //! a front of its text. Where the program ends well and prints something else, the run told something wrong.
 #![tactic(auto)]
 
+mod answered;
 mod case;
 mod given;
 mod outside;

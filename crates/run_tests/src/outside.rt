@@ -1,10 +1,13 @@
 //! A front to which nothing comes, and the gate of the runs.
 ghost use Rattle.mpm_base.specs.Count.{Rises};
-ghost use Rattle.mpm_base.specs.Front.{Binds, Dials, Waits};
+ghost use Rattle.std.specs.Prelude.{◌≡◌, ◌≤◌, [], false, length};
+ghost use Rattle.mpm_base.specs.Front.{Answers, Binds, Dials, Waits};
+ghost use Rattle.mpm_base.specs.GivenAnswers.{most_answer};
 ghost use Rattle.run_tests.specs.ShutFrontInside.{shut_front_seen};
 
 use mpm_base::{
-    Addr, Arrival, Bell, ConnName, Front, Gate, Line, Link, Moment, NoMemory, Ready, Woke,
+    Addr, Arrival, Bell, ConnName, Front, Gate, GivenAnswers, Line, Link, MOST_ANSWER, Moment,
+    NoMemory, Octets, Ready, Woke,
 };
 use stand_ins::ScriptLink;
 use std::alloc::Global;
@@ -14,17 +17,21 @@ use std::sync::Wait;
 #[derive(Drop)]
 pub struct ShutFront {
     answers: bool,
+    back: Octets,
     last: Option<(u16, Option<Line>)>,
     faults: u64,
+    given: GivenAnswers,
 }
 
 impl ShutFront {
-    /// A front whose dials are answered, or fail.
-    pub fn make(answers: bool) -> ShutFront {
+    /// A front whose dials are answered with that text, the first 512 bytes of it, or fail.
+    pub fn make(answers: bool, back: Octets) -> ShutFront {
         ShutFront {
             answers,
+            back,
             last: None,
             faults: 0,
+            given: GivenAnswers::none(),
         }
     }
 
@@ -36,9 +43,23 @@ impl ShutFront {
         }
     }
 
+    /// Puts what a dial is answered into the room, and nothing where it isn't. Whether it is.
+    fn gives_back(&self, answer: &mut Octets) -> bool
+        ensures few { length answer.new ≤ most_answer }
+        ensures none { result ≡ false → answer.new ≡ [] }
+    {
+        answer.clear();
+        if !self.answers {
+            return false;
+        }
+        let count = self.back.len().min(MOST_ANSWER);
+        answer.add(&self.back.as_slice()[..count]).is_ok()
+    }
+
     /// Counts a call that failed.
     fn fail(&mut self)
-        ensures { Rises self.old.faults self.new.faults }
+        ensures rises { Rises self.old.faults self.new.faults }
+        ensures given { self.new.given ≡ self.old.given }
     {
         self.faults = self.faults.saturating_add(1);
     }
@@ -57,11 +78,12 @@ impl Front for ShutFront {
 
     type B = DeafBell;
 
-    ghost seen = { λ f. shut_front_seen f.faults };
+    ghost seen = { λ f. shut_front_seen f.faults f.given };
 
     /// The call fails.
     fn bind(&mut self, listen: Addr, control: Option<u16>) -> bool
-        ensures binds { Binds (shut_front_seen self.old.faults) (shut_front_seen self.new.faults) listen control result }
+        ensures binds { Binds (shut_front_seen self.old.faults self.old.given)
+            (shut_front_seen self.new.faults self.new.given) listen control result }
     {
         let _ = listen;
         let _ = control;
@@ -77,7 +99,8 @@ impl Front for ShutFront {
         quiet: bool,
         ready: &mut Ready,
     ) -> Woke
-        ensures waits { Waits (shut_front_seen self.old.faults) (shut_front_seen self.new.faults) until quiet result ready.new }
+        ensures waits { Waits (shut_front_seen self.old.faults self.old.given)
+            (shut_front_seen self.new.faults self.new.given) until quiet result ready.new }
     {
         let _ = until;
         let _ = quiet;
@@ -105,12 +128,22 @@ impl Front for ShutFront {
         None
     }
 
-    /// The call is noted, and fails where this is a front whose dials fail.
-    fn dial(&mut self, port: u16, word: &str) -> bool
-        ensures dials { Dials (shut_front_seen self.old.faults) (shut_front_seen self.new.faults) port word.now result }
+    /// The answer goes nowhere.
+    fn answer(&mut self, text: &[u8])
+        requires few { length text.now ≤ most_answer }
+        ensures answers { Answers (shut_front_seen self.old.faults self.old.given)
+            (shut_front_seen self.new.faults self.new.given) text.now }
+    {
+        self.given.count(text);
+    }
+
+    /// The call is noted, and fails where this is a front whose dials fail, or memory lacks for the answer.
+    fn dial(&mut self, port: u16, word: &str, answer: &mut Octets) -> bool
+        ensures dials { Dials (shut_front_seen self.old.faults self.old.given)
+            (shut_front_seen self.new.faults self.new.given) port word.now result answer.new }
     {
         self.last = Some((port, Line::of(word)));
-        if self.answers {
+        if self.gives_back(answer) {
             return true;
         }
         self.fail();

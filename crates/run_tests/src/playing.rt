@@ -1,16 +1,17 @@
 //! Plays the runs of the input, one behind the other.
-ghost use Rattle.std.specs.Prelude.{IfSome};
+ghost use Rattle.std.specs.Prelude.{IfOk, IfSome};
 ghost use Rattle.listener.specs.Unused.{IsUnused};
 ghost use Rattle.script_front.specs.FailingFront.{failing_front_seen};
 
+use crate::answered::AnsweredFront;
 use crate::case::{Case, View, take_lines};
 use crate::given::{Given, given_of, script_of};
 use crate::outside::{OpenGate, ShutFront};
 use crate::shown::show_run;
-use mpm_base::{NoMemory, Words};
+use mpm_base::{NoMemory, Octets, Words};
 use mpm_run::{Outcome, run};
 use mpm_script::{Script, ScriptFault};
-use script_front::{FailingFront, ScriptClock, ScriptFront};
+use script_front::{ScriptClock, ScriptFront};
 use stand_ins::{Calls, ScriptLink};
 use std::alloc::Global;
 use std::io::{self, ErrorKind};
@@ -79,13 +80,21 @@ fn play_script<R: Print + Threads + Wait + Sync>(
     case: &mut Case,
     script: Script,
 ) -> io::Result<()> {
-    let waits = mem::replace(&mut case.bad_waits, Calls::make(alloc));
-    let accepts = mem::replace(&mut case.bad_accepts, Calls::make(alloc));
-    let watches = mem::replace(&mut case.bad_watches, Calls::make(alloc));
-    match ScriptFront::failing(alloc, script, waits, accepts, watches) {
+    match front_of(alloc, case, script) {
         Ok(mut front) => play_over(rt, alloc, case, &mut front),
         Err(NoMemory) => Err(out_of_memory()),
     }
+}
+
+/// The front that plays the script, whose calls fail as the run says.
+fn front_of(alloc: Global, case: &mut Case, script: Script) -> Result<AnsweredFront, NoMemory>
+    ensures { IfOk result (λ f. IfSome (failing_front_seen f.front).told IsUnused) }
+{
+    let waits = mem::replace(&mut case.bad_waits, Calls::make(alloc));
+    let accepts = mem::replace(&mut case.bad_accepts, Calls::make(alloc));
+    let watches = mem::replace(&mut case.bad_watches, Calls::make(alloc));
+    let front = ScriptFront::failing(alloc, script, waits, accepts, watches)?;
+    AnsweredFront::of(alloc, front)
 }
 
 /// Plays the run over the front, of which no call was made, and shows what came of it.
@@ -93,13 +102,38 @@ fn play_over<R: Print + Threads + Wait + Sync>(
     rt: &R,
     alloc: Global,
     case: &mut Case,
-    front: &mut FailingFront,
+    front: &mut AnsweredFront,
 ) -> io::Result<()>
-    requires unused { IfSome (failing_front_seen front.old).told IsUnused }
+    requires unused { IfSome (failing_front_seen front.old.front).told IsUnused }
 {
     let mut given = grown(given_of(alloc, case))?;
     let outcome = end_over(rt, alloc, &case.words, &mut given, front);
-    show_run(rt, alloc, &outcome, Some(front.front()), &given, case.view)
+    show_run(
+        rt,
+        alloc,
+        &outcome,
+        Some(front.front().front()),
+        &given,
+        case.view,
+    )?;
+    show_answers(rt, alloc, front, case.view)
+}
+
+/// Shows what the senders of command lines were answered, where that is asked for.
+fn show_answers(
+    rt: &impl Print,
+    alloc: Global,
+    front: &AnsweredFront,
+    view: View,
+) -> io::Result<()> {
+    if !view.answers {
+        return Ok(());
+    }
+    let text = String::from_utf8_lossy(alloc, front.answers())?;
+    for line in text.lines() {
+        println!(rt; "answered {line}")?;
+    }
+    Ok(())
 }
 
 /// Plays the run over a front to which nothing comes, and shows what came of it, and the last dial of the front.
@@ -109,7 +143,8 @@ fn play_alone<R: Print + Threads + Wait + Sync>(
     case: &mut Case,
 ) -> io::Result<()> {
     let mut given = grown(given_of(alloc, case))?;
-    let mut front = ShutFront::make(!case.undialled);
+    let back = mem::replace(&mut case.back, Octets::make(alloc));
+    let mut front = ShutFront::make(!case.undialled, back);
     let outcome = end_alone(rt, alloc, &case.words, &mut given, &mut front);
     show_alone(rt, alloc, &outcome, &front, &given, case.view)
 }
@@ -137,9 +172,9 @@ fn end_over<R: Threads + Wait + Sync>(
     alloc: Global,
     words: &Words,
     given: &mut Given,
-    front: &mut FailingFront,
+    front: &mut AnsweredFront,
 ) -> Outcome<ScriptLink>
-    requires unused { IfSome (failing_front_seen front.old).told IsUnused }
+    requires unused { IfSome (failing_front_seen front.old.front).told IsUnused }
 {
     let mut clock = ScriptClock::make();
     run(

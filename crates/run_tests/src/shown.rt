@@ -128,8 +128,8 @@ fn show_connection(sheet: &mut Sheet, ended: &Ended<ScriptLink>) {
         "{}.{} {:?} {:?}",
         ended.name.slot, ended.name.life, ended.cause, ended.tail
     );
-    for note in ended.notes.as_slice() {
-        print!(sheet; " {}", note.code);
+    for code in ended.notes.codes() {
+        print!(sheet; " {code}");
     }
     show_link(sheet, &ended.link);
 }

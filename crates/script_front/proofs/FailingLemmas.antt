@@ -25,6 +25,7 @@ forward-failed old new until quiet was is =
       come = [];
       lines = sym (append-nil old.told.lines);
       read = refl;
+      answers_stay = refl;
       bound = refl;
       dialled = refl;
       hushed = refl;

@@ -202,6 +202,7 @@ waits old mid new until quiet answer ready passed accepted read hushed was now t
               ∙ ap (λ k. command_lines_of (take k old.script)) further ∙ lines-add old.script old.happened (new.happened - old.happened)
               ∙ ap (λ (lines : List (List ℕ)). lines ++ command_lines_of (take (new.happened - old.happened) (drop old.happened old.script))) (sym was.lines);
           read = ap (λ (t : FrontTold). t.read) kept;
+          answers_stay = ap (λ (t : FrontTold). t.answers) kept;
           bound = ap (λ (t : FrontTold). t.bound) kept;
           dialled = ap (λ (t : FrontTold). t.dialled) kept;
           hushed = ap (λ (t : FrontTold). t.hushed) kept;
@@ -228,5 +229,6 @@ waits old mid new until quiet answer ready passed accepted read hushed was now t
           (woken-more old.told.waits told_wait);
       commands = ap (λ (t : FrontTold). t.read) kept;
       words = ap (λ (f : SeenFront). f.words) is ∙ rest.words;
+      answers_stay = ap (λ (f : SeenFront). f.answers) is ∙ rest.answers_stay;
       handed = ap (λ (t : FrontTold). t.accepted) kept;
     }

@@ -87,6 +87,7 @@ is_graceful (line.Client name act) = false
 is_graceful (line.Command word.Graceful) = true
 is_graceful (line.Command word.GracefulStop) = false
 is_graceful (line.Command word.Stop) = false
+is_graceful (line.Command word.Status) = false
 is_graceful (line.Site site) = false
 
 -- for each `command graceful` of the lines, which stand behind the others, the files that all lines before it leave

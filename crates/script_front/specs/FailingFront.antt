@@ -36,6 +36,7 @@ failing_front_seen f =
         wakes = woken_waits f.front.told.waits;
         commands = f.front.told.read;
         words = f.front.words;
+        answers = f.front.answers;
         handed = f.front.told.accepted;
       };
     }

@@ -96,3 +96,4 @@ pub record KeepsRest (answer : Woke) (old new : SeenFront) : Type 0 where
   pub told_is : new.told ≡ record old.told { arrived = new.told.arrived; lines = new.told.lines; left = new.told.left; moment = new.told.moment }
   pub ends : RisesExactlyWhere (is_ended answer) old.ends new.ends
   pub words : new.words ≡ old.words
+  pub answers_stay : new.answers ≡ old.answers

@@ -3,7 +3,8 @@ use Rattle.std.specs.Prelude.{◌≡◌, ℕ, suc, ◌+◌, ◌<◌, ◌≤◌, 
 use Rattle.std.specs.List.{flat_map}
 use Rattle.mpm_script.specs.Clients.{clients_of, fails_of, is_dropped, name_at, names_of}
 use Rattle.mpm_script.specs.Commands.{command_lines_of}
-use Rattle.mpm_base.specs.Front.{BoundTold, DialTold, FrontSeen, FrontTold, HasAllTaken, WaitTold, Backlog, WatchTold, client_at, earlier, is_woken, next_coming}
+use Rattle.mpm_base.specs.Front.{AnswerTold, BoundTold, DialTold, FrontSeen, FrontTold, HasAllTaken, WaitTold, Backlog, WatchTold, client_at, earlier, is_woken, next_coming}
+use Rattle.mpm_base.specs.GivenAnswers.{no_answers}
 use Rattle.mpm_base.specs.GivenWords.{no_words}
 use Rattle.mpm_base.specs.Link.{LinkTold}
 use Rattle.stand_ins.specs.ScriptLink.{SeenScriptLink, new_paced_link}
@@ -18,14 +19,15 @@ use Rattle.mpm_base.specs.declared.front.Arrival.{Arrival}
 use Rattle.mpm_base.specs.declared.front.Arrival.TheVariants as arrival
 use Rattle.mpm_base.specs.declared.front.Woke.{Woke}
 use Rattle.mpm_base.specs.declared.front.Woke.TheVariants as woke
+use Rattle.mpm_base.specs.declared.given_answers.GivenAnswers.{GivenAnswers}
 use Rattle.mpm_base.specs.declared.given_words.GivenWords.{GivenWords}
 use Rattle.mpm_base.specs.declared.script_line.LinkCall.TheVariants as call
 use Rattle.mpm_base.specs.declared.script_line.ScriptLine.{ScriptLine}
 use Rattle.mpm_base.specs.declared.script_line.ScriptLine.TheVariants as line
 
 -- its script, how many of the lines have happened, whether it waited before, its clients in the order of their connections,
--- under which name the link of each is watched, what it tells, how often a wait answered Ended, and how many of the command lines that
--- were read say each of the words
+-- under which name the link of each is watched, what it tells, how often a wait answered Ended, how many of the command lines that
+-- were read say each of the words, and how many answers their senders were given
 pub record SeenFront : Type 0 where
   pub script : List ScriptLine
   pub happened : ℕ
@@ -35,6 +37,7 @@ pub record SeenFront : Type 0 where
   pub told : FrontTold
   pub ends : ℕ
   pub words : GivenWords
+  pub answers : GivenAnswers
 
 -- so many connections and command lines wait to be taken
 abbrev pub backlog_of : WaitingCounts → Backlog
@@ -64,9 +67,13 @@ turned_told turned = turned.1.told
 abbrev pub bound_told : Addr × Option ℕ → BoundTold
 bound_told bound = record { listen = bound.0; control = bound.1 }
 
--- a dial of it, from the port and the bytes of the word: none fails
+-- a dial of it, from the port and the bytes of the word: none fails, and nothing comes back
 abbrev pub dial_told : ℕ × Log ℕ Bool → DialTold
-dial_told dial = record { port = dial.0; word = map (λ byte. byte.0) dial.1.items; answer = true }
+dial_told dial = record { port = dial.0; word = map (λ byte. byte.0) dial.1.items; answer = true; text = [] }
+
+-- an answer of it, from the number of lines that had been read and the bytes
+abbrev pub answer_told : ℕ × Log ℕ Bool → AnswerTold
+answer_told answer = record { read = answer.0; text = map (λ byte. byte.0) answer.1.items }
 
 -- how many of the waits gave a moment
 abbrev pub woken_waits : List WaitTold → ℕ
@@ -86,6 +93,7 @@ front_seen f =
         wakes = woken_waits f.told.waits;
         commands = f.told.read;
         words = f.words;
+        answers = f.answers;
         handed = f.told.accepted;
       };
     }
@@ -125,6 +133,7 @@ new_front lines =
         turned_away = [];
         lines = [];
         read = 0;
+        answers = [];
         bound = [];
         dialled = [];
         hushed = false;
@@ -136,6 +145,7 @@ new_front lines =
       };
       ends = 0;
       words = no_words;
+      answers = no_answers;
     }
 
 -- ## The lines that come next

@@ -1,8 +1,9 @@
 //! A front that plays a script, and some of whose calls fail.
 //! Why it is so stands in docs/DECISIONS.md: 7, The front of a script that fails is a type of its own.
-ghost use Rattle.std.specs.Prelude.{◌≡◌, ◌<◌, ◌&&◌, nat_lt, not, true, false, Some, [], is_some, slice_get, slice_set, if◌then◌else◌, IfOk, IsOk};
+ghost use Rattle.std.specs.Prelude.{◌≡◌, ◌<◌, ◌≤◌, ◌&&◌, nat_lt, not, true, false, Some, [], is_some, length, slice_get, slice_set, if◌then◌else◌, IfOk, IsOk};
 ghost use Rattle.mpm_base.specs.Count.{next_count};
-ghost use Rattle.mpm_base.specs.Front.{Accepts, Binds, Commands, Dials, HasAllTaken, Waits, Watches, accept_failed, after_bind, after_command, after_dial, after_hush, after_turning_away, front_after_turning_away, hushed_front, is_handed};
+ghost use Rattle.mpm_base.specs.Front.{Accepts, Answers, Binds, Commands, Dials, HasAllTaken, Waits, Watches, accept_failed, after_answer, after_bind, after_command, after_dial, after_hush, after_turning_away, front_after_turning_away, hushed_front, is_handed};
+ghost use Rattle.mpm_base.specs.GivenAnswers.{most_answer};
 ghost use Rattle.mpm_base.specs.Link.{telling_link};
 ghost use Rattle.script_front.specs.FailingFront.{PlaysUnlessListed, after_failed_watch, failing_front_seen, new_failing_front, next_accept_fails, next_watch_fails};
 ghost use Rattle.script_front.specs.ScriptFront.{HandsPaced, IsOfScript};
@@ -11,7 +12,7 @@ ghost use Rattle.stand_ins.specs.ScriptLink.{SeenScriptLink, script_link_after_f
 
 use crate::script_bell::ScriptBell;
 use crate::script_front::ScriptFront;
-use mpm_base::{Addr, Arrival, ConnName, Front, Line, Moment, NoMemory, Ready, Woke};
+use mpm_base::{Addr, Arrival, ConnName, Front, Line, Moment, NoMemory, Octets, Ready, Woke};
 use mpm_script::Script;
 use stand_ins::{Calls, ScriptLink};
 use std::alloc::Global;
@@ -261,20 +262,37 @@ impl Front for FailingFront {
         self.front.command()
     }
 
-    /// The call does not fail.
-    fn dial(&mut self, port: u16, word: &str) -> bool
+    /// The answer is told, and goes nowhere.
+    fn answer(&mut self, text: &[u8])
+        requires few { length text.now ≤ most_answer }
+        ensures answers { Answers (failing_front_seen self.old)
+            (failing_front_seen self.new) text.now }
+        ensures rest { self.new
+            ≡ record self.old {
+              front = record self.old.front {
+                told = after_answer text.now self.old.front.told;
+                answers = self.new.front.answers;
+              };
+            } }
+    {
+        self.front.answer(text);
+    }
+
+    /// The call does not fail, and nothing comes back.
+    fn dial(&mut self, port: u16, word: &str, answer: &mut Octets) -> bool
         ensures dials { Dials (failing_front_seen self.old)
-            (failing_front_seen self.new) port word.now result }
+            (failing_front_seen self.new) port word.now result answer.new }
         ensures sure { result ≡ true }
+        ensures none { answer.new ≡ [] }
         ensures rest { self.new
             ≡ record self.old {
               front =
                   record self.old.front {
-                    told = after_dial port word.now true self.old.front.told;
+                    told = after_dial port word.now true [] self.old.front.told;
                   };
             } }
     {
-        self.front.dial(port, word)
+        self.front.dial(port, word, answer)
     }
 
     /// Takes no memory.

@@ -118,5 +118,6 @@ fn text_of(word: CommandWord) -> &'static str
         CommandWord::Graceful => "graceful",
         CommandWord::GracefulStop => "graceful-stop",
         CommandWord::Stop => "stop",
+        CommandWord::Status => "status",
     }
 }

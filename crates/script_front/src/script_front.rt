@@ -1,7 +1,8 @@
 //! The front that plays a script.
 ghost use Rattle.std.specs.Prelude.{◌≡◌, ◌<◌, ◌≤◌, ◌&&◌, max, nat_lt, not, true, false, None, Some, [], take, drop, length, is_some, slice_get, slice_set, IfOk, IsOk};
 ghost use Rattle.mpm_base.specs.Count.{Rises};
-ghost use Rattle.mpm_base.specs.Front.{Accepts, Binds, Commands, Dials, GoesForward, HasAllTaken, StandsStill, Waits, Watches, accept_failed, after_bind, after_command, after_dial, after_hush, after_turning_away, front_after_turning_away, hushed_front, is_handed, next_coming};
+ghost use Rattle.mpm_base.specs.Front.{Accepts, Answers, Binds, Commands, Dials, GoesForward, HasAllTaken, StandsStill, Waits, Watches, accept_failed, after_answer, after_bind, after_command, after_dial, after_hush, after_turning_away, front_after_turning_away, hushed_front, is_handed, next_coming};
+ghost use Rattle.mpm_base.specs.GivenAnswers.{most_answer};
 ghost use Rattle.mpm_base.specs.Link.{OnlyFaults, telling_link};
 ghost use Rattle.mpm_base.specs.declared.front.Woke.TheVariants as woke;
 ghost use Rattle.script_front.specs.DuePlacesInside.{AllLook};
@@ -22,8 +23,8 @@ use crate::watch_end::WatchEnd;
 use crate::word_log::log_of;
 use http_server::Log;
 use mpm_base::{
-    Addr, Arrival, ConnName, Front, GivenWords, Line, Link, Moment, NoMemory, Ready, ScriptLine,
-    Woke,
+    Addr, Arrival, ConnName, Front, GivenAnswers, GivenWords, Line, Link, Moment, NoMemory, Octets,
+    Ready, ScriptLine, Woke,
 };
 use mpm_script::Script;
 use stand_ins::ScriptLink;
@@ -48,17 +49,19 @@ pub struct ScriptFront {
     commands: ScriptCommands,
     ends: u64,
     words: GivenWords,
+    answers: GivenAnswers,
     // Kept for clauses alone: they take no memory.
     binds: Log<Addr, Option<u16>>,
     dials: Log<u16, Log<u8, bool>>,
     watches: Log<u64, WatchEnd>,
     turned_away: Log<u64, ScriptLink>,
     waits: Log<Ready, WaitEnd>,
+    answered: Log<usize, Log<u8, bool>>,
 }
 
 impl Model for ScriptFront {
     ghost use Rattle.std.specs.Prelude.{◌-◌, Some, length, map, take};
-    ghost use Rattle.script_front.specs.ScriptFront.{SeenFront, bound_told, comings_of, dial_told, turned_told, wait_told, watch_told};
+    ghost use Rattle.script_front.specs.ScriptFront.{SeenFront, answer_told, bound_told, comings_of, dial_told, turned_told, wait_told, watch_told};
 
     ghost Value = { SeenFront };
 
@@ -80,6 +83,7 @@ impl Model for ScriptFront {
         turned_away = map turned_told f.turned_away.items;
         lines = command_lines_of (take f.happened f.script);
         read = f.commands.read;
+        answers = map answer_told f.answered.items;
         bound = map bound_told f.binds.items;
         dialled = map dial_told f.dials.items;
         hushed = f.hushed;
@@ -91,6 +95,7 @@ impl Model for ScriptFront {
       };
       ends = f.ends;
       words = f.words;
+      answers = f.answers;
     } };
 
     ghost invariant = { λ f.
@@ -121,11 +126,13 @@ impl ScriptFront {
             commands,
             ends: 0,
             words: GivenWords::none(),
+            answers: GivenAnswers::none(),
             binds: Log::new(),
             dials: Log::new(),
             watches: Log::new(),
             turned_away: Log::new(),
             waits: Log::new(),
+            answered: Log::new(),
         })
     }
 
@@ -492,14 +499,32 @@ impl Front for ScriptFront {
         given
     }
 
-    /// The call does not fail.
-    fn dial(&mut self, port: u16, word: &str) -> bool
-        ensures dials { Dials (front_seen self.old) (front_seen self.new) port word.now result }
-        ensures sure { result ≡ true }
+    /// The answer is told, and goes nowhere.
+    fn answer(&mut self, text: &[u8])
+        requires few { length text.now ≤ most_answer }
+        ensures answers { Answers (front_seen self.old) (front_seen self.new) text.now }
         ensures rest { self.new
-            ≡ record self.old { told = after_dial port word.now true self.old.told } }
+            ≡ record self.old {
+              told = after_answer text.now self.old.told;
+              answers = self.new.answers;
+            } }
     {
-        let told = log_of(word);
+        let told = log_of(text);
+        self.answered = self.answered.and(&self.commands.read(), &told);
+        self.answers.count(text);
+    }
+
+    /// The call does not fail, and nothing comes back.
+    fn dial(&mut self, port: u16, word: &str, answer: &mut Octets) -> bool
+        ensures dials { Dials (front_seen self.old) (front_seen self.new)
+            port word.now result answer.new }
+        ensures sure { result ≡ true }
+        ensures none { answer.new ≡ [] }
+        ensures rest { self.new
+            ≡ record self.old { told = after_dial port word.now true [] self.old.told } }
+    {
+        answer.clear();
+        let told = log_of(word.as_bytes());
         self.dials = self.dials.and(&port, &told);
         true
     }

@@ -1,6 +1,6 @@
 -- What is left of a script that was played.
 use Rattle.listener.proofs.LeftLemmas.{stopped-ended, store-since}
-use Rattle.std.proofs.Common.{◌≡◌, ◌<◌, inl, inr, ℕ, List, length, map, Option, Some, IfSome, refl, sym, ap, subst, ◌∙◌, arith}
+use Rattle.std.proofs.Common.{◌≡◌, ◌<◌, ◌++◌, inl, inr, ℕ, List, length, map, Option, Some, IfSome, refl, sym, ap, subst, ◌∙◌, arith}
 use Rattle.std.proofs.lemmas.List.{length-map}
 use Rattle.mpm_script.specs.Clients.{clients_of, names_of, sent_by}
 use Rattle.mpm_base.specs.Front.{FrontTold, FrontSeen}
@@ -16,7 +16,8 @@ use Rattle.board.specs.Board.{SeenBoard}
 use Rattle.run_report.specs.EndingsInside.{IsEnd}
 use Rattle.listener.specs.Patient.{ArePatient, HasNothingCome, IsPatientRun}
 use Rattle.listener.specs.Stops.{HasEnded, HasGivenAll, StoppedFor}
-use Rattle.run_report.specs.Endings.{MayEndWith}
+use Rattle.run_opening.specs.Configured.{warnings_of}
+use Rattle.run_report.specs.Endings.{EndsAs, MayEndWith}
 use Rattle.script_run.specs.Played.{HasEnd}
 use Rattle.script_run.specs.PlayedInside.{IsPlayedStatus, HasRunScript}
 use Rattle.run_report.proofs.EndingLemmas.{may-end}
@@ -28,10 +29,12 @@ use Rattle.file_table.specs.Site.{SeenSite}
 use Rattle.listener.specs.FirstNumbers.{numbers_of, opened_by}
 use Rattle.listener.specs.Generations.{Opening}
 use Rattle.listener.specs.Runs.{ended_of_run, entries_of_run}
-use Rattle.listener.specs.RunsInside.{HasRunBy}
+use Rattle.listener.specs.RunsInside.{HasRunBy, open_lines_of}
 use Rattle.listener.specs.Served.{whole_book}
 use Rattle.listener.specs.Tells.{AllReceive}
 use Rattle.listener.proofs.ServedLemmas.{ordered-reopened, served-reopened}
+use Rattle.script_run.proofs.HeardLemmas.{lines-reopened}
+use Rattle.mpm_base.specs.Sink.{SinkSeen}
 
 -- ## With which exit status
 
@@ -81,12 +84,15 @@ patience-of comings t calls s history is echoes patient =
 
 -- the run of a script over a store with its editions, of which no call failed
 pub has-run_script : (lines : List ScriptLine) (c : Configuration) (site : SeenSite) (told : StoreTold) (counts : StoreCounts) (f f' : SeenFront) (b : SeenBoard)
-    (calls : List (ℕ × ℕ)) (store : SeenStore)
+    (calls : List (ℕ × ℕ)) (store : SeenStore) (sink sink' : SinkSeen) (status : ℕ)
     → let o : Opening = record { name = conf_name; config = c; site = site; store = telling_store told counts; front = front_seen f } in
-    told ≡ editions_of lines → counts.faults ≡ 0 → HasNothingCome f.told → f'.told.clients ≡ clients_of lines → f'.told.comings ≡ Some (comings_of f'.script)
+    told ≡ editions_of lines → counts.faults ≡ 0 → f ≡ new_front lines → HasNothingCome f.told → f'.told.clients ≡ clients_of lines → f'.told.comings ≡ Some (comings_of f'.script)
     → AreEchoes calls → (b.book.state.going ≡ Halted why.FrontEnded → HasEnd b f') → (b.book.state.going ≡ Halted why.FrontFailed → ⊥)
-    → HasRunBy o (telling_store store.told store.counts) (front_seen f') (Some calls) b → HasRunScript lines c site b f' calls store
-has-run_script lines c site told counts f f' b calls store is none nothing clients comings echoes ended unfailed ran =
+    → (run : HasRunBy o (telling_store store.told store.counts) (front_seen f') (Some calls) b)
+    × EndsAs sink sink' (warnings_of c ++ open_lines_of run) b status
+    → HasRunScript lines c site b f' calls store sink sink' status
+has-run_script lines c site told counts f f' b calls store sink sink' status is none opened nothing clients comings echoes ended unfailed served =
+    let ran = served.0 in
     let o : Opening = record { name = conf_name; config = c; site = site; store = telling_store told counts; front = front_seen f } in
     let n = numbers_of c in
     let first = telling_store (editions_of lines) no_store_counts in
@@ -110,6 +116,9 @@ has-run_script lines c site told counts f f' b calls store is none nothing clien
         pace = ran.outside.pace;
         patient = patience-of (comings_of f'.script) f'.told calls (opened_by n) entries comings echoes (ran.outside.patient nothing);
         ended = ended;
+        lines =
+            lines-reopened o first front (opened_by n) ran.outside.pace.first ran.outside.pace.shares (front_seen f') b.book.state.going entries same
+            (ap (λ (x : SeenFront). (front_seen x).counts) (sym opened)) ran.lines;
         unfailed = unfailed;
       };
       receive = subst (λ (sent : List (List ℕ)). AllReceive sent (ended_of_run o b run)) clients kept.receive;
@@ -117,4 +126,5 @@ has-run_script lines c site told counts f f' b calls store is none nothing clien
       store_is =
           store-since b.book.state.going entries first (telling_store told counts) (telling_store store.told store.counts) (sym same)
           (omega (arith, none)) ran.store_is;
+      ends = served.1;
     }

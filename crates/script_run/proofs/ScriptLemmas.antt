@@ -21,7 +21,7 @@ use Rattle.script_run.specs.declared.scripted.Scripted.{Scripted}
 use Rattle.run_report.specs.declared.texts.ScriptRefusal.TheVariants.{BadLine}
 use Rattle.mpm_base.specs.Sink.{SinkSeen}
 use Rattle.mpm_config.specs.Config.{Configuration}
-use Rattle.run_opening.specs.Configured.{Configures, warnings_of}
+use Rattle.run_opening.specs.Configured.{Configures}
 use Rattle.run_opening.specs.declared.config_reading.NoConfig.{NoConfig}
 use Rattle.run_opening.specs.declared.config_reading.NoConfig.TheVariants as no
 use Rattle.file_table.specs.declared.load_fault.LoadFault.{LoadFault}
@@ -30,7 +30,6 @@ use Rattle.file_table.specs.Load.{MayLoad}
 use Rattle.script_front.specs.Editions.{editions_of}
 use Rattle.restart_control.specs.Reload.{order_of}
 use Rattle.run_opening.specs.Refusals.{EndsSilently}
-use Rattle.run_report.specs.Endings.{EndsAs}
 
 -- ## The lines that are played
 
@@ -51,12 +50,14 @@ pub makes-load : (call : Call) (count : ℕ) → IsLoadWords call.words count �
 makes-load call count command unasked = inr (record { count = count; command = command; unasked = unasked; lines_are = refl })
 
 -- they were played
-pub played : (o : Option Scripted) (call : Call) (lines : List ScriptLine) → PlaysLines call lines → (IsSome o → call.shown ≡ None)
-    → IfSome o (IsPlayed lines) → IfSome o (λ s. HasPlayed call s.config s.board s.front s.clock s.store)
-played None call lines plays shows run = tt
-played (Some s) call lines plays shows run =
+pub played : (o : Option Scripted) (call : Call) (lines : List ScriptLine) (status : ℕ) → PlaysLines call lines → (IsSome o → call.shown ≡ None)
+    → IfSome o (λ s. IsPlayed lines s call.sink call.sink' status)
+    → IfSome o (λ s. HasPlayed call s.config s.board s.front s.clock s.store status)
+played None call lines status plays shows run = tt
+played (Some s) call lines status plays shows run =
     let same = sym run.script in
-    let ran = subst (λ (script : List ScriptLine). HasRunScript script s.config run.site s.board s.front s.clock s.store) same run.run in
+    let ran =
+    subst (λ (script : List ScriptLine). HasRunScript script s.config run.site s.board s.front s.clock s.store call.sink call.sink' status) same run.run in
     record {
       config = run.text;
       site = run.site;
@@ -70,6 +71,7 @@ played (Some s) call lines plays shows run =
       receive = ran.receive;
       taken = ran.taken;
       store_is = ran.store_is;
+      ends = ran.ends;
     }
 
 -- their configuration is refused
@@ -155,17 +157,17 @@ config-refusal sink sink' lines shown no.Missing bad refused = absurd refused
 config-refusal sink sink' lines shown no.Failed bad refused = absurd refused
 
 -- a script that was played by the configuration that was read
-pub is-played : (o : Option Scripted) (lines : List ScriptLine) (c : Configuration) (told : List ℕ) → HasReadConfig lines c told
-    → IfSome o (IsServedRun lines c) → IfSome o (IsPlayed lines)
-is-played None lines c told has run = tt
-is-played (Some s) lines c told has run = record {
+pub is-played : (o : Option Scripted) (lines : List ScriptLine) (c : Configuration) (told : List ℕ) (sink sink' : SinkSeen) (status : ℕ)
+    → HasReadConfig lines c told → IfSome o (λ s. IsServedRun lines c s sink sink' status) → IfSome o (λ s. IsPlayed lines s sink sink' status)
+is-played None lines c told sink sink' status has run = tt
+is-played (Some s) lines c told sink sink' status has run = record {
   script = run.script;
   text = has.text;
   site = run.site;
   text_is = has.text_is;
   accepted = subst (Configures has.text) (sym run.config) has.accepted;
   site_is = subst (λ (x : Configuration). HasScriptSite lines x run.site) (sym run.config) run.site_is;
-  run = subst (λ (x : Configuration). HasRunScript lines x run.site s.board s.front s.clock s.store) (sym run.config) run.run;
+  run = subst (λ (x : Configuration). HasRunScript lines x run.site s.board s.front s.clock s.store sink sink' status) (sym run.config) run.run;
 }
 
 -- why it is refused
@@ -194,15 +196,14 @@ script-status status (inr (inl one)) = inr (inl one)
 script-status status (inr (inr nine)) = inr (inr (inr (inr (inr (inr nine)))))
 
 -- its lines were played
-pub plays : (call : Call) (lines : List ScriptLine) (status : ℕ) (left : Option Scripted) → PlaysLines call lines → IfSome left (IsPlayed lines)
-    → IfSome left (λ s. EndsAs call.sink call.sink' (warnings_of s.config) s.board status)
+pub plays : (call : Call) (lines : List ScriptLine) (status : ℕ) (left : Option Scripted) → PlaysLines call lines
+    → IfSome left (λ s. IsPlayed lines s call.sink call.sink' status)
     → ((status ≡ 0) ⊎ (status ≡ 5) → IsSome left) → (IsSome left → call.shown ≡ None) → IsPlayedStatus status ⊎ (status ≡ 1) ⊎ (status ≡ 9)
     → (status ≡ 1 → IsConfigRefusalOf call.sink call.sink' lines call.shown) → (status ≡ 9 → IsSiteRefusalOf call.sink call.sink' lines call.shown)
     → (status ≡ 6 → IsNone left → EndsSilently call.sink call.sink' call.shown) → EndsScript call status left
-plays call lines status left plays_lines kept ends opened shows known unfit siteless silent = record {
+plays call lines status left plays_lines kept opened shows known unfit siteless silent = record {
   known = script-status status known;
-  kept = played left call lines plays_lines shows kept;
-  ends = ends;
+  kept = played left call lines status plays_lines shows kept;
   opened = opened;
   misconfigured = λ one. misconfigured call lines plays_lines (unfit one);
   unread = λ three. absurd (omega (arith, known, three));
@@ -222,7 +223,6 @@ unplayed call status None none known unread refused silent = record {
         | inr other ↦ elim other [ inl six ↦ inr (inr (inr (inr (inl six)))) | inr eight ↦ inr (inr (inr (inr (inr (inl eight))))) ]
       ];
   kept = tt;
-  ends = tt;
   opened = λ good. absurd (omega (arith, known, good));
   misconfigured = λ one. absurd (omega (arith, known, one));
   unread = unread;

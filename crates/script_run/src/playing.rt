@@ -121,9 +121,8 @@ fn play_script<R: Wait, G: Gate, K: Sink>(
     out: &mut K,
 ) -> Ending<Scripted>
     requires { HaveTextNames script }
-    ensures kept { IfSome result.left (λ s. IsPlayed script s) }
-    ensures ends { IfSome result.left (λ s.
-        EndsAs (K.seen out.old) (K.seen out.new) (warnings_of s.config) s.board result.status) }
+    ensures kept { IfSome result.left (λ s.
+        IsPlayed script s (K.seen out.old) (K.seen out.new) result.status) }
     ensures opened { (result.status ≡ 0) ⊎ (result.status ≡ 5) → IsSome result.left }
     ensures shown { IsSome result.left → result.shown ≡ None }
     ensures known { IsPlayedStatus result.status ⊎ (result.status ≡ 1) ⊎ (result.status ≡ 9) }
@@ -156,9 +155,8 @@ fn play_site<R: Wait, G: Gate, K: Sink>(
 ) -> Ending<Scripted>
     requires told { told.now ≡ warnings_of config }
     requires store { store.told ≡ editions_of script }
-    ensures kept { IfSome result.left (λ s. IsServedRun script config s) }
-    ensures ends { IfSome result.left (λ s.
-        EndsAs (K.seen out.old) (K.seen out.new) (warnings_of s.config) s.board result.status) }
+    ensures kept { IfSome result.left (λ s.
+        IsServedRun script config s (K.seen out.old) (K.seen out.new) result.status) }
     ensures opened { (result.status ≡ 0) ⊎ (result.status ≡ 5) → IsSome result.left }
     ensures shown { IsSome result.left → result.shown ≡ None }
     ensures known { IsPlayedStatus result.status ⊎ (result.status ≡ 9) }
@@ -258,11 +256,10 @@ fn serve_script<R: Wait, G: Gate, K: Sink>(
     requires limits { edition.limits ≡ head_limits_of config }
     requires timeout { edition.stop_ms ≡ config.current.stop_ms }
     ensures kept { IfSome result.left (λ s.
-        HasRunScript script config edition.site.value s.board s.front s.clock s.store) }
+        HasRunScript script config edition.site.value s.board s.front s.clock s.store
+        (K.seen out.old) (K.seen out.new) result.status) }
     ensures script { IfSome result.left (λ s. s.front.script ≡ script) }
     ensures config { IfSome result.left (λ s. s.config ≡ config) }
-    ensures ends { IfSome result.left (λ s.
-        EndsAs (K.seen out.old) (K.seen out.new) (warnings_of s.config) s.board result.status) }
     ensures opened { (result.status ≡ 0) ⊎ (result.status ≡ 5) → IsSome result.left }
     ensures shown { result.shown ≡ None }
     ensures known { IsPlayedStatus result.status }

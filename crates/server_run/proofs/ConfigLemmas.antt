@@ -128,14 +128,14 @@ sends call word name port answer conf command reads is control shows = record {
 
 -- and the front dialled it
 pub has-dialled : (call : Call) (word : CommandWord) (name : List ℕ) (port : ℕ) (answer : Result (List ℕ) StoreFault) (conf : Configuration × List ℕ)
-    (f f' : FrontSeen) (spelled : List ℕ) (taken : Bool) → IsSendWords call.words word name
+    (f f' : FrontSeen) (spelled : List ℕ) (taken : Bool) (text : List ℕ) → IsSendWords call.words word name
     → ReadsFile call.store call.store' name most_config answer → IsConfigFrom answer (Ok conf) → conf.0.control ≡ Some port → call.shown ≡ None
-    → spelled ≡ command_word word → Dials f f' port spelled taken → HasDialled call f f' taken
-has-dialled call word name port answer conf f f' spelled taken command reads is control shows spells dials = record {
+    → spelled ≡ command_word word → Dials f f' port spelled taken text → HasDialled call f f' taken text
+has-dialled call word name port answer conf f f' spelled taken text command reads is control shows spells dials = record {
   word = word;
   port = port;
   sends = sends call word name port answer conf command reads is control shows;
-  dials = subst (λ (w : List ℕ). Dials f f' port w taken) spells dials;
+  dials = subst (λ (w : List ℕ). Dials f f' port w taken text) spells dials;
 }
 
 -- there is none

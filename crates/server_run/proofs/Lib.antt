@@ -1,4 +1,5 @@
 pub mod ConfigLemmas
 pub mod FormLemmas
+pub mod HeardLemmas
 pub mod InvocationLemmas
 pub mod ServeLemmas

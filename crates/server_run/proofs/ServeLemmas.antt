@@ -1,8 +1,9 @@
 -- What a server that was run shows, and why one wasn't.
 use Rattle.listener.proofs.LeftLemmas.{store-since}
-use Rattle.std.proofs.Common.{◌≡◌, ◌∙◌, ◌⊎◌, inl, inr, ℕ, false, List, Option, None, Some, IfSome, IsNone, IsSome, Result, Ok, Err, refl, sym, subst, arith}
+use Rattle.std.proofs.Common.{◌≡◌, ◌∙◌, ◌⊎◌, ◌++◌, inl, inr, ℕ, false, List, Option, None, Some, IfSome, IsNone, IsSome, Result, Ok, Err, refl, sym, subst, arith}
 use Rattle.mpm_base.specs.Count.{NeverFalls}
 use Rattle.mpm_base.specs.Front.{Binds, FrontSeen}
+use Rattle.mpm_base.specs.Sink.{SinkSeen}
 use Rattle.mpm_base.specs.Store.{ReadsFile, StoreSeen, StoreTold, answers_with, is_failure, is_refusal}
 use Rattle.mpm_base.specs.declared.store.File.{File}
 use Rattle.mpm_base.specs.declared.store.StoreFault.{StoreFault}
@@ -19,7 +20,7 @@ use Rattle.run_opening.specs.Configured.{warnings_of}
 use Rattle.run_report.specs.Endings.{EndsAs, MayEndWith}
 use Rattle.server_run.specs.Ends.{EndsServedSiteRefused, EndsUnbound, EndsUnread, HasRunServer, IsUnbound, LeavesFront, EndsFileRefused}
 use Rattle.listener.specs.Counted.{LeavesClock}
-use Rattle.listener.specs.RunsInside.{HasRunBy}
+use Rattle.listener.specs.RunsInside.{HasRunBy, open_lines_of}
 use Rattle.server_run.specs.EndsInside.{LeavesUnbound, RefusesFolder, IsOpenedStatus, EndsServe}
 use Rattle.run_opening.specs.RefusalsInside.{RefusesRun}
 use Rattle.listener.specs.FirstNumbers.{numbers_of, opened_by}
@@ -32,6 +33,7 @@ use Rattle.run_report.specs.Texts.{front_fault}
 use Rattle.run_opening.proofs.ConfigLemmas.{accepted-still}
 use Rattle.run_report.proofs.CountLemmas.{rises-behind, where-stays}
 use Rattle.listener.proofs.ServedLemmas.{ordered-reopened, served-reopened}
+use Rattle.server_run.proofs.HeardLemmas.{lines-reopened}
 use Rattle.run_report.specs.EndingsInside.{IsEnd}
 use Rattle.run_report.proofs.EndingLemmas.{may-end}
 use Rattle.run_opening.specs.Refusals.{EndsSilently}
@@ -90,13 +92,19 @@ asked-only old read loaded name answer site reads leaves =
     let stays = where-stays (answers_with is_failure answer) old.counts.faults read.counts.faults reads.counted.faults in
     record { told = leaves.told ∙ reads.told_stays; faults = omega (arith, stays, leaves.faults) }
 
+-- what is left is of a run that opened so, and it ended as its exit status says
+abbrev pub ServedBy : Opening → StoreSeen → FrontSeen → Option (List (ℕ × ℕ)) → SinkSeen → SinkSeen → ℕ → SeenBoard → Type 0
+ServedBy o store f calls sink sink' status b =
+    (run : HasRunBy o store f calls b) × EndsAs sink sink' (warnings_of o.config ++ open_lines_of run) b status
+
 -- a run that opened behind that
 pub serves : (o : Option SeenBoard) (call : Call) (name : List ℕ) (c : Configuration) (site : SeenSite) (loaded : StoreSeen) (f f' : FrontSeen)
     (calls : Option (List (ℕ × ℕ))) (status : ℕ) → IsReady call name c site → IsAskedOnly call.store loaded → (IsSome o → call.shown ≡ None)
-    → IfSome o (HasRunBy (record { name = name; config = c; site = site; store = loaded; front = f }) call.store' f' calls)
-    → IfSome o (λ b. EndsAs call.sink call.sink' (warnings_of c) b status) → IfSome o (HasRunServer call f f' calls status)
-serves None call name c site loaded f f' calls status ready asked shows run ends = tt
-serves (Some b) call name c site loaded f f' calls status ready asked shows run ends =
+    → IfSome o (ServedBy (record { name = name; config = c; site = site; store = loaded; front = f }) call.store' f' calls call.sink call.sink' status)
+    → IfSome o (HasRunServer call f f' calls status)
+serves None call name c site loaded f f' calls status ready asked shows served = tt
+serves (Some b) call name c site loaded f f' calls status ready asked shows served =
+    let run = served.0 in
     let opening : Opening = record { name = name; config = c; site = site; store = loaded; front = f } in
     let ran = run.has_run in
     let n = numbers_of c in
@@ -121,8 +129,11 @@ serves (Some b) call name c site loaded f f' calls status ready asked shows run 
       counted = run.counted;
       unended = run.unended;
       given = run.given;
+      lines =
+          lines-reopened opening call.store f (opened_by n) run.outside.pace.first run.outside.pace.shares f' b.book.state.going entries (sym asked.told) refl
+          run.lines;
       store = store-since b.book.state.going entries call.store loaded call.store' asked.told asked.faults run.store_is;
-      ends = ends;
+      ends = served.1;
     }
 
 -- where no run opened the clock was asked nothing

@@ -4,12 +4,14 @@ use Rattle.command_words.specs.Invocations.{IsSendWords, IsServeWords, IsTestWor
 use Rattle.file_table.specs.Site.{SeenSite}
 use Rattle.mpm_base.specs.CommandWord.{command_word}
 use Rattle.mpm_base.specs.Front.{Binds, Dials, FrontSeen}
+use Rattle.mpm_base.specs.GivenAnswers.{says_refused}
 use Rattle.mpm_base.specs.declared.script_line.CommandWord.{CommandWord}
 use Rattle.mpm_config.specs.Config.{Configuration}
 use Rattle.listener.specs.Counted.{CountsRun, GivesNoEnding}
 use Rattle.listener.specs.Commands.{GivesLines}
-use Rattle.listener.specs.FirstNumbers.{numbers_of}
+use Rattle.listener.specs.FirstNumbers.{numbers_of, opened_by}
 use Rattle.listener.specs.Generations.{Opening}
+use Rattle.listener.specs.Heard.{KeepsLines, open_lines}
 use Rattle.listener.specs.Outside.{KeepsOutside}
 use Rattle.listener.specs.Runs.{HasRun, ended_of_run, entries_of_run}
 use Rattle.listener.specs.Stores.{KeepsStore}
@@ -21,7 +23,7 @@ use Rattle.run_report.specs.Texts.{config_refused, front_fault, no_control_line,
 use Rattle.run_report.specs.Written.{LeavesUnwritten, WritesText}
 use Rattle.run_report.specs.declared.texts.ConfigRefusal.{ConfigRefusal}
 use Rattle.run_report.specs.declared.texts.ConfigRefusal.TheVariants.{BadValue}
-use Rattle.std.specs.Prelude.{◌≡◌, ℕ, ◌⊎◌, Bool, true, false, List, ◌++◌, Option, Some, None, option_map}
+use Rattle.std.specs.Prelude.{◌≡◌, ℕ, ◌⊎◌, Bool, true, false, List, [], ◌++◌, Option, Some, None, option_map}
 
 -- ## Where no run opened
 
@@ -116,17 +118,37 @@ pub record Sends (call : Call) (word : CommandWord) (port : ℕ) : Type 0 where
   pub control : config.control ≡ Some port
   pub shows : call.shown ≡ None
 
--- the front was asked once to dial the port of such a command with its word, and answered so
-pub record HasDialled (call : Call) (f f' : FrontSeen) (answer : Bool) : Type 0 where
+-- the front was asked once to dial the port of such a command with its word, and answered so, and this came back
+pub record HasDialled (call : Call) (f f' : FrontSeen) (answer : Bool) (text : List ℕ) : Type 0 where
   pub word : CommandWord
   pub port : ℕ
   pub sends : Sends call word port
-  pub dials : Dials f f' port (command_word word) answer
+  pub dials : Dials f f' port (command_word word) answer text
 
--- with exit status 0, of a command: the front dialled the port with its word, and nothing was written
+-- the front dialled the port with the word, and this came back, which doesn't say that a restart was refused
+pub record IsAnsweredWell (call : Call) (f f' : FrontSeen) (text : List ℕ) : Type 0 where
+  pub dialled : HasDialled call f f' true text
+  pub well : says_refused text ≡ false
+
+-- with exit status 0, of a command: the front dialled the port with its word, and what came back was written; it doesn't say that a restart
+-- was refused
 pub record EndsSent (call : Call) (f f' : FrontSeen) : Type 0 where
-  pub dialled : HasDialled call f f' true
-  pub unwritten : call.sink' ≡ call.sink
+  pub text : List ℕ
+  pub answered : IsAnsweredWell call f f' text
+  pub written : call.sink'.told ≡ option_map (λ written. written ++ text) call.sink.told
+
+-- with exit status 5, of a command: the same, but a write failed, and what came back was not written whole
+pub record EndsSentUnwritten (call : Call) (f f' : FrontSeen) : Type 0 where
+  pub text : List ℕ
+  pub answered : IsAnsweredWell call f f' text
+  pub unwritten : LeavesUnwritten call.sink call.sink' text
+
+-- with exit status 12: the front dialled the port with the word, and what came back says that a restart was refused, be it written or not
+pub record EndsRestartRefused (call : Call) (f f' : FrontSeen) : Type 0 where
+  pub text : List ℕ
+  pub dialled : HasDialled call f f' true text
+  pub refused : says_refused text ≡ true
+  pub written : WritesText call.sink call.sink' text
 
 -- with exit status 10: the configuration is accepted, and has no control line
 pub record EndsUncontrolled (call : Call) : Type 0 where
@@ -143,7 +165,7 @@ pub record EndsUncontrolled (call : Call) : Type 0 where
 
 -- with exit status 4, of a command: the dial failed
 pub record EndsUndialled (call : Call) (f f' : FrontSeen) : Type 0 where
-  pub dialled : HasDialled call f f' false
+  pub dialled : HasDialled call f f' false []
   pub text : WritesText call.sink call.sink' front_fault
 
 -- the configuration of a server is accepted and its site loaded, and the front could not be bound to what the configuration says
@@ -167,11 +189,17 @@ pub record EndsUnbound (call : Call) (f f' : FrontSeen) : Type 0 where
 -- a bind or a dial of the front failed, with exit status 4, or with 6 where memory lacked for the text of that
 pub record FailsFront (call : Call) (f f' : FrontSeen) (status : ℕ) : Type 0 where
   pub status_is : (status ≡ 4) ⊎ (status ≡ 6)
-  pub failed : IsUnbound call f f' ⊎ HasDialled call f f' false
+  pub failed : IsUnbound call f f' ⊎ HasDialled call f f' false []
 
--- the front is as it was; or it dialled for a command, with exit status 0; or a bind or a dial of it failed
+-- the front dialled for a command, with exit status 0 or 5, or with 12 where what came back says that a restart was refused
+pub record DialsFor (call : Call) (f f' : FrontSeen) (status : ℕ) : Type 0 where
+  pub text : List ℕ
+  pub dialled : HasDialled call f f' true text
+  pub status_is : ((says_refused text ≡ true) × (status ≡ 12)) ⊎ ((says_refused text ≡ false) × ((status ≡ 0) ⊎ (status ≡ 5)))
+
+-- the front is as it was; or it dialled for a command; or a bind or a dial of it failed
 abbrev pub LeavesFront : Call → FrontSeen → FrontSeen → ℕ → Type 0
-LeavesFront call f f' status = (f' ≡ f) ⊎ ((status ≡ 0) × HasDialled call f f' true) ⊎ FailsFront call f f' status
+LeavesFront call f f' status = (f' ≡ f) ⊎ DialsFor call f f' status ⊎ FailsFront call f f' status
 
 -- so it is with the front, and a clock that tells has told no further call
 pub record LeavesOutside (call : Call) (f f' : FrontSeen) (calls calls' : Option (List (ℕ × ℕ))) (status : ℕ) : Type 0 where
@@ -186,7 +214,8 @@ server_opening call f name c site = record { name = name; config = c; site = sit
 
 -- a server was run over the front and the clock, and what is left is of a run by the configuration of the file that the words name and
 -- by the site of the store, and then by the store's editions; all its entries, and all its connections that ended, are tied to the front, the
--- clock and the store, of what the front counted too, and it ended as its exit status says
+-- clock and the store, of what the front counted too; each command line that was read was answered; and it ended as its exit status says, with
+-- a line of the output for each line that asks for the state, between the warnings and the report
 pub record HasRunServer (call : Call) (f f' : FrontSeen) (calls : Option (List (ℕ × ℕ))) (status : ℕ) (b : SeenBoard) : Type 0 where
   pub name : List ℕ
   pub config : Configuration
@@ -203,6 +232,21 @@ pub record HasRunServer (call : Call) (f f' : FrontSeen) (calls : Option (List (
   pub unended :
       GivesNoEnding b.book.state.going (entries_of_run (server_opening call f name config site) b has_run) f.counts f'.counts
   pub given : GivesLines (entries_of_run (server_opening call f name config site) b has_run) f f'
+  pub lines :
+      KeepsLines (server_opening call f name config site) (opened_by (numbers_of config)) outside.pace.first outside.pace.shares f f'
+      b.book.state.going (entries_of_run (server_opening call f name config site) b has_run)
   pub store :
       KeepsStore b.book.state.going (entries_of_run (server_opening call f name config site) b has_run) call.store call.store'
-  pub ends : EndsAs call.sink call.sink' (warnings_of config) b status
+  pub ends :
+      EndsAs call.sink call.sink'
+      (warnings_of config
+      ++ open_lines (opened_by (numbers_of config)) (entries_of_run (server_opening call f name config site) b has_run) lines.heard)
+      b status
+
+-- what such a server writes before its report: the warnings of its configuration, and a line for each line that asks for the state
+abbrev pub texts_of_server :
+    {call : Call} {f f' : FrontSeen} {calls : Option (List (ℕ × ℕ))} {status : ℕ} {b : SeenBoard}
+    → HasRunServer call f f' calls status b → List ℕ
+texts_of_server {call} {f} {b = b} run =
+    warnings_of run.config
+    ++ open_lines (opened_by (numbers_of run.config)) (entries_of_run (server_opening call f run.name run.config run.site) b run.has_run) run.lines.heard

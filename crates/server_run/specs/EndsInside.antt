@@ -1,16 +1,18 @@
 -- What the parts of the top call say of the exit status and of what was written.
 use Rattle.file_table.specs.declared.load_fault.LoadFault.{LoadFault}
 use Rattle.mpm_base.specs.Front.{Binds, FrontSeen}
+use Rattle.mpm_base.specs.GivenAnswers.{says_refused}
 use Rattle.mpm_base.specs.Sink.{SinkSeen}
 use Rattle.mpm_config.specs.Config.{Configuration}
 use Rattle.run_opening.specs.RefusalsInside.{RefusesRun}
 use Rattle.run_report.specs.Texts.{site_refused, store_fault}
-use Rattle.std.specs.Prelude.{◌≡◌, ℕ, false, ◌⊎◌, Option, None, IfSome, IsNone, IsSome, List}
+use Rattle.run_report.specs.Written.{LeavesUnwritten, WritesText}
+use Rattle.std.specs.Prelude.{◌≡◌, ℕ, true, false, ◌⊎◌, ◌++◌, Option, None, IfSome, IsNone, IsSome, List, option_map}
 use Rattle.file_table.specs.declared.load_fault.LoadFault.TheVariants as fault
 use Rattle.board.specs.Board.{SeenBoard}
 use Rattle.run_opening.specs.Calls.{Call}
 use Rattle.run_opening.specs.Refusals.{EndsSilently}
-use Rattle.server_run.specs.Ends.{EndsFileRefused, EndsSent, EndsServedSiteRefused, EndsTested, EndsTestUnwritten, EndsUnbound, EndsUncontrolled, EndsUndialled, EndsUnread, HasRunServer, LeavesFront, LeavesOutside}
+use Rattle.server_run.specs.Ends.{EndsFileRefused, EndsRestartRefused, EndsSent, EndsSentUnwritten, EndsServedSiteRefused, EndsTested, EndsTestUnwritten, EndsUnbound, EndsUncontrolled, EndsUndialled, EndsUnread, HasRunServer, LeavesFront, LeavesOutside}
 
 -- ## The exit status on the way
 
@@ -28,7 +30,7 @@ IsServedStatus s = IsOpenedStatus s ⊎ (s ≡ 1) ⊎ (s ≡ 3) ⊎ (s ≡ 9)
 
 -- the exit statuses of a command
 abbrev pub IsSentStatus : ℕ → Type 0
-IsSentStatus s = (s ≡ 0) ⊎ (s ≡ 1) ⊎ (s ≡ 3) ⊎ (s ≡ 4) ⊎ (s ≡ 6) ⊎ (s ≡ 10)
+IsSentStatus s = (s ≡ 0) ⊎ (s ≡ 1) ⊎ (s ≡ 3) ⊎ (s ≡ 4) ⊎ (s ≡ 5) ⊎ (s ≡ 6) ⊎ (s ≡ 10) ⊎ (s ≡ 12)
 
 -- ## What became of the front on the way
 
@@ -62,8 +64,10 @@ pub record EndsSend (call : Call) (f f' : FrontSeen) (status : ℕ) : Type 0 whe
   pub misconfigured : status ≡ 1 → EndsFileRefused call
   pub unread : status ≡ 3 → EndsUnread call
   pub undialled : status ≡ 4 → EndsUndialled call f f'
+  pub unwritten : status ≡ 5 → EndsSentUnwritten call f f'
   pub silent : status ≡ 6 → EndsSilently call.sink call.sink' call.shown
   pub uncontrolled : status ≡ 10 → EndsUncontrolled call
+  pub restart_refused : status ≡ 12 → EndsRestartRefused call f f'
 
 -- how a server ends, and what is left of it, where it opened
 pub record EndsServe (call : Call) (f f' : FrontSeen) (calls calls' : Option (List (ℕ × ℕ))) (status : ℕ)
@@ -77,3 +81,11 @@ pub record EndsServe (call : Call) (f f' : FrontSeen) (calls calls' : Option (Li
   pub front_failed : status ≡ 4 → IsSome left ⊎ EndsUnbound call f f'
   pub silent : status ≡ 6 → IsNone left → EndsSilently call.sink call.sink' call.shown
   pub site_refused : status ≡ 9 → EndsServedSiteRefused call
+
+-- the answer of a command was written by the exit status: 12 where it says that a restart was refused, be it written or not; else 0 where it
+-- was written whole, and 5 where it wasn't
+pub record ShowsAnswer (sink sink' : SinkSeen) (text : List ℕ) (status : ℕ) : Type 0 where
+  pub refused : says_refused text ≡ true → (status ≡ 12) × WritesText sink sink' text
+  pub answered : says_refused text ≡ false → (status ≡ 0) ⊎ (status ≡ 5)
+  pub written : status ≡ 0 → sink'.told ≡ option_map (λ written. written ++ text) sink.told
+  pub unwritten : status ≡ 5 → LeavesUnwritten sink sink' text

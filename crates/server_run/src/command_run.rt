@@ -1,19 +1,21 @@
-//! A command that is sent to a running server: `-k WORD -f FILE`. It loads no files, and writes nothing where it succeeds.
+//! A command that is sent to a running server: `-k WORD -f FILE`. It loads no files, and writes what the server answers.
+//! Why it is so stands in docs/DECISIONS.md: 113, What comes back of a dial.
 ghost use Rattle.std.specs.Prelude.{◌≡◌, ℕ, List};
 ghost use Rattle.command_words.specs.Invocations.{IsSendWords};
-ghost use Rattle.server_run.specs.EndsInside.{EndsSend};
+ghost use Rattle.server_run.specs.EndsInside.{EndsSend, ShowsAnswer};
 ghost use Rattle.listener.specs.Outside.{clients_told, comings_told};
 ghost use Rattle.run_opening.specs.Calls.{seen_call};
 
-use mpm_base::{CommandWord, Front, Sink, Store};
+use mpm_base::{CommandWord, Front, MOST_ANSWER, Octets, Sink, Store, says_refused};
 use restart_control::{MOST_CONFIG, spelling};
 use run_opening::{
-    Ending, config_from, refuse_config_of, refuse_front, refuse_uncontrolled, unopened,
+    Ending, config_from, no_memory, refuse_config_of, refuse_front, refuse_uncontrolled, unopened,
 };
-use run_report::exit_status;
+use run_report::{exit_status, write_all};
 use std::alloc::Global;
 
-/// Sends the command to the control port of the configuration of that name in the store, and writes why it could not be sent.
+/// Sends the command to the control port of the configuration of that name in the store, and writes what came back, or why it could not be
+/// sent.
 pub fn send_command<D: Store, F: Front, K: Sink>(
     alloc: Global,
     command: CommandWord,
@@ -39,9 +41,28 @@ pub fn send_command<D: Store, F: Front, K: Sink>(
     let Some(port) = config.control else {
         return refuse_uncontrolled(alloc, out);
     };
-    if front.dial(port, spelling(command)) {
-        unopened(exit_status::SENT, None)
+    let mut answer = Octets::make(alloc);
+    if answer.reserve(MOST_ANSWER).is_err() {
+        return no_memory();
+    }
+    if front.dial(port, spelling(command), &mut answer) {
+        unopened(show_answer(answer.as_slice(), out), None)
     } else {
         refuse_front(alloc, out)
+    }
+}
+
+/// Writes the answer, and gives the exit status for it: that of a restart that was refused, be it written or not; and else whether it was
+/// written.
+fn show_answer<K: Sink>(answer: &[u8], out: &mut K) -> u8
+    ensures { ShowsAnswer (K.seen out.old) (K.seen out.new) answer.now result }
+{
+    let written = write_all(out, answer);
+    if says_refused(answer) {
+        exit_status::RESTART_REFUSED
+    } else if written {
+        exit_status::SENT
+    } else {
+        exit_status::UNWRITTEN
     }
 }

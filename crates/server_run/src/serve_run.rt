@@ -1,5 +1,5 @@
 //! The run of a server: `-f FILE`.
-ghost use Rattle.std.specs.Prelude.{◌≡◌, ◌⊎◌, ℕ, List, [], None, false, IfSome, IsNone, IsSome};
+ghost use Rattle.std.specs.Prelude.{◌≡◌, ◌⊎◌, ◌++◌, ℕ, List, [], None, false, IfSome, IsNone, IsSome};
 ghost use Rattle.command_words.specs.Invocations.{IsServeWords};
 ghost use Rattle.mpm_base.specs.Front.{Binds};
 ghost use Rattle.server_run.specs.EndsInside.{EndsServe, IsOpenedStatus, LeavesUnbound, RefusesFolder};
@@ -7,7 +7,7 @@ ghost use Rattle.listener.specs.Counted.{AsksOnce, LeavesClock};
 ghost use Rattle.listener.specs.Generations.{head_limits_of};
 ghost use Rattle.listener.specs.OrdersInside.{opening_by};
 ghost use Rattle.listener.specs.Outside.{TellsStill};
-ghost use Rattle.listener.specs.RunsInside.{HasRunBy};
+ghost use Rattle.listener.specs.RunsInside.{HasRunBy, open_lines_of};
 ghost use Rattle.listener.specs.Unused.{IsUnused};
 ghost use Rattle.run_opening.specs.Calls.{seen_call};
 ghost use Rattle.run_opening.specs.Configured.{warnings_of};
@@ -125,12 +125,11 @@ fn serve_edition<R: Wait, D: Store, F: Front, C: Clock, G: Gate, K: Sink>(
     requires unused { IfSome (F.seen front.old).told IsUnused }
     requires unasked { IfSome (C.told clock.old) (λ calls. calls ≡ []) }
     ensures run { IfSome result.left (λ b.
-        HasRunBy (opening_by config.entry edition (D.seen store.old) (F.seen front.old))
-        (D.seen store.new) (F.seen front.new) (C.told clock.new) b) }
+        (run : HasRunBy (opening_by config.entry edition (D.seen store.old) (F.seen front.old))
+        (D.seen store.new) (F.seen front.new) (C.told clock.new) b)
+        × EndsAs (K.seen out.old) (K.seen out.new)
+        (warnings_of config.entry.config.now ++ open_lines_of run) b result.status) }
     ensures store { IsNone result.left → D.seen store.new ≡ D.seen store.old }
-    ensures ends { IfSome result.left (λ b.
-        EndsAs (K.seen out.old) (K.seen out.new) (warnings_of config.entry.config.now) b
-        result.status) }
     ensures telling { TellsStill (F.seen front.old) (F.seen front.new)
         (C.told clock.old) (C.told clock.new) }
     ensures shown { IsSome result.left → result.shown ≡ None }

@@ -63,7 +63,11 @@ fn show_values(sheet: &mut Sheet, config: &Config) {
     print!(sheet; "{:?} {:?}", config.listen, config.control);
     sheet.bytes("", config.root.as_slice());
     sheet.bytes("", config.index.as_slice());
-    sheet.print("\n");
+    sheet.println(if config.status {
+        ""
+    } else {
+        " without the status page"
+    });
 }
 
 /// Shows what an operator reads of the warnings.

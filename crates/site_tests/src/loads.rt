@@ -13,7 +13,11 @@ fn htdocs(alloc: Global) -> Result<SiteOrder, NoMemory>
 {
     let root = Octets::of(alloc, "htdocs".as_bytes())?;
     let index = Octets::of(alloc, "index.html".as_bytes())?;
-    Ok(SiteOrder { root, index })
+    Ok(SiteOrder {
+        root,
+        index,
+        status: true,
+    })
 }
 
 /// The site of the store.

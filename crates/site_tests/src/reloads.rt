@@ -51,10 +51,15 @@ fn show_behind<D: Store>(sheet: &mut Sheet, alloc: Global, store: &mut D, old: &
 fn show_answer(sheet: &mut Sheet, answer: &Result<Plan, ReloadFault>) {
     match answer {
         Ok(plan) => show_plan(sheet, plan),
-        Err(ReloadFault::Load(LoadFault::TooLarge(name, size))) => {
+        Err(ReloadFault::Load(LoadFault::TooLarge(name, size), _)) => {
             sheet.print("Load(");
             show_too_large(sheet, name, *size);
             sheet.print(")\n");
+        }
+        Err(ReloadFault::Load(fault, root)) => {
+            print!(sheet; "Load({fault:?}, ");
+            sheet.text(root.as_slice());
+            println!(sheet; "): {fault}");
         }
         Err(fault) => println!(sheet; "{fault:?}: {fault}"),
     }

@@ -1,3 +1,4 @@
+pub mod DialLemmas
 pub mod EventLemmas
 pub mod FillLemmas
 pub mod GivingLemmas

@@ -4,6 +4,7 @@ pub mod Answers
 pub mod AskingInside
 pub mod CommandLines
 pub mod CommandLinesInside
+pub mod Dialling
 pub mod Events
 pub mod EventsInside
 pub mod GivingWay

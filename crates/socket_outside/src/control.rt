@@ -1,8 +1,10 @@
-//! The control port: the connections that bring command lines, and the lines that wait.
-ghost use Rattle.std.specs.Prelude.{◌≡◌, ◌≢◌, ◌++◌, ℕ, List, IfOk, IfErr, None, [], nat_lt, length, true, if◌then◌else◌, ◌∷◌, is_some};
+//! The control port: the connections that bring command lines, and the lines that wait with the connections that brought them.
+//! Why it is so stands in docs/DECISIONS.md: 114, How long a control connection is kept.
+ghost use Rattle.std.specs.Prelude.{◌≡◌, ◌≢◌, ◌++◌, ℕ, List, IfOk, IfErr, None, [], map, nat_lt, length, true, false, if◌then◌else◌, ◌∷◌, is_some};
 ghost use Rattle.std.specs.Option.{option_to_list};
 
 use crate::accepting::{NoStream, accept_next};
+use crate::answers::write_some;
 use crate::command_lines::{Heard, Spoken};
 use crate::events::CONTROL;
 use crate::short_queue::ShortQueue;
@@ -11,7 +13,7 @@ use mio::{Interest, Registry};
 use mpm_base::{Line, NoMemory};
 use std::alloc::Global;
 
-/// How many connections are open at most.
+/// How many connections are open at most whose line isn't whole.
 const MOST_CALLERS: usize = 16;
 
 /// How many lines wait at most.
@@ -27,16 +29,27 @@ struct Caller {
     spoken: Spoken,
 }
 
-/// The socket that takes command lines, the connections that bring them, the oldest first, and the lines that wait.
+/// A command line that waits, and the connection that brought it.
+#[derive(Drop)]
+struct WaitingLine {
+    line: Line,
+    sender: TcpStream,
+}
+
+/// The socket that takes command lines; the connections that bring them, the oldest first; the lines that wait, each with its connection; and
+/// that of the line that was given last, until it is answered.
 #[derive(Drop)]
 pub(crate) struct ControlPort {
     listener: Option<TcpListener>,
     // Connections may wait of which no event tells again: the system refused one, or as many were taken as one wait or accept may.
     asks: bool,
     callers: ShortQueue<Caller>,
-    lines: ShortQueue<Line>,
-    // A descriptor that does nothing. It is given up where the system has none left for a connection.
+    lines: ShortQueue<WaitingLine>,
+    asked: Option<TcpStream>,
+    // Two descriptors that do nothing. The one is given up where the system has none left for a connection, and the other one for what a
+    // command opens.
     reserve: Option<Registry>,
+    spare: Option<Registry>,
     ghost few_callers: { callers.most ≡ 16 },
     ghost few_lines: { lines.most ≡ 64 },
 }
@@ -49,7 +62,9 @@ impl ControlPort {
             asks: false,
             callers: ShortQueue::make(alloc, MOST_CALLERS)?,
             lines: ShortQueue::make(alloc, MOST_LINES)?,
+            asked: None,
             reserve: None,
+            spare: None,
         })
     }
 
@@ -58,7 +73,9 @@ impl ControlPort {
         ensures { is_some self.new.listener ≡ is_some listener }
     {
         self.asks = false;
+        self.asked = None;
         self.reserve = None;
+        self.spare = None;
         self.listener = listener;
     }
 
@@ -69,22 +86,50 @@ impl ControlPort {
         self.asks
     }
 
-    /// Keeps a descriptor in reserve, where there is none and the system has one to give. It is done before a client is taken, and not where
-    /// a connection was closed: so what its command opens finds the descriptor that it gave back.
+    /// Keeps the descriptors in reserve, where they are not there and the system has some to give. It is done before a client is taken, and
+    /// behind the answer of a restart, but not before that: so what the restart opens finds the descriptor that was given up for it.
     pub(crate) fn restock(&mut self, registry: &Registry)
-        ensures kept { is_some self.old.reserve ≡ true → self.new ≡ self.old }
-        ensures others { self.new ≡ record self.old { reserve = self.new.reserve } }
+        ensures kept { is_some self.old.reserve ≡ true → self.new.reserve ≡ self.old.reserve }
+        ensures spared { is_some self.old.spare ≡ true → self.new.spare ≡ self.old.spare }
+        ensures others { self.new
+            ≡ record self.old { reserve = self.new.reserve; spare = self.new.spare } }
     {
         if self.reserve.is_none() {
             self.reserve = registry.try_clone().ok();
         }
+        if self.spare.is_none() {
+            self.spare = registry.try_clone().ok();
+        }
     }
 
-    /// The line that waited longest.
+    /// The line that waited longest. Its connection stays open until it is answered; that of the line before is closed.
     pub(crate) fn take_line(&mut self) -> Option<Line>
-        ensures { self.old.lines.queue.items ≡ option_to_list result ++ self.new.lines.queue.items }
+        ensures line { map (λ (waiting : WaitingLine). waiting.line) self.old.lines.queue.items
+            ≡ option_to_list result
+            ++ map (λ (waiting : WaitingLine). waiting.line) self.new.lines.queue.items }
+        ensures asked { is_some self.new.asked ≡ is_some result }
     {
-        self.lines.take()
+        self.asked = None;
+        let WaitingLine { line, sender } = self.lines.take()?;
+        self.asked = Some(sender);
+        Some(line)
+    }
+
+    /// Gives up the descriptor that is kept for what a command opens.
+    pub(crate) fn give_up_spare(&mut self)
+        ensures { self.new ≡ record self.old { spare = None } }
+    {
+        self.spare = None;
+    }
+
+    /// The sender of the line that was given last gets the text, as far as its connection takes it at once, and then that is closed.
+    pub(crate) fn answer(&mut self, text: &[u8])
+        ensures { self.new ≡ record self.old { asked = None } }
+    {
+        if let Some(sender) = self.asked.take() {
+            let mut sender = sender;
+            let _ = write_some(&mut sender, text);
+        }
     }
 
     /// Something came, or may have: reads on, and takes the connections that wait.
@@ -115,8 +160,8 @@ impl ControlPort {
         self.take_in(caller, heard);
     }
 
-    /// Keeps the connection behind the others, while there are fewer than so many, where its line isn't whole. Else it is closed, and its
-    /// line, where there is one, is put behind those that wait, unless there are as many as may.
+    /// Keeps the connection behind the others, while there are fewer than so many, where its line isn't whole. Where it is, line and connection
+    /// are put behind those that wait, unless there are as many as may. Else the connection is closed.
     fn take_in(&mut self, caller: Caller, heard: Heard)
         ensures stays { heard ≡ Heard.More →
             let callers = self.old.callers.queue.items in
@@ -126,20 +171,22 @@ impl ControlPort {
         ensures line { (line : List ℕ) → heard ≡ Heard.Line line →
             let lines = self.old.lines.queue.items in
             let fits = nat_lt (length lines) 64 in
-            self.new.lines.queue.items ≡ (if fits then lines ++ line ∷ [] else lines) }
+            let waiting : WaitingLine = record { line = line; sender = caller.socket } in
+            self.new.lines.queue.items ≡ (if fits then lines ++ waiting ∷ [] else lines) }
     {
         match heard {
             Heard::More => {
                 let _ = self.callers.put(caller);
             }
             Heard::Line(line) => {
-                let _ = self.lines.put(line);
+                let sender = caller.socket;
+                let _ = self.lines.put(WaitingLine { line, sender });
             }
             Heard::Nothing => (),
         }
     }
 
-    /// Closes the oldest connection where no further one may be open.
+    /// Closes the oldest connection whose line isn't whole, where no further one may be open.
     fn make_place(&mut self) {
         if self.callers.len() == MOST_CALLERS {
             let _ = self.callers.take();

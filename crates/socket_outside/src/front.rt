@@ -1,4 +1,5 @@
 //! The front over sockets.
+//! Why it is so stands in docs/DECISIONS.md: 115, What of an answer the operator is told.
 ghost use Rattle.std.specs.Prelude.{◌≡◌, ◌==◌, ◌≤◌, ◌||◌, [], None, false, length};
 ghost use Rattle.std.specs.List.{IsDistinct};
 ghost use Rattle.mpm_base.specs.Front.{Accepts, FrontSeen, Waits, accept_failed};
@@ -11,7 +12,9 @@ use crate::events::longest_wait;
 use crate::front_counters::FrontCounters;
 use crate::link::SocketLink;
 use crate::sockets::Sockets;
-use mpm_base::{Addr, Arrival, Clock, ConnName, Front, Line, Link, Moment, NoMemory, Ready, Woke};
+use mpm_base::{
+    Addr, Arrival, Clock, ConnName, Front, Line, Link, Moment, NoMemory, Octets, Ready, Woke,
+};
 use std::alloc::Global;
 use std::net::Net;
 use std::sync::Wait;
@@ -19,7 +22,8 @@ use std::time;
 use system_outside::Operator;
 
 /// Connections, signals and command lines off the system's sockets, and moments off its clock. It tells nothing, and no wait of it
-/// ends by itself. The operator hears of a bind, and of a dial that failed.
+/// ends by itself. The operator hears of a bind, of a dial that failed,
+/// and of what a restart was answered.
 #[derive(Drop)]
 pub struct SocketFront<'a, R: Net + time::Clock + Eprint> {
     net: &'a R,
@@ -28,6 +32,8 @@ pub struct SocketFront<'a, R: Net + time::Clock + Eprint> {
     sockets: Sockets,
     // Since the last wait an accept failed, or looked for control connections.
     pressed: bool,
+    // Whether the line that was given last asks for a restart, and wasn't answered.
+    restarts: bool,
     counters: FrontCounters,
 }
 
@@ -46,6 +52,7 @@ impl<'a, R: Net + time::Clock + Eprint> SocketFront<'a, R> {
             clock,
             sockets: Sockets::make(alloc, slots)?,
             pressed: false,
+            restarts: false,
             counters: FrontCounters::make(),
         })
     }
@@ -171,15 +178,32 @@ impl<'a, R: Net + time::Clock + Eprint> Front for SocketFront<'a, R> {
         self.sockets.hush();
     }
 
+    /// A restart finds the descriptor that is kept for what it opens.
     fn command(&mut self) -> Option<Line> {
         let line = self.sockets.take_line();
+        self.restarts = asks_to_restart(&line);
+        if self.restarts {
+            self.sockets.give_up_spare();
+        }
         self.counters.command(&line);
         line
     }
 
-    /// Connects to the port, sends the word and a line feed, and reads until the server closes.
-    fn dial(&mut self, port: u16, word: &str) -> bool {
-        let dialled = dial(self.net, self.operator, port, word);
+    /// It is one write. The operator hears of the answer of a restart.
+    fn answer(&mut self, text: &[u8]) {
+        self.sockets.answer(text);
+        if self.restarts {
+            self.operator.hear_of_answer(text);
+            self.sockets.restock();
+        }
+        self.restarts = false;
+        self.counters.answer(text);
+    }
+
+    /// Connects to the port, sends the word and a line feed, and reads until the server closes. Of what it reads the first 512 bytes are the
+    /// answer. It fails too where memory lacks for that, and then sends nothing.
+    fn dial(&mut self, port: u16, word: &str, answer: &mut Octets) -> bool {
+        let dialled = dial(self.net, self.operator, port, word, answer);
         self.counters.test(dialled);
         dialled
     }
@@ -197,5 +221,13 @@ fn has_failed(arrival: &Arrival<SocketLink>) -> bool
     match arrival {
         Arrival::Failed => true,
         Arrival::Some(_) | Arrival::None => false,
+    }
+}
+
+/// Whether the line asks for a restart.
+fn asks_to_restart(line: &Option<Line>) -> bool {
+    match line {
+        Some(line) => line.as_str() == "graceful",
+        None => false,
     }
 }

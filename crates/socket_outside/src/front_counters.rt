@@ -2,14 +2,15 @@
 ghost use Rattle.std.specs.Prelude.{◌≡◌, is_some, not};
 ghost use Rattle.mpm_base.specs.Count.{CountsWhere, RisesWhere, RisesExactlyWhere};
 ghost use Rattle.mpm_base.specs.Front.{accept_failed, is_handed};
+ghost use Rattle.mpm_base.specs.GivenAnswers.{CountsAnswer, no_answers};
 ghost use Rattle.mpm_base.specs.GivenWords.{CountsWords, no_words};
 
 use crate::link::SocketLink;
-use mpm_base::{Arrival, GivenWords, Line};
+use mpm_base::{Arrival, GivenAnswers, GivenWords, Line};
 use std::marker::Model;
 
-/// Counts of binds, waits and dials that failed, of accepts that failed, of waits that gave a moment, of command lines that were given, and
-/// of links that were handed out. No wait answers that nothing comes any more.
+/// Counts of binds, waits and dials that failed, of accepts that failed, of waits that gave a moment, of command lines that were given, of
+/// answers to their senders, and of links that were handed out. No wait answers that nothing comes any more.
 #[derive(Drop)]
 pub(crate) struct FrontCounters {
     failures: u64,
@@ -17,6 +18,7 @@ pub(crate) struct FrontCounters {
     wakes: u64,
     lines: u64,
     words: GivenWords,
+    answers: GivenAnswers,
     links: u64,
 }
 
@@ -32,6 +34,7 @@ impl Model for FrontCounters {
       wakes = c.wakes;
       commands = c.lines;
       words = c.words;
+      answers = c.answers;
       handed = c.links;
     } };
 }
@@ -47,6 +50,7 @@ impl FrontCounters {
               wakes = 0;
               commands = 0;
               words = no_words;
+              answers = no_answers;
               handed = 0;
             } }
     {
@@ -56,6 +60,7 @@ impl FrontCounters {
             wakes: 0,
             lines: 0,
             words: GivenWords::none(),
+            answers: GivenAnswers::none(),
             links: 0,
         }
     }
@@ -113,5 +118,13 @@ impl FrontCounters {
             self.lines = self.lines.saturating_add(1);
         }
         self.words.count(given);
+    }
+
+    /// The sender of a line was answered with the text.
+    pub(crate) fn answer(&mut self, text: &[u8])
+        ensures others { self.new ≡ record self.old { answers = self.new.answers } }
+        ensures counted { CountsAnswer text.now self.old.answers self.new.answers }
+    {
+        self.answers.count(text);
     }
 }

@@ -140,6 +140,8 @@ impl SocketLink {
 impl Link for SocketLink {
     ghost seen = { λ l. record { told = None; counts = l.counters } };
 
+    ghost calls = { λ l. None };
+
     /// It answers Failed where the link was closed.
     fn read(&mut self, buffer: &mut [u8]) -> Got
         ensures link { let old : LinkSeen = record { told = None; counts = self.old.counters } in

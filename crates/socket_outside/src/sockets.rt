@@ -200,7 +200,7 @@ impl Sockets {
         self.control.asks()
     }
 
-    /// Keeps a descriptor in reserve for control connections, where there is none and the system has one to give.
+    /// Keeps descriptors in reserve for control connections and for what commands open, where the system has some to give.
     pub(crate) fn restock(&mut self)
         ensures others { self.new ≡ record self.old { control = self.new.control } }
         ensures listener { self.new.control.listener ≡ self.old.control.listener }
@@ -221,6 +221,16 @@ impl Sockets {
     /// The command line that waited longest.
     pub(crate) fn take_line(&mut self) -> Option<Line> {
         self.control.take_line()
+    }
+
+    /// Gives up the descriptor that is kept for what a command opens.
+    pub(crate) fn give_up_spare(&mut self) {
+        self.control.give_up_spare();
+    }
+
+    /// The sender of the line that was given last gets the text.
+    pub(crate) fn answer(&mut self, text: &[u8]) {
+        self.control.answer(text);
     }
 
     /// Has the slot given from now on where something comes for the link. It answers false where that failed.

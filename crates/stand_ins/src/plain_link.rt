@@ -1,6 +1,6 @@
 //! A link in memory that never fails.
 //! Why it is so stands in docs/DECISIONS.md: 2, Want of memory in the stand-ins.
-ghost use Rattle.std.specs.Prelude.{◌≡◌, true, Some, ◌++◌, ◌≤◌, min, take, drop, length};
+ghost use Rattle.std.specs.Prelude.{◌≡◌, true, None, Some, ◌++◌, ◌≤◌, min, take, drop, length};
 ghost use Rattle.mpm_base.specs.Link.{Reads, Writes, Shuts, Closes, with_received, after_shut, after_close, telling_link};
 ghost use Rattle.stand_ins.specs.PlainLink.{new_link, read_answer, buffer_after_read, link_after_read, TakesWhole, link_after_write};
 
@@ -158,6 +158,8 @@ fn copy_front(bytes: &[u8], buffer: &mut [u8]) -> usize
 
 impl Link for PlainLink {
     ghost seen = { λ l. telling_link l.told l.counts };
+
+    ghost calls = { λ l. None };
 
     /// Answers NotReady and End only where no byte is left, and `Got(0)` only into an empty buffer.
     fn read(&mut self, buffer: &mut [u8]) -> Got

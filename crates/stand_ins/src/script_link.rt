@@ -1,6 +1,6 @@
 //! A link in memory some of whose calls fail, and whose bytes may come little by little.
 //! Why it is so stands in docs/DECISIONS.md: 11, Every call counts for `fail`.
-ghost use Rattle.std.specs.Prelude.{◌≡◌, ◌≤◌, true, false, Some, ◌++◌, length, is_some};
+ghost use Rattle.std.specs.Prelude.{◌≡◌, ◌≤◌, true, false, None, Some, ◌++◌, length, is_some};
 ghost use Rattle.mpm_base.specs.Link.{Reads, Writes, Shuts, Closes, OnlyFaults, GivesNext, FitsBuffer, FitsPiece, read_failed, after_read, after_write, after_close, telling_link};
 ghost use Rattle.stand_ins.specs.Calls.{is_listed, next_is_listed};
 ghost use Rattle.stand_ins.specs.PlainLink.{buffer_after_read, read_answer};
@@ -311,6 +311,8 @@ fn write_pair_by(
 
 impl Link for ScriptLink {
     ghost seen = { λ l. telling_link l.told l.counts };
+
+    ghost calls = { λ l. None };
 
     /// Gives what came by now. Answers NotReady where there is none at this moment, End only where no byte is left and the
     /// end has come, and Failed only where the call is listed, or the script drops the link.

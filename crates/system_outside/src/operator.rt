@@ -4,6 +4,9 @@
 use std::fmt::Display;
 use std::net::SocketAddr;
 
+/// How many bytes a character has at most.
+const MOST_BYTES: usize = 4;
+
 /// Whoever runs the server, who reads standard error. Each text is one line, and begins with the program's name. One that can't be
 /// written is lost.
 #[derive(Drop)]
@@ -40,6 +43,18 @@ impl<'a, E: Eprint> Operator<'a, E> {
         }
         if let Some(connections) = self.connections {
             self.hear(format_args!("takes {connections} connections at its start"));
+        }
+    }
+
+    /// A restart was answered with the text, which is one line. Where a name in it was cut within a character, what stands before that is told.
+    pub fn hear_of_answer(&self, text: &[u8]) {
+        let line = text.strip_suffix(b"\n").unwrap_or(text);
+        for cut in 0..MOST_BYTES {
+            let front = &line[..line.len().saturating_sub(cut)];
+            if let Ok(told) = str::from_utf8(front) {
+                self.hear(told);
+                return;
+            }
         }
     }
 

@@ -80,8 +80,8 @@ fn has_word(text: &str, word: &str) -> bool {
     false
 }
 
-/// The shape of these eight words, in the order of its fields, with `on` or `off` for `keep`; or one of two workers where there are
-/// none.
+/// The shape of these eight words, or nine, in the order of its fields, with `on` or `off` for `keep`; or one of two workers where there
+/// are none.
 pub fn shape_of(text: &str) -> Shape {
     let text = if text.is_empty() {
         "2 200 60000 5000 on 100 1 2"
@@ -94,7 +94,8 @@ pub fn shape_of(text: &str) -> Shape {
     let (keep_ms, rest) = words(rest);
     let (keep, rest) = words(rest);
     let (most, rest) = words(rest);
-    let (target, children) = words(rest);
+    let (target, rest) = words(rest);
+    let (children, whole_ms) = words(rest);
     Shape {
         threads: small_of(threads),
         factor: small_of(factor),
@@ -104,5 +105,6 @@ pub fn shape_of(text: &str) -> Shape {
         most: small_of(most),
         target: small_of(target),
         children: small_of(children),
+        whole_ms: number_of(whole_ms),
     }
 }

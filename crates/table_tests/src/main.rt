@@ -6,7 +6,8 @@
 //! title. Events have their names, as `Close 0.1 LinkFailed Direct` for the connection of slot 0 in life 1; a command stands without
 //! the word `Command`. An answer has its code, and `close` behind it where the request asks to close, or `refused`,
 //! and `page` where it is the status page. A shape is eight
-//! words, in the order of its fields, with `on` or `off` for `keep`; where there are none it is `2 200 60000 5000 on 100 1 2`.
+//! words, in the order of its fields, with `on` or `off` for `keep`, and a ninth where a whole request has a time; where there are none
+//! it is `2 200 60000 5000 on 100 1 2`.
 //!
 //! - `may SLOTS CHILDREN SHAPE`: the first row has the events that come first, with `, ` between them. Each other one has a title up to
 //!   a colon, then more events up to a semicolon, and an event that is allowed behind them or isn't.

@@ -199,7 +199,7 @@ fn change_row(rows: &mut Rows, bounds: Bounds, number: u64, detail: u64) {
     }
     match number % 9 {
         0 => rows.take(slot, detail, below(detail, bounds.children), 0),
-        1 => rows.park(slot, listed_at(&KINDS, detail), detail),
+        1 => rows.park(slot, listed_at(&KINDS, detail), detail, Some(detail)),
         2 => rows.hold(slot),
         3 => rows.queue(slot),
         4 => rows.linger(

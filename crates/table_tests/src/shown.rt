@@ -40,14 +40,15 @@ pub fn show_state(sheet: &mut Sheet, table: &Table) {
         let Some(notes) = table.notes.get(slot) else {
             return;
         };
-        show_row(sheet, slot, row);
+        let has_whole_time = state.child_of(row).shape.whole_ms > 0;
+        show_row(sheet, slot, row, has_whole_time);
         show_notes(sheet, row, notes);
         println!(sheet; ", signal {}", state.signals.get(slot));
     }
 }
 
-/// Shows the row of the slot.
-fn show_row(sheet: &mut Sheet, slot: u32, row: &Row) {
+/// Shows the row of the slot, and since when it has waited for its request where a whole one has a time.
+fn show_row(sheet: &mut Sheet, slot: u32, row: &Row, has_whole_time: bool) {
     print!(sheet;
         "  {slot}.{} {:?}, owner {:?}, arrival {}, child {} of {}, live there {}",
         row.life,
@@ -58,9 +59,14 @@ fn show_row(sheet: &mut Sheet, slot: u32, row: &Row) {
         row.generation,
         row.is_live_in(row.child)
     );
+    print!(sheet; ", from {:?} until {}", row.from, row.deadline);
+    match row.began {
+        Some(began) if has_whole_time => print!(sheet; " since {began}"),
+        _ => (),
+    }
     print!(sheet;
-        ", from {:?} until {}, mid {}, last {}, short {}, cause {:?}",
-        row.from, row.deadline, row.mid, row.last, row.short, row.cause
+        ", mid {}, last {}, short {}, cause {:?}",
+        row.mid, row.last, row.short, row.cause
     );
 }
 

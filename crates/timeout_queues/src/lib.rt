@@ -3,8 +3,8 @@
 //! Contracts see the queues as a map from the parked names to kind and deadline. The name that `overdue`
 //! answers is late, and none has an earlier deadline. All memory is taken by `make`, so that a connection
 //! in hand can always be parked. The names of each kind stand in a ring, in the order of their deadlines, so
-//! no call but `make` goes over the slots. `park` puts a name that is due last at the end, and one that is parked again where
-//! the last of its kind was taken out goes back there; only another one looks for its place among the names of its kind that
+//! no call but `make` goes over the slots. `park` puts a name that is due last at the end, and one that is parked again with the
+//! deadline that it had goes back to where it was taken out; only another one looks for its place among the names of its kind that
 //! are due later. The definitions stand in `specs/Waiting.antt`.
 //!
 //! Rings of slots say of each slot in which ring it stands, and find one that stands in a ring without a look at the
@@ -20,12 +20,12 @@ ghost use Rattle.timeout_queues.specs.Entries.{parked_in};
 ghost use Rattle.timeout_queues.specs.RingsInside.{by_kind, ring_number, ring_at, due_at, IsRings, IsBack, IsLastBefore, IsFirstOf, IsDueFrom};
 ghost use Rattle.timeout_queues.specs.Waiting.{nothing_parked, IsFree, parked_of, parked_as, with_parked, without_name, Updates, overdue_at, least_deadline, IsPastDeadline, deadline_of};
 
-mod gaps;
+mod hints;
 mod rings;
 mod slot_rings;
 mod turns;
 
-use gaps::Gaps;
+use hints::Hints;
 use mpm_base::{ConnName, Kind, Moment, NoMemory};
 use rings::Rings;
 pub use slot_rings::SlotRings;
@@ -36,13 +36,16 @@ use turns::Turns;
 // How many kinds there are, each with a ring of its own.
 const KINDS: u32 = 5;
 
+// How many places are looked at near that where a name was taken out.
+const LOOKS: u32 = 64;
+
 /// The timeout queues, as contracts see them: of each slot what is parked in it.
 #[derive(Debug, Drop)]
 pub struct Queues {
     slots: Vec<Option<Entry>>,
     // The places are the slots, and behind them the heads of the rings.
     rings: Rings,
-    gaps: Gaps,
+    hints: Hints,
     turns: Turns,
 }
 
@@ -91,7 +94,7 @@ impl Queues {
         Ok(Queues {
             slots: kept,
             rings: Rings::make(alloc, slots + KINDS)?,
-            gaps: Gaps::none(),
+            hints: Hints::make(alloc, slots)?,
             turns: Turns::make(alloc, slots)?,
         })
     }
@@ -110,8 +113,14 @@ impl Queues {
         ensures updates { Updates self.old self.new name (Some (parked_as name kind deadline)) }
     {
         let head = head_of(self.slots.len() as u32, kind);
-        let gap = self.gaps.get(kind);
-        let place = last_before(&self.slots, &self.rings, head, gap, deadline);
+        let place = last_before(
+            &self.slots,
+            &self.rings,
+            &self.hints,
+            head,
+            name.slot,
+            deadline,
+        );
         self.rings.insert(place, name.slot);
         self.turns.note(name.slot);
         self.slots[name.slot as usize] = Some(Entry {
@@ -131,9 +140,8 @@ impl Queues {
         if !self.is_parked(name) {
             return false;
         }
-        let kind = kind_at(&self.slots, name.slot);
-        let gap = self.rings.before[name.slot as usize];
-        self.gaps.note(kind, gap);
+        let before = self.rings.before[name.slot as usize];
+        self.hints.note(name.slot, before);
         self.rings.remove(name.slot);
         self.slots[name.slot as usize] = None;
         true
@@ -228,11 +236,6 @@ fn kept_at(slots: &[Option<Entry>], place: u32) -> Option<Entry>
     }
 }
 
-// What is waited for in a slot.
-fn kind_at(slots: &[Option<Entry>], place: u32) -> Option<Kind> {
-    Some(kept_at(slots, place)?.kind)
-}
-
 // The deadline of what is parked in a slot, and 0 at the head of a ring.
 fn deadline_at(slots: &[Option<Entry>], place: u32) -> Moment
     ensures { result ≡ due_at by_kind (map parked_in slots.now) place }
@@ -243,34 +246,90 @@ fn deadline_at(slots: &[Option<Entry>], place: u32) -> Moment
     }
 }
 
-// The last of a ring whose deadline is at or before this one, found by going back from the end, or from the gap where that is a
-// place behind which all is due at or after it.
-fn last_before(slots: &[Option<Entry>], rings: &Rings, head: u32, gap: u32, deadline: Moment) -> u32
+// The last of a ring whose deadline is at or before this one, found by going back from the end, or from where the name of the slot was
+// taken out, as far as that is a place behind which all is due at or after it.
+fn last_before(
+    slots: &[Option<Entry>],
+    rings: &Rings,
+    hints: &Hints,
+    head: u32,
+    slot: u32,
+    deadline: Moment,
+) -> u32
     requires rings { IsRings by_kind (map parked_in slots.now) rings.now.before.items
         rings.now.behind.items }
     requires head { (length slots.now ≤ head) × (head < length slots.now + 5) }
     ensures { IsLastBefore by_kind (map parked_in slots.now) rings.now.behind.items head deadline
         result }
 {
-    let mut place = back_from(slots, rings, head, gap, deadline);
+    let mut place = back_from(slots, rings, hints, head, slot, deadline);
     while deadline_at(slots, place) > deadline {
         place = rings.before[place as usize];
     }
     place
 }
 
-// A place of the ring behind which all is due at or after the deadline: the end, or the gap where that is such a place before it.
-fn back_from(slots: &[Option<Entry>], rings: &Rings, head: u32, gap: u32, deadline: Moment) -> u32
+// A place of the ring behind which all is due at or after the deadline: where what stands last is due later one near that where the name of
+// the slot was taken out, if there is such a one, and else the end.
+fn back_from(
+    slots: &[Option<Entry>],
+    rings: &Rings,
+    hints: &Hints,
+    head: u32,
+    slot: u32,
+    deadline: Moment,
+) -> u32
     requires rings { IsRings by_kind (map parked_in slots.now) rings.now.before.items
         rings.now.behind.items }
     requires head { (length slots.now ≤ head) × (head < length slots.now + 5) }
     ensures { IsBack (map parked_in slots.now) rings.now.behind.items head deadline result }
 {
     let last = rings.before[head as usize];
-    if deadline_at(slots, last) > deadline && is_back(slots, rings, head, gap, deadline) {
-        gap
-    } else {
-        last
+    if deadline_at(slots, last) > deadline {
+        if let Some(place) = found_again(slots, rings, hints, head, slot, deadline) {
+            return place;
+        }
+    }
+    last
+}
+
+// The place behind which the name of the slot was taken out, or one near it: due at or before the deadline, and all behind it at or after
+// it. Where the name that stood there was taken out too, or is due later now, that is looked for behind which that one was taken out; and
+// where some were put in there meanwhile, behind these. None where it isn't found in so many looks.
+fn found_again(
+    slots: &[Option<Entry>],
+    rings: &Rings,
+    hints: &Hints,
+    head: u32,
+    slot: u32,
+    deadline: Moment,
+) -> Option<u32>
+    requires rings { IsRings by_kind (map parked_in slots.now) rings.now.before.items
+        rings.now.behind.items }
+    requires head { length slots.now ≤ head }
+    ensures { IfSome result
+        (IsBack (map parked_in slots.now) rings.now.behind.items head deadline) }
+{
+    let mut place = hints.get(slot);
+    for _ in 0..LOOKS {
+        let is_before = deadline_at(slots, place) <= deadline;
+        if is_before && is_back(slots, rings, head, place, deadline) {
+            return Some(place);
+        }
+        place = if is_before && is_in_ring(slots, head, place) {
+            place_behind(rings, head, place)
+        } else {
+            hints.get(place)
+        };
+    }
+    None
+}
+
+// The place that stands behind this one.
+fn place_behind(rings: &Rings, head: u32, place: u32) -> u32 {
+    match rings.behind.get(place as usize) {
+        Some(next) => *next,
+        None => head,
     }
 }
 

@@ -23,7 +23,11 @@ fn nowhere(alloc: Global) -> Result<SiteOrder, NoMemory>
 {
     let root = Octets::of(alloc, "htdocs".as_bytes())?;
     let index = Octets::of(alloc, "index.html".as_bytes())?;
-    Ok(SiteOrder { root, index })
+    Ok(SiteOrder {
+        root,
+        index,
+        status: true,
+    })
 }
 
 /// A site without a file.

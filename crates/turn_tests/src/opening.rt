@@ -23,6 +23,7 @@ const SHAPE: Shape = Shape {
     most: 100,
     target: 1,
     children: 1,
+    whole_ms: 0,
 };
 
 /// A lock with a board without connections, which has a slot more than there are clients, and so many passes.

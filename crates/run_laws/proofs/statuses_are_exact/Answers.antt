@@ -1,4 +1,4 @@
-use Rattle.run_laws.proofs.DialLemmas.{sent-well, undialled-fails, unopened-fails}
+use Rattle.run_laws.proofs.DialLemmas.{refused-ends, sent-well, unanswered-ends, undialled-fails, unopened-fails}
 use Rattle.run_laws.proofs.ExactLemmas.{config-ends, large-script-ends, missing-ends, plays-opens, serves-opens, site-ends, tests-unwritten, tests-well, uncontrolled-ends, unfit-script-ends}
 use Rattle.run_laws.proofs.OpenedLemmas.{played-exactly, served-exactly}
 use Rattle.run_laws.proofs.WayLemmas.{ended-unknown}
@@ -18,7 +18,9 @@ returns c o is =
       uncontrolled = uncontrolled-ends one answer o is;
       tested = tests-well one answer o is;
       untold = tests-unwritten one answer o is;
+      refused = refused-ends one o is;
       sent = sent-well one o is;
+      unanswered = unanswered-ends one o is;
       undialled = undialled-fails one o is;
       plays = plays-opens one answer o is;
       serves = serves-opens one answer o is;

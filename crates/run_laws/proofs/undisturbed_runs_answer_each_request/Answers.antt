@@ -15,7 +15,7 @@ returns c =
     } in
     record {
       opens = opens-played one answer;
-      script = λ o s played is some calm. script-served laws o s played is some calm;
+      script = λ o s played is some calm. script-served laws o s played calm;
       server = λ o t b run is some tells calm. server-served laws o t b run tells calm;
       tests = tests-served one answer;
       sends = sends-served one answer;

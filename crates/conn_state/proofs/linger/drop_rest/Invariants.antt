@@ -1,4 +1,5 @@
 use Rattle.std.proofs.Common.{◌≤◌, ◌-◌}
+use Rattle.conn_state.specs.CallsInside.{DropsSoFar}
 use Rattle.conn_state.specs.LingerInside.{HasDropped}
 use Rattle.conn_state.proofs.linger.drop_rest.Given as goal
 
@@ -7,6 +8,7 @@ abbrev pub invariant-loop-dropped : goal.invariant-loop-dropped
 invariant-loop-dropped g l = record {
   has : HasDropped (g.L.Link.seen l.fn.link).told (g.L.Link.seen l.link).told (g.L.Link.seen l.fn.link).counts (g.L.Link.seen l.link).counts l.fn.dropped l.dropped;
   most : l.dropped ≤ 1048576;
+  calls : DropsSoFar (g.L.Link.calls l.fn.link) (g.L.Link.calls l.link) l.fn.dropped l.dropped;
 }
 
 -- how many bytes are left to drop

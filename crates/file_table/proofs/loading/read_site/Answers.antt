@@ -41,7 +41,8 @@ returns-in-Ok-of-clause-site g c =
     let items = c.in_ok-sorted.sorted.items in
     loaded_site c.args.order.now c.as_slice-root.result.now c.as_slice-root.ensures c.args.names.now (map (λ n. n.now) items) c.in_ok-sorted.ensures.names
     (g.D.Store.seen c.args.store.now).told c.in-Ok.files.items c.in-Ok-of.site
-    (ap (λ (s : SeenSite). s.index) c.in-Ok-of.ensures ∙ c.as_slice-2.ensures) (ap (λ (s : SeenSite). s.files) c.in-Ok-of.ensures)
+    (ap (λ (s : SeenSite). s.index) c.in-Ok-of.ensures ∙ c.as_slice-2.ensures) (ap (λ (s : SeenSite). s.status) c.in-Ok-of.ensures)
+    (ap (λ (s : SeenSite). s.files) c.in-Ok-of.ensures)
     (in_order_within c.as_slice-root.result.now (map (λ n. n.now) items) c.in-Ok.files.items
     (c.in-Ok.ensures.names ∙ ap (λ l. map (name_within c.as_slice-root.result.now) (map (λ n. n.now) l)) c.as_slice.ensures.value)
     (sorted_under c.as_slice-root.result.now c.args.names.now _ c.in_ok-sorted.ensures.names)

@@ -1,4 +1,4 @@
-use Rattle.std.proofs.Common.{Option, refl, ap, sym, subst, ◌∙◌, rules}
+use Rattle.std.proofs.Common.{Option, refl, ap, sym, subst, ◌∙◌, arith, rules}
 use Rattle.conn_state.specs.Known.{KnownOutside}
 use Rattle.board.specs.Board.{AreOfOutside, EndedOfOutside, SeenBoard}
 use Rattle.board.specs.Book.{SeenBook}
@@ -71,10 +71,11 @@ returns-clause-run g c =
     let o = opening_by config edition store old in
     let binds = binds-true n old (g.F.Front.seen c.bell.new.self) front c.bind.result c.bell.ensures.same c.if-not-bind.false c.bind.ensures.binds in
     let idle = idle-bound n old front calls binds c.requires.unused c.requires.unasked in
-    let first = listener_of c.in-Ok-open_board.board front calls c.in-Ok.ready edition store config in
+    let first =
+    listener_of c.in-Ok-open_board.board front calls c.in-Ok.ready edition store config (g.K.Sink.seen c.write_all-written.new.out) c.write_all-written.result in
     let last =
     listener_of c.listen.new.self.board new (g.C.Clock.told c.listen.new.clock) c.listen.new.self.ready c.listen.new.self.edition
-    (g.D.Store.seen c.listen.new.store) c.listen.new.self.config in
+    (g.D.Store.seen c.listen.new.store) c.listen.new.self.config (g.K.Sink.seen c.listen.new.out) c.listen.new.self.written in
     let begun : IsBegun known o n first =
     begun-opened c.folds_join.ensures known store old n first c.numbers_of-numbers.ensures.allowed book refl c.requires.timeout binds idle in
     let stood : HasStood known o n first last = c.listen.ensures.listened.stood o n (record { name = refl; config = refl }) begun in
@@ -86,10 +87,9 @@ returns-clause-run g c =
     counts-alike old.counts front.counts c.in-Ok-open_board.board.book c.in-Ok-open_board.board.book (same-words old.counts front.counts binds.words binds.handed)
     (alike-same c.in-Ok-open_board.board.book c.in-Ok-open_board.board.book refl) old.counts
     (counts-opened n old.counts c.in-Ok-open_board.board.book book) in
-    let leaves : LeavesRun o n last =
+    let leaves : LeavesRun o n first last =
     record {
       run = c.show_run.ensures.run stood.folded;
-      first = first;
       stood = known_stood;
       closed = c.show_run.ensures.closed stood.folded stopped.down;
       outside = subst (λ (k : Option KnownOutside). AreOfOutside k last.board) c.requires.named c.show_run.ensures.outside;
@@ -110,8 +110,33 @@ returns-clause-run g c =
       counted = c.listen.ensures.counts old.counts so;
       unended = known_stood.unended old.counts so;
     } in
-    has-run-by c.generations_keep_their_editions.ensures c.folds_join.ensures.outside c.folds_join.ensures.outside_stays o n last
-    c.forget.result c.numbers_of-numbers.ensures.value c.forget.ensures.same leaves
+    let run =
+    has-run-by c.generations_keep_their_editions.ensures c.folds_join.ensures.outside c.folds_join.ensures.outside_stays o n first last
+    c.forget.result c.numbers_of-numbers.ensures.value c.forget.ensures.same leaves in (
+      run.0,
+      run.1.behind (g.K.Sink.seen c.args.out.now) c.args.text.now c.write_all-written.ensures.faults c.write_all-written.ensures.all,
+    )
+
+pub returns-clause-faults : goal.returns-clause-faults
+returns-clause-faults g c =
+    let n = c.numbers_of-numbers.result in
+    let known = g.N.Known.known in
+    let config = c.args.config in
+    let edition = c.args.edition in
+    let old = g.F.Front.seen c.args.front.now in
+    let front = g.F.Front.seen c.bind.new.self in
+    let store = g.D.Store.seen c.args.store.now in
+    let calls = g.C.Clock.told c.args.clock.now in
+    let o = opening_by config edition store old in
+    let binds = binds-true n old (g.F.Front.seen c.bell.new.self) front c.bind.result c.bell.ensures.same c.if-not-bind.false c.bind.ensures.binds in
+    let idle = idle-bound n old front calls binds c.requires.unused c.requires.unasked in
+    let first =
+    listener_of c.in-Ok-open_board.board front calls c.in-Ok.ready edition store config (g.K.Sink.seen c.write_all-written.new.out) c.write_all-written.result in
+    let begun : IsBegun known o n first =
+    begun-opened c.folds_join.ensures known store old n first c.numbers_of-numbers.ensures.allowed c.in-Ok-open_board.ensures.book refl c.requires.timeout binds
+    idle in
+    let stood = c.listen.ensures.listened.stood o n (record { name = refl; config = refl }) begun in
+    omega (arith, c.write_all-written.ensures.faults, stood.writes.faults)
 
 pub returns-clause-follows : goal.returns-clause-follows
 returns-clause-follows g c =

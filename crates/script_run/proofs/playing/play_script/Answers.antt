@@ -3,8 +3,8 @@ use Rattle.script_run.proofs.playing.play_script.Goals as goal
 
 pub returns-in-Ok-script_config-clause-kept : goal.returns-in-Ok-script_config-clause-kept
 returns-in-Ok-script_config-clause-kept g c =
-    is-played c.play_site.result.left c.args.script c.in-Ok-script_config.config c.in-Ok-script_config.told c.in-Ok-script_config.ensures.config
-    c.play_site.ensures.kept
+    is-played c.play_site.result.left c.args.script c.in-Ok-script_config.config c.in-Ok-script_config.told (g.K.Sink.seen c.args.out.now)
+    (g.K.Sink.seen c.play_site.new.out) c.play_site.result.status c.in-Ok-script_config.ensures.config c.play_site.ensures.kept
 
 pub returns-in-Ok-script_config-clause-site_refused : goal.returns-in-Ok-script_config-clause-site_refused
 returns-in-Ok-script_config-clause-site_refused g c nine =

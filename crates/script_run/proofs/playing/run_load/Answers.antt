@@ -10,4 +10,4 @@ returns-in-Ok g c words store command =
     plays _ c.in-Ok.script c.play_script.result.status c.play_script.result.left
     (subst (PlaysLines (seen_call words store store (g.K.Sink.seen c.args.out.now) (g.K.Sink.seen c.play_script.new.out) c.play_script.result.shown))
     (sym c.in-Ok.ensures.lines) (makes-load _ c.args.count command refl))
-    played.kept played.ends played.opened played.shown played.known played.misconfigured played.site_refused played.silent
+    played.kept played.opened played.shown played.known played.misconfigured played.site_refused played.silent

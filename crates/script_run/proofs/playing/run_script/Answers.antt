@@ -13,7 +13,7 @@ returns-in-Ok-read_script g c words command =
     plays _ c.in-Ok-read_script.script c.play_script.result.status c.play_script.result.left
     (reads-script _ c.args.name.now c.in-Ok.bytes c.in-Ok-read_script.script c.read.result command c.read.ensures c.in-Ok.is
     (subst (λ (bytes : List ℕ). ScriptIs bytes (Ok c.in-Ok-read_script.script)) c.as_slice.ensures c.in-Ok-read_script.ensures.answer))
-    played.kept played.ends played.opened played.shown played.known played.misconfigured played.site_refused played.silent
+    played.kept played.opened played.shown played.known played.misconfigured played.site_refused played.silent
 
 pub returns : goal.returns
 returns g c words command =

@@ -2,11 +2,10 @@ use Rattle.std.proofs.Common.{IfSome, ◌∙◌, ap, inl, inr, subst, arith}
 use Rattle.mpm_base.specs.Store.{StoreSeen}
 use Rattle.file_table.specs.Site.{SeenSite}
 use Rattle.run_opening.proofs.ConfigLemmas.{had-accepted, has-accepted}
-use Rattle.listener.specs.RunsInside.{HasRunBy}
 use Rattle.listener.proofs.CountedEndLemmas.{asks-none}
 use Rattle.server_run.proofs.ConfigLemmas.{config-refused, config-unread}
 use Rattle.server_run.proofs.InvocationLemmas.{serve-config}
-use Rattle.server_run.proofs.ServeLemmas.{asked-only, clock-unserved, folder-refused, folder-unread, is-ready, leaves-front, serves, unbound, unserved}
+use Rattle.server_run.proofs.ServeLemmas.{ServedBy, asked-only, clock-unserved, folder-refused, folder-unread, is-ready, leaves-front, serves, unbound, unserved}
 use Rattle.server_run.proofs.serve_run.serve_file.Goals as goal
 
 pub returns-in-Err-clause-ends : goal.returns-in-Err-clause-ends
@@ -55,8 +54,7 @@ returns-clause-ends g c words command =
           serves c.serve_edition.result.left _ c.args.name.now c.in-Ok.read.0 c.in-Ok-load_site.site asked front front'
           (g.C.Clock.told c.serve_edition.new.clock) status ready
           (asked-only old read asked c.args.name.now c.read-answer.result c.in-Ok-load_site.site c.read-answer.ensures loaded.leaves) ended.shown
-          (subst (λ (site : SeenSite). IfSome c.serve_edition.result.left (HasRunBy (record { name = c.args.name.now; config = c.in-Ok.read.0; site = site; store = asked; front = front }) (g.D.Store.seen c.serve_edition.new.store) front' (g.C.Clock.told c.serve_edition.new.clock))) c.in-Ok-new.ensures.ok ended.run)
-          ended.ends;
+          (subst (λ (site : SeenSite). IfSome c.serve_edition.result.left (ServedBy (record { name = c.args.name.now; config = c.in-Ok.read.0; site = site; store = asked; front = front }) (g.D.Store.seen c.serve_edition.new.store) front' (g.C.Clock.told c.serve_edition.new.clock) (g.K.Sink.seen c.args.out.now) (g.K.Sink.seen c.serve_edition.new.out) status)) c.in-Ok-new.ensures.ok ended.run);
       opened = ended.opened;
       unopened = λ none. record {
         front =

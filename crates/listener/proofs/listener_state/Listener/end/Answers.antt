@@ -8,7 +8,7 @@ use Rattle.conn_machine.specs.declared.state.State.{State}
 use Rattle.conn_machine.specs.States.{is_serving}
 use Rattle.board.specs.Board.{SeenBoard}
 use Rattle.listener.specs.Orders.{ending_moment}
-use Rattle.listener.specs.OrdersInside.{MakesOrders, end_if}
+use Rattle.listener.specs.OrdersInside.{ActsEnding, MakesOrders, end_if}
 use Rattle.listener.specs.Pace.{brought}
 use Rattle.conn_machine.specs.declared.event.Event.TheVariants as event
 use Rattle.conn_machine.specs.Table.{next}
@@ -118,3 +118,23 @@ returns-then-not-is_serving-clause-ended g c =
 
 pub returns-clause-ended : goal.returns-clause-ended
 returns-clause-ended g c = ap (λ (x : SeenBoard). is_serving x.book.state.going) c.in_ok-command.ensures.ok.new_is
+
+pub returns-then-not-is_serving-clause-acts : goal.returns-then-not-is_serving-clause-acts
+returns-then-not-is_serving-clause-acts g c =
+    let a = c.args.self.now.board.book in
+    let off : is_serving a.state.going ≡ false =
+    sym (c.is_serving.ensures ∙ ap (λ (s : State). is_serving s.going) c.state.ensures) ∙ c.if-not-is_serving.true in
+    subst (λ (serves : Bool). ActsEnding serves a a) (sym off) (c.passes_act_in_steps.ensures.acts.none 0 None a c.requires.free)
+
+pub returns-clause-acts : goal.returns-clause-acts
+returns-clause-acts g c =
+    let a = c.args.self.now.board.book in
+    let b = c.command.new.self.book in
+    let on : is_serving a.state.going ≡ true =
+    sym (c.is_serving.ensures ∙ ap (λ (s : State). is_serving s.going) c.state.ensures) ∙ c.if-not-is_serving.false in
+    subst (λ (serves : Bool). ActsEnding serves a b) (sym on) (
+      ending_moment a.state.moment c.args.self.now.edition.stop_ms,
+      ended-by c.passes_act_in_steps.ensures.acts c.ending_moment-until.result c.args.self.now.edition.stop_ms a b
+          (search rules) (ap (λ (x : SeenBoard). x.book) c.in_ok-command.ensures.ok.new_is) c.in_ok-command.ensures.entries
+          (c.in_ok-command.ensures.row ∙ c.requires.free),
+    )

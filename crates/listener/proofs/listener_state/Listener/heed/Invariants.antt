@@ -1,8 +1,10 @@
 use Rattle.std.proofs.Common.{◌≡◌, IfSome}
 use Rattle.worker_group.specs.Service.{IsUp}
 use Rattle.listener.specs.CountedInside.{CountsOn}
+use Rattle.listener.specs.HeardInside.{HearsBehind, hearing}
 use Rattle.listener.specs.ListenInside.{HasNoneToHeed, IsInStep}
 use Rattle.listener.specs.OrdersInside.{KnowsComing, ServesNewest}
+use Rattle.listener.specs.StandingInside.{standing}
 use Rattle.listener.proofs.HeedLemmas.{HasHeeded}
 use Rattle.listener.proofs.listener_state.Listener.heed.Given as goal
 
@@ -19,5 +21,9 @@ invariant-loop g l =
       up : IsUp l.self.board.book.state.going;
       step : IsInStep (g.F.Front.seen l.front).told l.self.board.book.state;
       none : IfSome (g.F.Front.seen l.front).told HasNoneToHeed;
-      others : l.self ≡ record l.fn.self { board = l.self.board; edition = l.self.edition };
+      hears : HearsBehind g.N.Known.known l.fn.self.config l.answer (g.F.Front.seen l.front)
+          (hearing (standing l.fn.self.edition.stop_ms (g.D.Store.seen l.fn.store) (g.F.Front.seen l.fn.front) l.fn.self.board.book)
+          (g.K.Sink.seen l.fn.out) l.fn.self.written)
+          (λ f. hearing (standing l.self.edition.stop_ms (g.D.Store.seen l.store) f l.self.board.book) (g.K.Sink.seen l.out) l.self.written);
+      others : l.self ≡ record l.fn.self { board = l.self.board; edition = l.self.edition; written = l.self.written };
     }

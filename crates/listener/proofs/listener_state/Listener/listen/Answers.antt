@@ -1,14 +1,13 @@
-use Rattle.std.proofs.Common.{◌∙◌, refl, ap, sym, subst}
-use Rattle.mpm_base.specs.Front.{FrontCounts, FrontSeen}
+use Rattle.std.proofs.Common.{◌∙◌, refl, ap}
+use Rattle.mpm_base.specs.Front.{FrontSeen}
 use Rattle.listener.specs.TurnsInside.{listener_of}
-use Rattle.listener.specs.CountedInside.{CountsToEnd}
 use Rattle.listener.proofs.CommandLemmas.{heeds-hushed}
-use Rattle.listener.proofs.CountedEndLemmas.{asks-as, clock-down, counts-end}
+use Rattle.listener.proofs.CountedEndLemmas.{asks-as, clock-down, counts-end, counts-left}
 use Rattle.listener.proofs.FrontLemmas.{follows-trans, time-kept}
-use Rattle.listener.proofs.FrontCallLemmas.{contacts-hushed, follows-hushed, is-hushed, waits-hushed}
+use Rattle.listener.proofs.FrontCallLemmas.{contacts-left, follows-left, is-hushed, left-counts, waits-left}
 use Rattle.listener.proofs.LinkLemmas.{handed-out}
 use Rattle.listener.proofs.StoodLemmas.{stood-down}
-use Rattle.listener.proofs.StopLemmas.{has-stopped, must-halt}
+use Rattle.listener.proofs.StopLemmas.{has-stopped, heeds-left, hushed-left, links-left, must-halt, stopped-left}
 use Rattle.listener.proofs.listener_state.Listener.listen.Goals as goal
 
 pub close_down-requires-clause-must : goal.close_down-requires-clause-must
@@ -25,37 +24,43 @@ returns-clause-listened g c =
     let front = g.F.Front.seen c.args.front.now in
     let mid = g.F.Front.seen c.take_turns-turns.new.front in
     let hushed = g.F.Front.seen c.hush.new.front in
+    let left = g.F.Front.seen c.answer_stop.new.front in
+    let given = c.answer_stop.ensures in
     let b = c.take_turns-turns.new.self.board.book in
     let d = c.close_down.new.board.book in
     let over = c.take_turns-turns.ensures.over in
     let first =
     listener_of c.args.self.now.board front (g.C.Clock.told c.args.clock.now) c.args.self.now.ready c.args.self.now.edition
-    (g.D.Store.seen c.args.store.now) c.args.self.now.config in
+    (g.D.Store.seen c.args.store.now) c.args.self.now.config (g.K.Sink.seen c.args.out.now) c.args.self.now.written in
     let now =
     listener_of c.take_turns-turns.new.self.board mid (g.C.Clock.told c.take_turns-turns.new.clock) c.take_turns-turns.new.self.ready
-    c.take_turns-turns.new.self.edition (g.D.Store.seen c.take_turns-turns.new.store) c.take_turns-turns.new.self.config in
+    c.take_turns-turns.new.self.edition (g.D.Store.seen c.take_turns-turns.new.store) c.take_turns-turns.new.self.config
+    (g.K.Sink.seen c.take_turns-turns.new.out) c.take_turns-turns.new.self.written in
     let last =
-    listener_of c.close_down.new.board hushed (g.C.Clock.told c.take_turns-turns.new.clock) c.take_turns-turns.new.self.ready
-    c.take_turns-turns.new.self.edition (g.D.Store.seen c.take_turns-turns.new.store) c.take_turns-turns.new.self.config in
+    listener_of c.close_down.new.board left (g.C.Clock.told c.take_turns-turns.new.clock) c.take_turns-turns.new.self.ready
+    c.take_turns-turns.new.self.edition (g.D.Store.seen c.take_turns-turns.new.store) c.take_turns-turns.new.self.config
+    (g.K.Sink.seen c.take_turns-turns.new.out) c.take_turns-turns.new.self.written in
     record {
       stood =
-          λ o n opened begun. stood-down g.N.Known.known o n turns front now last (over.turned o n opened begun) over.ends over.up c.close_down.ensures
-          c.hush.ensures refl refl first c.take_turns-turns.ensures.counts;
+          λ o n opened begun. stood-down g.N.Known.known o n turns first front now last (over.turned o n opened begun) over.ends over.up c.close_down.ensures
+          hushed c.hush.ensures given refl refl refl refl c.take_turns-turns.ensures.counts;
       timely = λ before. c.close_down.ensures.timely (over.timely before);
       passes =
           c.close_down.ensures.retires.acts.passes ∙ c.close_down.ensures.closes.acts.passes ∙ c.close_down.ensures.halts.passes ∙ over.passes;
-      stopped = has-stopped turns front mid hushed b d over.ends c.close_down.ensures c.hush.ensures;
-      follows = follows-trans _ _ _ over.follows (follows-hushed _ _ c.hush.ensures);
-      contacts = contacts-hushed mid hushed c.hush.ensures ∙ over.contacts;
-      hushed = is-hushed mid.told hushed.told (ap (λ (f : FrontSeen). f.told) c.hush.ensures);
+      stopped = stopped-left turns front hushed left d.state given (has-stopped turns front mid hushed b d over.ends c.close_down.ensures c.hush.ensures);
+      follows = follows-trans _ _ _ over.follows (follows-left turns mid hushed left c.hush.ensures given);
+      contacts = contacts-left turns mid hushed left c.hush.ensures given ∙ over.contacts;
+      hushed = hushed-left turns hushed left given (is-hushed mid.told hushed.told (ap (λ (f : FrontSeen). f.told) c.hush.ensures));
       heeded =
-          heeds-hushed turns mid.told hushed.told b.state.going d.state.going (ap (λ (f : FrontSeen). f.told) c.hush.ensures) over.up c.close_down.ensures.going
-          over.heeded;
+          heeds-left turns hushed left d.state.going given
+          (heeds-hushed turns mid.told hushed.told b.state.going d.state.going (ap (λ (f : FrontSeen). f.told) c.hush.ensures) over.up
+          c.close_down.ensures.going over.heeded);
       links =
-          handed-out turns mid.told hushed.told b.state d.state c.close_down.ensures.going c.close_down.ensures.accepted
-          (ap (λ (f : FrontSeen). f.told) c.hush.ensures) over.step over.links;
+          links-left turns hushed left d.state given
+          (handed-out turns mid.told hushed.told b.state d.state c.close_down.ensures.going c.close_down.ensures.accepted
+          (ap (λ (f : FrontSeen). f.told) c.hush.ensures) over.step over.links);
       clock = over.clock;
-      time = λ before. time-kept _ _ (g.C.Clock.told c.take_turns-turns.new.clock) (waits-hushed _ _ c.hush.ensures) (over.time before);
+      time = λ before. time-kept _ _ (g.C.Clock.told c.take_turns-turns.new.clock) (waits-left turns mid hushed left c.hush.ensures given) (over.time before);
     }
 
 pub returns-clause-counts : goal.returns-clause-counts
@@ -63,8 +68,9 @@ returns-clause-counts g c =
     let old = g.F.Front.seen c.args.front.now in
     let now = g.F.Front.seen c.take_turns-turns.new.front in
     let ends = c.take_turns-turns.ensures.over.ends in
-    subst (λ (x : FrontCounts). CountsToEnd old.counts x c.args.self.now.board.book c.close_down.new.board.book)
-    (sym (ap (λ (f : FrontSeen). f.counts) c.hush.ensures))
+    let left = left-counts c.take_turns-turns.result (g.F.Front.seen c.hush.new.front) (g.F.Front.seen c.answer_stop.new.front) c.answer_stop.ensures in
+    counts-left old.counts now.counts (g.F.Front.seen c.answer_stop.new.front).counts c.args.self.now.board.book c.close_down.new.board.book
+    (left.words ∙ ap (λ (f : FrontSeen). f.counts.words) c.hush.ensures) (left.handed ∙ ap (λ (f : FrontSeen). f.counts.handed) c.hush.ensures)
     (counts-end c.take_turns-turns.result old.counts now.counts old now c.args.self.now.board.book c.take_turns-turns.new.self.board.book
     c.close_down.new.board.book c.take_turns-turns.ensures.counts ends c.close_down.ensures)
 
@@ -75,6 +81,7 @@ returns-clause-clock g c =
 
 pub returns-clause-asked : goal.returns-clause-asked
 returns-clause-asked g c =
+    let left = left-counts c.take_turns-turns.result (g.F.Front.seen c.hush.new.front) (g.F.Front.seen c.answer_stop.new.front) c.answer_stop.ensures in
     asks-as (g.F.Front.seen c.args.front.now).counts.wakes (g.F.Front.seen c.take_turns-turns.new.front).counts.wakes
-    (g.F.Front.seen c.hush.new.front).counts.wakes (g.C.Clock.asked c.args.clock.now) (g.C.Clock.asked c.take_turns-turns.new.clock)
-    (ap (λ (f : FrontSeen). f.counts.wakes) c.hush.ensures) c.take_turns-turns.ensures.asked
+    (g.F.Front.seen c.answer_stop.new.front).counts.wakes (g.C.Clock.asked c.args.clock.now) (g.C.Clock.asked c.take_turns-turns.new.clock)
+    (left.wakes ∙ ap (λ (f : FrontSeen). f.counts.wakes) c.hush.ensures) c.take_turns-turns.ensures.asked

@@ -1,8 +1,12 @@
-use Rattle.std.proofs.Common.{sym, ap, ◌∙◌}
+use Rattle.std.proofs.Common.{sym, ap, subst, ◌∙◌}
 use Rattle.std.proofs.lemmas.Result.{on_err_weaker, on_ok_weaker}
+use Rattle.conn_machine.specs.declared.event.Refusal.{Refusal}
 use Rattle.conn_machine.specs.declared.event.Refusal.TheVariants as refusal
+use Rattle.listener.specs.OrdersInside.{AnswersRefusal}
+use Rattle.listener.specs.OrdersInside as inside
 use Rattle.listener.specs.StandingInside.{standing}
 use Rattle.listener.proofs.RestartLemmas.{behind-as, breaks-as, carried-stands, cause-as, does-carried, does-refused, in_time-carried, in_time-either, in_time-refused, knows-as, knows-carried, knows-refused, late-stands, makes-carried, makes-refused, orders-carried, orders-refused, serves-either}
+use Rattle.listener.proofs.RefusalLemmas.{answers-carried, answers-refused, cause-says, late-says}
 use Rattle.listener.proofs.listener_state.Listener.restart.Goals as goal
 
 pub returns-then-not-may_begin-clause-does : goal.returns-then-not-may_begin-clause-does
@@ -199,3 +203,28 @@ pub returns-in-Err-clause-orders : goal.returns-in-Err-clause-orders
 returns-in-Err-clause-orders g c =
     on_ok_weaker c.refuse-in-Err.result (orders-refused c.reason_for.result c.args.self.now.board.book c.refuse-in-Err.new.self.board.book)
     c.refuse-in-Err.ensures.refuses
+
+-- ## What its line is answered
+
+pub returns-then-not-may_begin-clause-answers : goal.returns-then-not-may_begin-clause-answers
+returns-then-not-may_begin-clause-answers g c =
+    answers-refused c.args.self.now.config (g.D.Store.seen c.args.store.now) c.args.self.now.board.book c.refuse.new.self.board.book refusal.Late
+    c.late_answer.result c.refuse.result c.refuse.ensures.refuses c.refuse.ensures.says
+    (subst (AnswersRefusal c.args.self.now.config (g.D.Store.seen c.args.store.now) refusal.Late) (sym c.late_answer.ensures)
+    (late-says c.args.self.now.config (g.D.Store.seen c.args.store.now)))
+
+pub returns-in-Ok-clause-answers : goal.returns-in-Ok-clause-answers
+returns-in-Ok-clause-answers g c =
+    answers-carried c.args.self.now.config (g.D.Store.seen c.args.store.now) c.in-Ok.plan c.args.self.now.board.book c.begin.new.self.board.book
+    c.args.self.now.edition c.begin.new.self.edition c.begin.result c.begin.ensures.carries c.begin.ensures.answers
+
+pub returns-in-Err-clause-answers : goal.returns-in-Err-clause-answers
+returns-in-Err-clause-answers g c =
+    let says : AnswersRefusal c.args.self.now.config (g.D.Store.seen c.args.store.now) c.reason_for.result c.refused_answer-answer.result =
+    subst (λ (reason : Refusal). AnswersRefusal c.args.self.now.config (g.D.Store.seen c.args.store.now) reason c.refused_answer-answer.result)
+    (sym c.reason_for.ensures)
+    (subst (AnswersRefusal c.args.self.now.config (g.D.Store.seen c.args.store.now) (inside.reason_for c.in-Err.fault)) (sym c.refused_answer-answer.ensures)
+    (cause-says c.args.self.now.config (g.D.Store.seen c.args.store.now) (g.D.Store.seen c.reload.new.store) c.in-Err.fault c.in-Err.ensures.store
+    c.in-Err.ensures.answer)) in
+    answers-refused c.args.self.now.config (g.D.Store.seen c.args.store.now) c.args.self.now.board.book c.refuse-in-Err.new.self.board.book
+    c.reason_for.result c.refused_answer-answer.result c.refuse-in-Err.result c.refuse-in-Err.ensures.refuses c.refuse-in-Err.ensures.says says

@@ -8,6 +8,7 @@ use Rattle.rounds.specs.PartsInside.{way_of}
 use Rattle.listener.proofs.CountedLemmas.{alike-same, counts-alike, counts-lacking, counts-more, counts-same, counts-taken, counts-unbroken, counts-until, same-unhanded}
 use Rattle.listener.proofs.EditionLemmas.{newest-acts}
 use Rattle.listener.proofs.FrontLemmas.{alike-mapped, arrives-next, follows-accept, follows-same, follows-trans, handed-known, handed-tells, named-follows, step-none, step-taken, takes-accept, takes-same, takes-trans}
+use Rattle.listener.proofs.HeardLineLemmas.{keeps-accept, keeps-same, keeps-takes, keeps-trans}
 use Rattle.listener.proofs.LinkLemmas.{hands-ended}
 use Rattle.rounds.proofs.ActLemmas.{on-err}
 use Rattle.listener.proofs.RoundLemmas.{takes-more, takes-none}
@@ -27,6 +28,7 @@ loop-init g c =
       step = c.requires.step;
       counts = counts-same (g.F.Front.seen c.args.front.now).counts c.args.self.now.board.book;
       wakes = refl;
+      heard = keeps-same _;
       follows = follows-same _;
       front = takes-same _;
       watched = λ past before. before;
@@ -37,6 +39,7 @@ loop-init g c =
       edition = refl;
       ready = refl;
       config = refl;
+      written = refl;
     }
 
 pub take-requires-clause-passes : goal.take-requires-clause-passes
@@ -101,6 +104,10 @@ loop-preserved g c =
           c.in-Some-accept.ensures.accepts c.loop.self.board.book c.take.new.self.board.book (g.F.Front.seen c.take.new.front).counts c.take.ensures.counts c.take.ensures.orders
           c.take.ensures.going c.in_ok-take-in-Some-accept.ensures.taken);
       wakes = ap (λ (x : FrontCounts). x.wakes) c.take.ensures.counts ∙ c.in-Some-accept.ensures.accepts.wakes ∙ before.wakes;
+      heard =
+          keeps-trans _ _ _ before.heard
+          (keeps-trans _ _ _ (keeps-accept g.L.Link.seen _ _ _ (takes-accept _ _ _ c.accept.ensures.accepts.told_is) c.accept.ensures.accepts)
+          (keeps-takes _ _ c.take.ensures.front c.take.ensures.counts));
       follows =
           follows-trans _ _ _ before.follows
           (follows-trans _ _ _ (follows-accept g.L.Link.seen _ _ _ c.accept.ensures.accepts)
@@ -121,6 +128,7 @@ loop-preserved g c =
       edition = c.take.ensures.edition ∙ before.edition;
       ready = c.take.ensures.ready ∙ before.ready;
       config = c.take.ensures.config ∙ before.config;
+      written = c.take.ensures.written ∙ before.written;
     }
 
 pub returns-in_err-take-in-Some-accept-clause-until : goal.returns-in_err-take-in-Some-accept-clause-until
@@ -195,6 +203,9 @@ returns-in-None-accept g c =
           (same-unhanded g.L.Link.seen (g.F.Front.seen c.loop.front) (g.F.Front.seen c.accept.new.self) c.accept.result c.in-None-accept.is
           c.accept.ensures.accepts) (alike-same c.loop.self.board.book c.loop.self.board.book refl));
       wakes = c.accept.ensures.accepts.wakes ∙ before.wakes;
+      heard =
+          keeps-trans _ _ _ before.heard
+          (keeps-accept g.L.Link.seen _ _ _ (takes-accept _ _ _ c.accept.ensures.accepts.told_is) c.accept.ensures.accepts);
       follows =
           follows-trans _ _ _ before.follows
           (follows-accept g.L.Link.seen _ _ _ c.accept.ensures.accepts);
@@ -213,6 +224,7 @@ returns-in-None-accept g c =
       edition = before.edition;
       ready = before.ready;
       config = before.config;
+      written = before.written;
       err = tt;
     }
 
@@ -262,3 +274,15 @@ returns-in_default-clause-counts g c =
 pub returns-in_err-take-in-Some-accept-clause-wakes : goal.returns-in_err-take-in-Some-accept-clause-wakes
 returns-in_err-take-in-Some-accept-clause-wakes g c =
     ap (λ (x : FrontCounts). x.wakes) c.take.ensures.counts ∙ c.in-Some-accept.ensures.accepts.wakes ∙ c.loop.invariant.wakes
+
+pub returns-in_err-take-in-Some-accept-clause-heard : goal.returns-in_err-take-in-Some-accept-clause-heard
+returns-in_err-take-in-Some-accept-clause-heard g c =
+    let before = c.loop.invariant.heard in
+    keeps-trans _ _ _ before
+    (keeps-trans _ _ _ (keeps-accept g.L.Link.seen _ _ _ (takes-accept _ _ _ c.accept.ensures.accepts.told_is) c.accept.ensures.accepts)
+    (keeps-takes _ _ c.take.ensures.front c.take.ensures.counts))
+
+pub returns-in_err-take-in-Some-accept-clause-written : goal.returns-in_err-take-in-Some-accept-clause-written
+returns-in_err-take-in-Some-accept-clause-written g c =
+    let before = c.loop.invariant.written in
+    c.take.ensures.written ∙ before

@@ -2,6 +2,7 @@ use Rattle.std.proofs.Common.{◌≡◌}
 use Rattle.mpm_base.specs.Front.{TellsOn}
 use Rattle.listener.specs.ListenInside.{Follows, IsInStep, OnlyTakes, StaysWatching}
 use Rattle.listener.specs.CountedInside.{CountsOn}
+use Rattle.listener.specs.HeardInside.{KeepsHeard}
 use Rattle.listener.specs.RoundInside.{TakesSome}
 use Rattle.listener.specs.ShareInside.{TakesHanded}
 use Rattle.rounds.specs.PartsInside.{StaysTimely}
@@ -20,6 +21,7 @@ invariant-loop g l =
       step : IsInStep (g.F.Front.seen l.front).told l.self.board.book.state;
       counts : CountsOn 0 (g.F.Front.seen l.fn.front).counts (g.F.Front.seen l.front).counts l.fn.self.board.book l.self.board.book;
       wakes : (g.F.Front.seen l.front).counts.wakes ≡ (g.F.Front.seen l.fn.front).counts.wakes;
+      heard : KeepsHeard (g.F.Front.seen l.fn.front) (g.F.Front.seen l.front);
       follows : Follows (g.F.Front.seen l.fn.front) (g.F.Front.seen l.front);
       front : TellsOn OnlyTakes (g.F.Front.seen l.fn.front).told (g.F.Front.seen l.front).told;
       watched : StaysWatching (g.F.Front.seen l.fn.front).told (g.F.Front.seen l.front).told l.fn.self.board.book l.self.board.book;
@@ -30,4 +32,5 @@ invariant-loop g l =
       edition : l.self.edition ≡ l.fn.self.edition;
       ready : l.self.ready ≡ l.fn.self.ready;
       config : l.self.config ≡ l.fn.self.config;
+      written : l.self.written ≡ l.fn.self.written;
     }

@@ -1,8 +1,9 @@
-use Rattle.std.proofs.Common.{◌≡◌, ℕ, ◌<◌, [], ◌∙◌, Bool, List, None, true, false, inl, inr, ap, refl, sym, subst, rules}
+use Rattle.std.proofs.Common.{◌≡◌, ℕ, ◌<◌, [], ◌∙◌, Bool, List, None, option_map, true, false, inl, inr, ap, refl, sym, subst, rules}
 use Rattle.conn_machine.specs.States.{is_halted}
 use Rattle.worker_group.specs.Acts.{Acts}
 use Rattle.rounds.specs.ClosingInside.{IsLateWay}
 use Rattle.listener.specs.CountedInside.{CountsOn, CountsUntil}
+use Rattle.listener.specs.HeardInside.{Hears, HearsUntil, hearing, last_if, made_first, never_answered}
 use Rattle.listener.specs.OrdersInside.{KnowsComing, ServesNewest, owed_by}
 use Rattle.listener.specs.RoundInside.{BreaksOff}
 use Rattle.rounds.specs.PartsInside.{SignalsFirst, StaysTimely, signal_events}
@@ -16,6 +17,8 @@ use Rattle.listener.proofs.CommandLemmas.{all-read, heeded-takes}
 use Rattle.listener.proofs.CountedEndLemmas.{counts-orderless, moment-passed, moment-stays}
 use Rattle.listener.proofs.CountedLemmas.{counts-more, counts-unbroken, counts-until}
 use Rattle.listener.proofs.FrontLemmas.{both-only, follows-same, follows-trans, listens-takes, named-follows, only-reads, only-takes, step-kept, step-listens, takes-same}
+use Rattle.listener.proofs.HeardLineLemmas.{keeps-same}
+use Rattle.listener.proofs.HearsLemmas.{hears-before, hears-kept, hears-same}
 use Rattle.listener.proofs.LinkLemmas.{hands-step}
 use Rattle.listener.proofs.PartLemmas.{coming-orderless, newest-orderless, orderless-before, orderless-children, orderless-first, orderless-gone, orderless-more, orderless-retires, orderless-signals, orderless-takes, orderless-takes_until, orderless-time, orderless-until}
 use Rattle.listener.proofs.RoundLemmas.{breaks-behind, breaks-early, does-none, ends-asked, ends-gone, ends-idle, goes-round, lets-go-none, signals-all, takes-none}
@@ -187,6 +190,15 @@ returns-in_err-pass_time g c =
           let until : CountsUntil now.counts now.counts a b =
           counts-unbroken now.counts now.counts a b (counts-orderless now.counts now.counts a b refl (orderless-gone a b c.in_err-pass_time.ensures.refused) c.pass_time.ensures.going c.pass_time.ensures.taken) in
           search (rules, until);
+      heard =
+          let until : HearsUntil known config (made_first c.args.moment slots a) (hearing (standing c.args.self.now.edition.stop_ms store now a) (g.K.Sink.seen c.args.out.now) c.args.self.now.written)
+          (hearing (standing c.args.self.now.edition.stop_ms store now b) (g.K.Sink.seen c.args.out.now) c.args.self.now.written) = (
+            None,
+            tt,
+            hears-same known config (made_first c.args.moment slots a) (standing c.args.self.now.edition.stop_ms store now a) (standing c.args.self.now.edition.stop_ms store now b)
+                (g.K.Sink.seen c.args.out.now) c.args.self.now.written (orderless-gone a b c.in_err-pass_time.ensures.refused) (keeps-same now),
+          ) in
+          search (rules, until);
       wakes = refl;
       step = search rules;
       ends = search rules;
@@ -225,6 +237,9 @@ returns-then-is_overdue g c =
       moment = search rules;
       stays = search rules;
       counts = (counts-orderless now.counts now.counts a b refl (orderless-time (moment_for c.args.moment) a b c.in_ok-pass_time.ensures.passes) c.pass_time.ensures.going c.pass_time.ensures.taken);
+      heard =
+          hears-same known config (made_first c.args.moment slots a) (standing c.args.self.now.edition.stop_ms store now a) (standing c.args.self.now.edition.stop_ms store now b)
+          (g.K.Sink.seen c.args.out.now) c.args.self.now.written (orderless-time (moment_for c.args.moment) a b c.in_ok-pass_time.ensures.passes) (keeps-same now);
       wakes = refl;
       step = (step-kept now.told a.state b.state (c.pass_time.ensures.taken) (c.pass_time.ensures.going) c.requires.step);
       ends = (sym c.is_overdue.ensures ∙ c.if-is_overdue.true, c.requires.heeded);
@@ -280,6 +295,15 @@ returns-in_err-signal_all g c =
       counts =
           let until : CountsUntil now.counts now.counts a s =
           counts-unbroken now.counts now.counts a s (counts-orderless now.counts now.counts a s refl (orderless-more steps a b s (orderless-time (moment_for c.args.moment) a b c.in_ok-pass_time.ensures.passes) (orderless-first slots b s (subst (λ (xs : List ℕ). SignalsFirst xs b s) c.slots.ensures.is c.in_err-signal_all.ensures.first))) (c.signal_all.ensures.rest.going ∙ c.pass_time.ensures.going) (c.signal_all.ensures.rest.accepted ∙ c.pass_time.ensures.taken)) in
+          search (rules, until);
+      heard =
+          let until : HearsUntil known config (made_first c.args.moment slots a) (hearing (standing c.args.self.now.edition.stop_ms store now a) (g.K.Sink.seen c.args.out.now) c.args.self.now.written)
+          (hearing (standing c.args.self.now.edition.stop_ms store now s) (g.K.Sink.seen c.args.out.now) c.args.self.now.written) = (
+            None,
+            tt,
+            hears-same known config (made_first c.args.moment slots a) (standing c.args.self.now.edition.stop_ms store now a) (standing c.args.self.now.edition.stop_ms store now s)
+                (g.K.Sink.seen c.args.out.now) c.args.self.now.written (orderless-more steps a b s (orderless-time (moment_for c.args.moment) a b c.in_ok-pass_time.ensures.passes) (orderless-first slots b s (subst (λ (xs : List ℕ). SignalsFirst xs b s) c.slots.ensures.is c.in_err-signal_all.ensures.first))) (keeps-same now),
+          ) in
           search (rules, until);
       wakes = refl;
       step = search rules;
@@ -341,6 +365,15 @@ returns-in_err-let_go_of_conns g c =
       counts =
           let until : CountsUntil now.counts now.counts a d =
           counts-unbroken now.counts now.counts a d (counts-orderless now.counts now.counts a d refl (orderless-more steps a s d (orderless-more steps a b s (orderless-time (moment_for c.args.moment) a b c.in_ok-pass_time.ensures.passes) (orderless-signals slots b s signals)) (orderless-until steps c.in_err-let_go_of_conns.field-0.0 s d c.in_err-let_go_of_conns.ensures.until)) (c.let_go_of_conns.ensures.rest.going ∙ c.signal_all.ensures.rest.going ∙ c.pass_time.ensures.going) (c.let_go_of_conns.ensures.rest.accepted ∙ c.signal_all.ensures.rest.accepted ∙ c.pass_time.ensures.taken)) in
+          search (rules, until);
+      heard =
+          let until : HearsUntil known config (made_first c.args.moment slots a) (hearing (standing c.args.self.now.edition.stop_ms store now a) (g.K.Sink.seen c.args.out.now) c.args.self.now.written)
+          (hearing (standing c.args.self.now.edition.stop_ms store now d) (g.K.Sink.seen c.args.out.now) c.args.self.now.written) = (
+            None,
+            tt,
+            hears-same known config (made_first c.args.moment slots a) (standing c.args.self.now.edition.stop_ms store now a) (standing c.args.self.now.edition.stop_ms store now d)
+                (g.K.Sink.seen c.args.out.now) c.args.self.now.written (orderless-more steps a s d (orderless-more steps a b s (orderless-time (moment_for c.args.moment) a b c.in_ok-pass_time.ensures.passes) (orderless-signals slots b s signals)) (orderless-until steps c.in_err-let_go_of_conns.field-0.0 s d c.in_err-let_go_of_conns.ensures.until)) (keeps-same now),
+          ) in
           search (rules, until);
       wakes = refl;
       step = search rules;
@@ -412,6 +445,18 @@ returns-in_err-asked g c =
           counts-until now.counts now.counts read.counts a d e (counts-orderless now.counts now.counts a d refl orders_off (c.let_go_of_conns.ensures.rest.going ∙ c.signal_all.ensures.rest.going ∙ c.pass_time.ensures.going) (c.let_go_of_conns.ensures.rest.accepted ∙ c.signal_all.ensures.rest.accepted ∙ c.pass_time.ensures.taken))
           c.in_err-asked.ensures.counts in
           search (rules, until);
+      heard =
+          let hears = c.in_err-asked.ensures.heard in
+          let until : HearsUntil known config (made_first c.args.moment slots a) (hearing (standing c.args.self.now.edition.stop_ms store now a) (g.K.Sink.seen c.args.out.now) c.args.self.now.written)
+          (hearing (standing c.heed.new.self.edition.stop_ms renewed read e) (g.K.Sink.seen c.heed.new.out) c.heed.new.self.written) = (
+            hears.0,
+            hears.1,
+            hears-before known config (made_first c.args.moment slots a) (option_map never_answered hears.0) c.args.self.now.edition.stop_ms store now a d (g.K.Sink.seen c.args.out.now) c.args.self.now.written
+                (hearing (standing c.heed.new.self.edition.stop_ms renewed read e) (g.K.Sink.seen c.heed.new.out) c.heed.new.self.written) orders_off timely
+                (stands-orderless known config c.args.self.now.edition.stop_ms store now a d orders_off (c.let_go_of_conns.ensures.rest.going ∙ c.signal_all.ensures.rest.going ∙ c.pass_time.ensures.going))
+                (begins (moment_for c.args.moment) slots a b s d c.in_ok-pass_time.ensures.passes signals c.in_ok-let_go_of_conns.ensures.gone).made hears.2,
+          ) in
+          search (rules, until);
       wakes = c.heed.ensures.wakes;
       step = search rules;
       ends = search rules;
@@ -470,6 +515,12 @@ returns-then-asked g c =
       stays = search rules;
       counts = (counts-more 1 now.counts now.counts read.counts a d e (counts-orderless now.counts now.counts a d refl orders_off (c.let_go_of_conns.ensures.rest.going ∙ c.signal_all.ensures.rest.going ∙ c.pass_time.ensures.going) (c.let_go_of_conns.ensures.rest.accepted ∙ c.signal_all.ensures.rest.accepted ∙ c.pass_time.ensures.taken))
           (subst (λ (b : Bool). CountsOn (owed_by b) now.counts read.counts d e) c.if-asked.true c.in_ok-asked.ensures.counts));
+      heard =
+          hears-before known config (made_first c.args.moment slots a) (last_if true) c.args.self.now.edition.stop_ms store now a d (g.K.Sink.seen c.args.out.now) c.args.self.now.written
+          (hearing (standing c.heed.new.self.edition.stop_ms renewed read e) (g.K.Sink.seen c.heed.new.out) c.heed.new.self.written) orders_off timely
+          (stands-orderless known config c.args.self.now.edition.stop_ms store now a d orders_off (c.let_go_of_conns.ensures.rest.going ∙ c.signal_all.ensures.rest.going ∙ c.pass_time.ensures.going))
+          (begins (moment_for c.args.moment) slots a b s d c.in_ok-pass_time.ensures.passes signals c.in_ok-let_go_of_conns.ensures.gone).made (subst (λ (x : Bool). Hears known config [] (last_if x) (hearing (standing c.args.self.now.edition.stop_ms store now d) (g.K.Sink.seen c.args.out.now) c.args.self.now.written)
+          (hearing (standing c.heed.new.self.edition.stop_ms renewed read e) (g.K.Sink.seen c.heed.new.out) c.heed.new.self.written)) c.if-asked.true c.in_ok-asked.ensures.heard);
       wakes = c.heed.ensures.wakes;
       step = c.heed.ensures.step;
       ends = (c.heed.ensures.up, (c.in_ok-asked.ensures.asked c.if-asked.true).0, (c.in_ok-asked.ensures.asked c.if-asked.true).1);
@@ -534,6 +585,15 @@ returns-then-is_gone g c =
           (counts-orderless now.counts now.counts a d refl orders_off (c.let_go_of_conns.ensures.rest.going ∙ c.signal_all.ensures.rest.going ∙ c.pass_time.ensures.going) (c.let_go_of_conns.ensures.rest.accepted ∙ c.signal_all.ensures.rest.accepted ∙ c.pass_time.ensures.taken))
           (subst (λ (b : Bool). CountsOn (owed_by b) now.counts read.counts d e) c.if-asked.false c.in_ok-asked.ensures.counts))
           (counts-orderless read.counts read.counts e f refl (orderless-retires e f c.retire_all.ensures.retires) c.retire_all.ensures.going c.retire_all.ensures.rest.accepted));
+      heard =
+          hears-kept known config (made_first c.args.moment slots a) (hearing (standing c.args.self.now.edition.stop_ms store now a) (g.K.Sink.seen c.args.out.now) c.args.self.now.written)
+          (standing c.heed.new.self.edition.stop_ms renewed read e) (standing c.heed.new.self.edition.stop_ms renewed read f) (g.K.Sink.seen c.heed.new.out)
+          c.heed.new.self.written (orderless-retires e f c.retire_all.ensures.retires) (keeps-same read)
+          (hears-before known config (made_first c.args.moment slots a) None c.args.self.now.edition.stop_ms store now a d (g.K.Sink.seen c.args.out.now) c.args.self.now.written
+          (hearing (standing c.heed.new.self.edition.stop_ms renewed read e) (g.K.Sink.seen c.heed.new.out) c.heed.new.self.written) orders_off timely
+          (stands-orderless known config c.args.self.now.edition.stop_ms store now a d orders_off (c.let_go_of_conns.ensures.rest.going ∙ c.signal_all.ensures.rest.going ∙ c.pass_time.ensures.going))
+          (begins (moment_for c.args.moment) slots a b s d c.in_ok-pass_time.ensures.passes signals c.in_ok-let_go_of_conns.ensures.gone).made (subst (λ (x : Bool). Hears known config [] (last_if x) (hearing (standing c.args.self.now.edition.stop_ms store now d) (g.K.Sink.seen c.args.out.now) c.args.self.now.written)
+          (hearing (standing c.heed.new.self.edition.stop_ms renewed read e) (g.K.Sink.seen c.heed.new.out) c.heed.new.self.written)) c.if-asked.false c.in_ok-asked.ensures.heard));
       wakes = c.heed.ensures.wakes;
       step = (step-kept read.told e.state f.state c.retire_all.ensures.rest.accepted c.retire_all.ensures.going c.heed.ensures.step);
       ends = (c.is_gone.ensures.gone.0 c.if-is_gone.true, (c.in_ok-asked.ensures.none c.if-asked.false).0);
@@ -607,6 +667,21 @@ returns-in_err-start_children g c =
           (counts-more 0 now.counts now.counts read.counts a d e (counts-orderless now.counts now.counts a d refl orders_off (c.let_go_of_conns.ensures.rest.going ∙ c.signal_all.ensures.rest.going ∙ c.pass_time.ensures.going) (c.let_go_of_conns.ensures.rest.accepted ∙ c.signal_all.ensures.rest.accepted ∙ c.pass_time.ensures.taken))
           (subst (λ (b : Bool). CountsOn (owed_by b) now.counts read.counts d e) c.if-asked.false c.in_ok-asked.ensures.counts))
           (counts-orderless read.counts read.counts e h refl (orderless-children steps e f h c.retire_all.ensures.retires c.start_children.ensures.starts) (c.start_children.ensures.going ∙ c.retire_all.ensures.going) (c.start_children.ensures.rest.accepted ∙ c.retire_all.ensures.rest.accepted))) in
+          search (rules, until);
+      heard =
+          let until : HearsUntil known config (made_first c.args.moment slots a) (hearing (standing c.args.self.now.edition.stop_ms store now a) (g.K.Sink.seen c.args.out.now) c.args.self.now.written)
+          (hearing (standing c.heed.new.self.edition.stop_ms renewed read h) (g.K.Sink.seen c.heed.new.out) c.heed.new.self.written) = (
+            None,
+            tt,
+            hears-kept known config (made_first c.args.moment slots a) (hearing (standing c.args.self.now.edition.stop_ms store now a) (g.K.Sink.seen c.args.out.now) c.args.self.now.written)
+                (standing c.heed.new.self.edition.stop_ms renewed read e) (standing c.heed.new.self.edition.stop_ms renewed read h) (g.K.Sink.seen c.heed.new.out)
+                c.heed.new.self.written (orderless-children steps e f h c.retire_all.ensures.retires c.start_children.ensures.starts) (keeps-same read)
+                (hears-before known config (made_first c.args.moment slots a) None c.args.self.now.edition.stop_ms store now a d (g.K.Sink.seen c.args.out.now) c.args.self.now.written
+                (hearing (standing c.heed.new.self.edition.stop_ms renewed read e) (g.K.Sink.seen c.heed.new.out) c.heed.new.self.written) orders_off timely
+                (stands-orderless known config c.args.self.now.edition.stop_ms store now a d orders_off (c.let_go_of_conns.ensures.rest.going ∙ c.signal_all.ensures.rest.going ∙ c.pass_time.ensures.going))
+                (begins (moment_for c.args.moment) slots a b s d c.in_ok-pass_time.ensures.passes signals c.in_ok-let_go_of_conns.ensures.gone).made (subst (λ (x : Bool). Hears known config [] (last_if x) (hearing (standing c.args.self.now.edition.stop_ms store now d) (g.K.Sink.seen c.args.out.now) c.args.self.now.written)
+                (hearing (standing c.heed.new.self.edition.stop_ms renewed read e) (g.K.Sink.seen c.heed.new.out) c.heed.new.self.written)) c.if-asked.false c.in_ok-asked.ensures.heard)),
+          ) in
           search (rules, until);
       wakes = c.heed.ensures.wakes;
       step = search rules;
@@ -688,6 +763,23 @@ returns-in_err-take_all g c =
           (subst (λ (b : Bool). CountsOn (owed_by b) now.counts read.counts d e) c.if-asked.false c.in_ok-asked.ensures.counts))
           (counts-orderless read.counts read.counts e h refl (orderless-children steps e f h c.retire_all.ensures.retires c.start_children.ensures.starts) (c.start_children.ensures.going ∙ c.retire_all.ensures.going) (c.start_children.ensures.rest.accepted ∙ c.retire_all.ensures.rest.accepted)))
           c.in_err-take_all.ensures.counts in
+          search (rules, until);
+      heard =
+          let until : HearsUntil known config (made_first c.args.moment slots a) (hearing (standing c.args.self.now.edition.stop_ms store now a) (g.K.Sink.seen c.args.out.now) c.args.self.now.written)
+          (hearing (standing c.take_all.new.self.edition.stop_ms renewed new i) (g.K.Sink.seen c.heed.new.out) c.take_all.new.self.written) = (
+            None,
+            tt,
+            (subst (λ (w : Bool). Hears known config (made_first c.args.moment slots a) None (hearing (standing c.args.self.now.edition.stop_ms store now a) (g.K.Sink.seen c.args.out.now) c.args.self.now.written)
+                (hearing (standing c.take_all.new.self.edition.stop_ms renewed new i) (g.K.Sink.seen c.heed.new.out) w)) (sym c.take_all.ensures.written)
+                (hears-kept known config (made_first c.args.moment slots a) (hearing (standing c.args.self.now.edition.stop_ms store now a) (g.K.Sink.seen c.args.out.now) c.args.self.now.written)
+                (standing c.heed.new.self.edition.stop_ms renewed read e) (standing c.take_all.new.self.edition.stop_ms renewed new i) (g.K.Sink.seen c.heed.new.out)
+                c.heed.new.self.written (orderless-more steps e h i (orderless-children steps e f h c.retire_all.ensures.retires c.start_children.ensures.starts) (orderless-takes_until steps c.in_err-take_all.field-0.0 h i c.in_err-take_all.ensures.until)) c.take_all.ensures.heard
+                (hears-before known config (made_first c.args.moment slots a) None c.args.self.now.edition.stop_ms store now a d (g.K.Sink.seen c.args.out.now) c.args.self.now.written
+                (hearing (standing c.heed.new.self.edition.stop_ms renewed read e) (g.K.Sink.seen c.heed.new.out) c.heed.new.self.written) orders_off timely
+                (stands-orderless known config c.args.self.now.edition.stop_ms store now a d orders_off (c.let_go_of_conns.ensures.rest.going ∙ c.signal_all.ensures.rest.going ∙ c.pass_time.ensures.going))
+                (begins (moment_for c.args.moment) slots a b s d c.in_ok-pass_time.ensures.passes signals c.in_ok-let_go_of_conns.ensures.gone).made (subst (λ (x : Bool). Hears known config [] (last_if x) (hearing (standing c.args.self.now.edition.stop_ms store now d) (g.K.Sink.seen c.args.out.now) c.args.self.now.written)
+                (hearing (standing c.heed.new.self.edition.stop_ms renewed read e) (g.K.Sink.seen c.heed.new.out) c.heed.new.self.written)) c.if-asked.false c.in_ok-asked.ensures.heard)))),
+          ) in
           search (rules, until);
       wakes = c.take_all.ensures.wakes ∙ c.heed.ensures.wakes;
       step = search rules;
@@ -774,6 +866,17 @@ returns g c =
           (subst (λ (b : Bool). CountsOn (owed_by b) now.counts read.counts d e) c.if-asked.false c.in_ok-asked.ensures.counts))
           (counts-orderless read.counts read.counts e h refl (orderless-children steps e f h c.retire_all.ensures.retires c.start_children.ensures.starts) (c.start_children.ensures.going ∙ c.retire_all.ensures.going) (c.start_children.ensures.rest.accepted ∙ c.retire_all.ensures.rest.accepted)))
           c.in_ok-take_all.ensures.counts);
+      heard =
+          (subst (λ (w : Bool). Hears known config (made_first c.args.moment slots a) None (hearing (standing c.args.self.now.edition.stop_ms store now a) (g.K.Sink.seen c.args.out.now) c.args.self.now.written)
+          (hearing (standing c.take_all.new.self.edition.stop_ms renewed new i) (g.K.Sink.seen c.heed.new.out) w)) (sym c.take_all.ensures.written)
+          (hears-kept known config (made_first c.args.moment slots a) (hearing (standing c.args.self.now.edition.stop_ms store now a) (g.K.Sink.seen c.args.out.now) c.args.self.now.written)
+          (standing c.heed.new.self.edition.stop_ms renewed read e) (standing c.take_all.new.self.edition.stop_ms renewed new i) (g.K.Sink.seen c.heed.new.out)
+          c.heed.new.self.written (orderless-more steps e h i (orderless-children steps e f h c.retire_all.ensures.retires c.start_children.ensures.starts) (orderless-takes h i c.in_ok-take_all.ensures.takes)) c.take_all.ensures.heard
+          (hears-before known config (made_first c.args.moment slots a) None c.args.self.now.edition.stop_ms store now a d (g.K.Sink.seen c.args.out.now) c.args.self.now.written
+          (hearing (standing c.heed.new.self.edition.stop_ms renewed read e) (g.K.Sink.seen c.heed.new.out) c.heed.new.self.written) orders_off timely
+          (stands-orderless known config c.args.self.now.edition.stop_ms store now a d orders_off (c.let_go_of_conns.ensures.rest.going ∙ c.signal_all.ensures.rest.going ∙ c.pass_time.ensures.going))
+          (begins (moment_for c.args.moment) slots a b s d c.in_ok-pass_time.ensures.passes signals c.in_ok-let_go_of_conns.ensures.gone).made (subst (λ (x : Bool). Hears known config [] (last_if x) (hearing (standing c.args.self.now.edition.stop_ms store now d) (g.K.Sink.seen c.args.out.now) c.args.self.now.written)
+          (hearing (standing c.heed.new.self.edition.stop_ms renewed read e) (g.K.Sink.seen c.heed.new.out) c.heed.new.self.written)) c.if-asked.false c.in_ok-asked.ensures.heard))));
       wakes = c.take_all.ensures.wakes ∙ c.heed.ensures.wakes;
       step = search rules;
       ends = (

@@ -32,13 +32,13 @@ pub loop-init : goal.loop-init
 loop-init g c =
     let first =
     listener_of c.args.self.now.board (g.F.Front.seen c.args.front.now) (g.C.Clock.told c.args.clock.now) c.args.self.now.ready c.args.self.now.edition
-    (g.D.Store.seen c.args.store.now) c.args.self.now.config in
+    (g.D.Store.seen c.args.store.now) c.args.self.now.config (g.K.Sink.seen c.args.out.now) c.args.self.now.written in
     let m =
     listener_of c.start.new.self.board (g.F.Front.seen c.args.front.now) (g.C.Clock.told c.args.clock.now) c.start.new.self.ready c.start.new.self.edition
-    (g.D.Store.seen c.args.store.now) c.start.new.self.config in
+    (g.D.Store.seen c.args.store.now) c.start.new.self.config (g.K.Sink.seen c.args.out.now) c.start.new.self.written in
     let same : m ≡ record first { board = m.board } =
     ap (λ (l : _). listener_of c.start.new.self.board (g.F.Front.seen c.args.front.now) (g.C.Clock.told c.args.clock.now) l.ready l.edition
-    (g.D.Store.seen c.args.store.now) l.config) c.start.ensures.others in
+    (g.D.Store.seen c.args.store.now) l.config (g.K.Sink.seen c.args.out.now) l.written) c.start.ensures.others in
     let in_time =
     stands-started first.board.book.state m.board.book.state c.requires.may.going c.start.ensures.rest.going c.in_ok-first.ensures.staffed in
     let between =
@@ -61,13 +61,13 @@ pub returns-in_err-first-clause-over : goal.returns-in_err-first-clause-over
 returns-in_err-first-clause-over g c =
     let first =
     listener_of c.args.self.now.board (g.F.Front.seen c.args.front.now) (g.C.Clock.told c.args.clock.now) c.args.self.now.ready c.args.self.now.edition
-    (g.D.Store.seen c.args.store.now) c.args.self.now.config in
+    (g.D.Store.seen c.args.store.now) c.args.self.now.config (g.K.Sink.seen c.args.out.now) c.args.self.now.written in
     let m =
     listener_of c.start.new.self.board (g.F.Front.seen c.args.front.now) (g.C.Clock.told c.args.clock.now) c.start.new.self.ready c.start.new.self.edition
-    (g.D.Store.seen c.args.store.now) c.start.new.self.config in
+    (g.D.Store.seen c.args.store.now) c.start.new.self.config (g.K.Sink.seen c.args.out.now) c.start.new.self.written in
     let same : m ≡ record first { board = m.board } =
     ap (λ (l : _). listener_of c.start.new.self.board (g.F.Front.seen c.args.front.now) (g.C.Clock.told c.args.clock.now) l.ready l.edition
-    (g.D.Store.seen c.args.store.now) l.config) c.start.ensures.others in
+    (g.D.Store.seen c.args.store.now) l.config (g.K.Sink.seen c.args.out.now) l.written) c.start.ensures.others in
     let going = c.requires.may.going in
     let kept =
     kept-started c.passes_act_in_steps.ensures.acts first m c.requires.may.free (ap is_halted going) same c.start.ensures.starts c.start.ensures.rest in
@@ -98,15 +98,15 @@ pub returns-in-Ended-clause-over : goal.returns-in-Ended-clause-over
 returns-in-Ended-clause-over g c =
     let first =
     listener_of c.args.self.now.board (g.F.Front.seen c.args.front.now) (g.C.Clock.told c.args.clock.now) c.args.self.now.ready c.args.self.now.edition
-    (g.D.Store.seen c.args.store.now) c.args.self.now.config in
+    (g.D.Store.seen c.args.store.now) c.args.self.now.config (g.K.Sink.seen c.args.out.now) c.args.self.now.written in
     let a =
     listener_of c.loop.self.board (g.F.Front.seen c.loop.front) (g.C.Clock.told c.loop.clock) c.loop.self.ready c.loop.self.edition
-    (g.D.Store.seen c.loop.store) c.loop.self.config in
+    (g.D.Store.seen c.loop.store) c.loop.self.config (g.K.Sink.seen c.loop.out) c.loop.self.written in
     let w =
     listener_of c.loop.self.board (g.F.Front.seen c.take_pause-pause.new.front) (g.C.Clock.told c.take_pause-pause.new.clock) c.take_pause-pause.new.ready
-    c.loop.self.edition (g.D.Store.seen c.loop.store) c.loop.self.config in
+    c.loop.self.edition (g.D.Store.seen c.loop.store) c.loop.self.config (g.K.Sink.seen c.loop.out) c.loop.self.written in
     let waited =
-    has-waited c.loop.rest c.take_pause-pause.result a w c.moment-present.result refl refl refl refl c.show.ensures.after c.show.ensures.sound
+    has-waited c.loop.rest c.take_pause-pause.result a w c.moment-present.result refl refl refl refl refl refl c.show.ensures.after c.show.ensures.sound
     c.moment-present.ensures c.take_pause-pause.ensures.waits c.take_pause-pause.ensures.asks c.take_pause-pause.ensures.clock in
     over-ended c.passes_act_in_steps.ensures.acts g.N.Known.known c.loop.rest c.take_pause-pause.result first a w c.loop.invariant.turn waited c.in-Ended.is
     (sym c.has_live.ensures ∙ c.if-not-has_live.true)
@@ -115,15 +115,15 @@ pub returns-in-Failed-clause-over : goal.returns-in-Failed-clause-over
 returns-in-Failed-clause-over g c =
     let first =
     listener_of c.args.self.now.board (g.F.Front.seen c.args.front.now) (g.C.Clock.told c.args.clock.now) c.args.self.now.ready c.args.self.now.edition
-    (g.D.Store.seen c.args.store.now) c.args.self.now.config in
+    (g.D.Store.seen c.args.store.now) c.args.self.now.config (g.K.Sink.seen c.args.out.now) c.args.self.now.written in
     let a =
     listener_of c.loop.self.board (g.F.Front.seen c.loop.front) (g.C.Clock.told c.loop.clock) c.loop.self.ready c.loop.self.edition
-    (g.D.Store.seen c.loop.store) c.loop.self.config in
+    (g.D.Store.seen c.loop.store) c.loop.self.config (g.K.Sink.seen c.loop.out) c.loop.self.written in
     let w =
     listener_of c.loop.self.board (g.F.Front.seen c.take_pause-pause.new.front) (g.C.Clock.told c.take_pause-pause.new.clock) c.take_pause-pause.new.ready
-    c.loop.self.edition (g.D.Store.seen c.loop.store) c.loop.self.config in
+    c.loop.self.edition (g.D.Store.seen c.loop.store) c.loop.self.config (g.K.Sink.seen c.loop.out) c.loop.self.written in
     let waited =
-    has-waited c.loop.rest c.take_pause-pause.result a w c.moment-present.result refl refl refl refl c.show.ensures.after c.show.ensures.sound
+    has-waited c.loop.rest c.take_pause-pause.result a w c.moment-present.result refl refl refl refl refl refl c.show.ensures.after c.show.ensures.sound
     c.moment-present.ensures c.take_pause-pause.ensures.waits c.take_pause-pause.ensures.asks c.take_pause-pause.ensures.clock in
     over-failed c.passes_act_in_steps.ensures.acts g.N.Known.known c.loop.rest c.take_pause-pause.result first a w c.loop.invariant.turn waited c.in-Failed.is
 
@@ -131,19 +131,19 @@ pub returns-in_err-ended-clause-over : goal.returns-in_err-ended-clause-over
 returns-in_err-ended-clause-over g c =
     let first =
     listener_of c.args.self.now.board (g.F.Front.seen c.args.front.now) (g.C.Clock.told c.args.clock.now) c.args.self.now.ready c.args.self.now.edition
-    (g.D.Store.seen c.args.store.now) c.args.self.now.config in
+    (g.D.Store.seen c.args.store.now) c.args.self.now.config (g.K.Sink.seen c.args.out.now) c.args.self.now.written in
     let a =
     listener_of c.loop.self.board (g.F.Front.seen c.loop.front) (g.C.Clock.told c.loop.clock) c.loop.self.ready c.loop.self.edition
-    (g.D.Store.seen c.loop.store) c.loop.self.config in
+    (g.D.Store.seen c.loop.store) c.loop.self.config (g.K.Sink.seen c.loop.out) c.loop.self.written in
     let w =
     listener_of c.loop.self.board (g.F.Front.seen c.take_pause-pause.new.front) (g.C.Clock.told c.take_pause-pause.new.clock) c.take_pause-pause.new.ready
-    c.loop.self.edition (g.D.Store.seen c.loop.store) c.loop.self.config in
+    c.loop.self.edition (g.D.Store.seen c.loop.store) c.loop.self.config (g.K.Sink.seen c.loop.out) c.loop.self.written in
     let waited =
-    has-waited c.loop.rest c.take_pause-pause.result a w c.moment-present.result refl refl refl refl c.show.ensures.after c.show.ensures.sound
+    has-waited c.loop.rest c.take_pause-pause.result a w c.moment-present.result refl refl refl refl refl refl c.show.ensures.after c.show.ensures.sound
     c.moment-present.ensures c.take_pause-pause.ensures.waits c.take_pause-pause.ensures.asks c.take_pause-pause.ensures.clock in
     let b =
     listener_of c.take_in.new.self.board (g.F.Front.seen c.take_in.new.front) (g.C.Clock.told c.take_pause-pause.new.clock) c.take_in.new.self.ready
-    c.take_in.new.self.edition (g.D.Store.seen c.take_in.new.store) c.take_in.new.self.config in
+    c.take_in.new.self.edition (g.D.Store.seen c.take_in.new.store) c.take_in.new.self.config (g.K.Sink.seen c.take_in.new.out) c.take_in.new.self.written in
     let took : HasTakenIn w b =
     record {
       timely = c.take_in.ensures.timely;
@@ -162,6 +162,7 @@ returns-in_err-ended-clause-over g c =
       share = c.in_err-ended.ensures.share;
       before = c.in_err-ended.ensures.before;
       stands = c.in_err-ended.ensures.stands;
+      heard = c.in_err-ended.ensures.heard;
       listens = c.take_in.ensures.listens;
     })
     c.in_err-ended.ensures.unheeded c.in_err-ended.ensures.links c.in_err-ended.ensures.err
@@ -170,19 +171,19 @@ pub returns-in-Some-ended-clause-over : goal.returns-in-Some-ended-clause-over
 returns-in-Some-ended-clause-over g c =
     let first =
     listener_of c.args.self.now.board (g.F.Front.seen c.args.front.now) (g.C.Clock.told c.args.clock.now) c.args.self.now.ready c.args.self.now.edition
-    (g.D.Store.seen c.args.store.now) c.args.self.now.config in
+    (g.D.Store.seen c.args.store.now) c.args.self.now.config (g.K.Sink.seen c.args.out.now) c.args.self.now.written in
     let a =
     listener_of c.loop.self.board (g.F.Front.seen c.loop.front) (g.C.Clock.told c.loop.clock) c.loop.self.ready c.loop.self.edition
-    (g.D.Store.seen c.loop.store) c.loop.self.config in
+    (g.D.Store.seen c.loop.store) c.loop.self.config (g.K.Sink.seen c.loop.out) c.loop.self.written in
     let w =
     listener_of c.loop.self.board (g.F.Front.seen c.take_pause-pause.new.front) (g.C.Clock.told c.take_pause-pause.new.clock) c.take_pause-pause.new.ready
-    c.loop.self.edition (g.D.Store.seen c.loop.store) c.loop.self.config in
+    c.loop.self.edition (g.D.Store.seen c.loop.store) c.loop.self.config (g.K.Sink.seen c.loop.out) c.loop.self.written in
     let waited =
-    has-waited c.loop.rest c.take_pause-pause.result a w c.moment-present.result refl refl refl refl c.show.ensures.after c.show.ensures.sound
+    has-waited c.loop.rest c.take_pause-pause.result a w c.moment-present.result refl refl refl refl refl refl c.show.ensures.after c.show.ensures.sound
     c.moment-present.ensures c.take_pause-pause.ensures.waits c.take_pause-pause.ensures.asks c.take_pause-pause.ensures.clock in
     let b =
     listener_of c.take_in.new.self.board (g.F.Front.seen c.take_in.new.front) (g.C.Clock.told c.take_pause-pause.new.clock) c.take_in.new.self.ready
-    c.take_in.new.self.edition (g.D.Store.seen c.take_in.new.store) c.take_in.new.self.config in
+    c.take_in.new.self.edition (g.D.Store.seen c.take_in.new.store) c.take_in.new.self.config (g.K.Sink.seen c.take_in.new.out) c.take_in.new.self.written in
     let took : HasTakenIn w b =
     record {
       timely = c.take_in.ensures.timely;
@@ -201,6 +202,7 @@ returns-in-Some-ended-clause-over g c =
       hushes = c.in_ok-ended.ensures.hushes;
       goes_on = c.in_ok-ended.ensures.goes_on;
       stands = c.in_ok-ended.ensures.stands;
+      heard = c.in_ok-ended.ensures.heard;
       moment = c.in_ok-ended.ensures.moment;
       step = c.in_ok-ended.ensures.step;
       knows = c.in_ok-ended.ensures.knows;
@@ -234,19 +236,19 @@ pub returns-in_err-rest-clause-over : goal.returns-in_err-rest-clause-over
 returns-in_err-rest-clause-over g c =
     let first =
     listener_of c.args.self.now.board (g.F.Front.seen c.args.front.now) (g.C.Clock.told c.args.clock.now) c.args.self.now.ready c.args.self.now.edition
-    (g.D.Store.seen c.args.store.now) c.args.self.now.config in
+    (g.D.Store.seen c.args.store.now) c.args.self.now.config (g.K.Sink.seen c.args.out.now) c.args.self.now.written in
     let a =
     listener_of c.loop.self.board (g.F.Front.seen c.loop.front) (g.C.Clock.told c.loop.clock) c.loop.self.ready c.loop.self.edition
-    (g.D.Store.seen c.loop.store) c.loop.self.config in
+    (g.D.Store.seen c.loop.store) c.loop.self.config (g.K.Sink.seen c.loop.out) c.loop.self.written in
     let w =
     listener_of c.loop.self.board (g.F.Front.seen c.take_pause-pause.new.front) (g.C.Clock.told c.take_pause-pause.new.clock) c.take_pause-pause.new.ready
-    c.loop.self.edition (g.D.Store.seen c.loop.store) c.loop.self.config in
+    c.loop.self.edition (g.D.Store.seen c.loop.store) c.loop.self.config (g.K.Sink.seen c.loop.out) c.loop.self.written in
     let waited =
-    has-waited c.loop.rest c.take_pause-pause.result a w c.moment-present.result refl refl refl refl c.show.ensures.after c.show.ensures.sound
+    has-waited c.loop.rest c.take_pause-pause.result a w c.moment-present.result refl refl refl refl refl refl c.show.ensures.after c.show.ensures.sound
     c.moment-present.ensures c.take_pause-pause.ensures.waits c.take_pause-pause.ensures.asks c.take_pause-pause.ensures.clock in
     let b =
     listener_of c.take_in.new.self.board (g.F.Front.seen c.take_in.new.front) (g.C.Clock.told c.take_pause-pause.new.clock) c.take_in.new.self.ready
-    c.take_in.new.self.edition (g.D.Store.seen c.take_in.new.store) c.take_in.new.self.config in
+    c.take_in.new.self.edition (g.D.Store.seen c.take_in.new.store) c.take_in.new.self.config (g.K.Sink.seen c.take_in.new.out) c.take_in.new.self.written in
     let took : HasTakenIn w b =
     record {
       timely = c.take_in.ensures.timely;
@@ -265,6 +267,7 @@ returns-in_err-rest-clause-over g c =
       hushes = c.in_ok-ended.ensures.hushes;
       goes_on = c.in_ok-ended.ensures.goes_on;
       stands = c.in_ok-ended.ensures.stands;
+      heard = c.in_ok-ended.ensures.heard;
       moment = c.in_ok-ended.ensures.moment;
       step = c.in_ok-ended.ensures.step;
       knows = c.in_ok-ended.ensures.knows;
@@ -276,7 +279,7 @@ returns-in_err-rest-clause-over g c =
     subst (λ (o : Option End). TakesInTo o w.front b.front b.board.book.state) c.in-None-ended.is c.in_ok-ended.ensures.ends in
     let d =
     listener_of c.serve.new.self.board (g.F.Front.seen c.take_in.new.front) (g.C.Clock.told c.take_pause-pause.new.clock) c.serve.new.self.ready
-    c.serve.new.self.edition (g.D.Store.seen c.take_in.new.store) c.serve.new.self.config in
+    c.serve.new.self.edition (g.D.Store.seen c.take_in.new.store) c.serve.new.self.config (g.K.Sink.seen c.take_in.new.out) c.serve.new.self.written in
     let served : HasServedRows b d =
     record {
       serves = c.serve.ensures.serves;
@@ -285,7 +288,7 @@ returns-in_err-rest-clause-over g c =
       rest = c.serve.ensures.rest;
       others =
           ap (λ (l : _). listener_of c.serve.new.self.board (g.F.Front.seen c.take_in.new.front) (g.C.Clock.told c.take_pause-pause.new.clock) l.ready l.edition
-          (g.D.Store.seen c.take_in.new.store) l.config) c.serve.ensures.others;
+          (g.D.Store.seen c.take_in.new.store) l.config (g.K.Sink.seen c.take_in.new.out) l.written) c.serve.ensures.others;
     } in
     over-served c.passes_act_in_steps.ensures.acts g.N.Known.known c.loop.rest c.take_pause-pause.result first a w c.loop.invariant.turn waited b on c.generations_keep_their_editions.ensures
     c.from_residual-in_err-rest.result c.in_err-rest.field-0.0 d c.from_residual-in_err-rest.ensures.1 served ends.2 c.in_err-rest.ensures.err
@@ -294,19 +297,19 @@ pub loop-preserved : goal.loop-preserved
 loop-preserved g c =
     let first =
     listener_of c.args.self.now.board (g.F.Front.seen c.args.front.now) (g.C.Clock.told c.args.clock.now) c.args.self.now.ready c.args.self.now.edition
-    (g.D.Store.seen c.args.store.now) c.args.self.now.config in
+    (g.D.Store.seen c.args.store.now) c.args.self.now.config (g.K.Sink.seen c.args.out.now) c.args.self.now.written in
     let a =
     listener_of c.loop.self.board (g.F.Front.seen c.loop.front) (g.C.Clock.told c.loop.clock) c.loop.self.ready c.loop.self.edition
-    (g.D.Store.seen c.loop.store) c.loop.self.config in
+    (g.D.Store.seen c.loop.store) c.loop.self.config (g.K.Sink.seen c.loop.out) c.loop.self.written in
     let w =
     listener_of c.loop.self.board (g.F.Front.seen c.take_pause-pause.new.front) (g.C.Clock.told c.take_pause-pause.new.clock) c.take_pause-pause.new.ready
-    c.loop.self.edition (g.D.Store.seen c.loop.store) c.loop.self.config in
+    c.loop.self.edition (g.D.Store.seen c.loop.store) c.loop.self.config (g.K.Sink.seen c.loop.out) c.loop.self.written in
     let waited =
-    has-waited c.loop.rest c.take_pause-pause.result a w c.moment-present.result refl refl refl refl c.show.ensures.after c.show.ensures.sound
+    has-waited c.loop.rest c.take_pause-pause.result a w c.moment-present.result refl refl refl refl refl refl c.show.ensures.after c.show.ensures.sound
     c.moment-present.ensures c.take_pause-pause.ensures.waits c.take_pause-pause.ensures.asks c.take_pause-pause.ensures.clock in
     let b =
     listener_of c.take_in.new.self.board (g.F.Front.seen c.take_in.new.front) (g.C.Clock.told c.take_pause-pause.new.clock) c.take_in.new.self.ready
-    c.take_in.new.self.edition (g.D.Store.seen c.take_in.new.store) c.take_in.new.self.config in
+    c.take_in.new.self.edition (g.D.Store.seen c.take_in.new.store) c.take_in.new.self.config (g.K.Sink.seen c.take_in.new.out) c.take_in.new.self.written in
     let took : HasTakenIn w b =
     record {
       timely = c.take_in.ensures.timely;
@@ -325,6 +328,7 @@ loop-preserved g c =
       hushes = c.in_ok-ended.ensures.hushes;
       goes_on = c.in_ok-ended.ensures.goes_on;
       stands = c.in_ok-ended.ensures.stands;
+      heard = c.in_ok-ended.ensures.heard;
       moment = c.in_ok-ended.ensures.moment;
       step = c.in_ok-ended.ensures.step;
       knows = c.in_ok-ended.ensures.knows;
@@ -336,7 +340,7 @@ loop-preserved g c =
     subst (λ (o : Option End). TakesInTo o w.front b.front b.board.book.state) c.in-None-ended.is c.in_ok-ended.ensures.ends in
     let d =
     listener_of c.serve.new.self.board (g.F.Front.seen c.take_in.new.front) (g.C.Clock.told c.take_pause-pause.new.clock) c.serve.new.self.ready
-    c.serve.new.self.edition (g.D.Store.seen c.take_in.new.store) c.serve.new.self.config in
+    c.serve.new.self.edition (g.D.Store.seen c.take_in.new.store) c.serve.new.self.config (g.K.Sink.seen c.take_in.new.out) c.serve.new.self.written in
     let served : HasServedRows b d =
     record {
       serves = c.serve.ensures.serves;
@@ -345,7 +349,7 @@ loop-preserved g c =
       rest = c.serve.ensures.rest;
       others =
           ap (λ (l : _). listener_of c.serve.new.self.board (g.F.Front.seen c.take_in.new.front) (g.C.Clock.told c.take_pause-pause.new.clock) l.ready l.edition
-          (g.D.Store.seen c.take_in.new.store) l.config) c.serve.ensures.others;
+          (g.D.Store.seen c.take_in.new.store) l.config (g.K.Sink.seen c.take_in.new.out) l.written) c.serve.ensures.others;
     } in
     let before =
     turn-served c.passes_act_in_steps.ensures.acts g.N.Known.known c.loop.rest c.take_pause-pause.result first a w c.loop.invariant.turn waited b on c.generations_keep_their_editions.ensures c.histories_join.ensures.state

@@ -11,8 +11,9 @@ invariant-loop g l =
     record {
       turn : IsBeforeTurn g.N.Known.known
           (listener_of l.fn.self.board (g.F.Front.seen l.fn.front) (g.C.Clock.told l.fn.clock) l.fn.self.ready l.fn.self.edition (g.D.Store.seen l.fn.store)
-          l.fn.self.config) l.rest
-          (listener_of l.self.board (g.F.Front.seen l.front) (g.C.Clock.told l.clock) l.self.ready l.self.edition (g.D.Store.seen l.store) l.self.config);
+          l.fn.self.config (g.K.Sink.seen l.fn.out) l.fn.self.written) l.rest
+          (listener_of l.self.board (g.F.Front.seen l.front) (g.C.Clock.told l.clock) l.self.ready l.self.edition (g.D.Store.seen l.store) l.self.config (g.K.Sink.seen l.out)
+          l.self.written);
       counts : CountsOn 0 (g.F.Front.seen l.fn.front).counts (g.F.Front.seen l.front).counts l.fn.self.board.book l.self.board.book;
       asked : AsksOnce (g.F.Front.seen l.fn.front).counts.wakes (g.F.Front.seen l.front).counts.wakes (g.C.Clock.asked l.fn.clock) (g.C.Clock.asked l.clock);
       clock : ClocksAt (g.C.Clock.greatest l.fn.clock) (g.C.Clock.greatest l.clock) l.fn.self.board.book.state l.self.board.book.state;

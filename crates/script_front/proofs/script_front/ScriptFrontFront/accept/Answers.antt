@@ -42,6 +42,7 @@ returns-clause-accepts c =
       wakes = refl;
       commands = refl;
       words = refl;
+      answers_stay = refl;
       handed = (omega arith, λ below. omega arith);
     })
 

@@ -50,5 +50,6 @@ returns-clause-commands c =
       wakes = refl;
       commands = (omega (arith, next.some, c.self.invariant.commands.came, brings-within s.script s.happened), λ below. omega (arith, below));
       words = c.count.ensures;
+      answers_stay = refl;
       handed = refl;
     })

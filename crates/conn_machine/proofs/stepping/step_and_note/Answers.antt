@@ -2,7 +2,7 @@ use Rattle.std.proofs.Common.{ap, sym, ◌∙◌}
 use Rattle.conn_machine.specs.declared.event.Event.TheVariants as event
 use Rattle.conn_machine.specs.Table.{next}
 use Rattle.conn_machine.proofs.SizeLemmas.{sizes_step}
-use Rattle.conn_machine.proofs.stepping.step.Goals as goal
+use Rattle.conn_machine.proofs.stepping.step_and_note.Goals as goal
 
 pub returns-in-Accept-clause-sizes : goal.returns-in-Accept-clause-sizes
 returns-in-Accept-clause-sizes c = sizes_step _ _ (event.Accept c.in-Accept.slot) c.accept.ensures.state

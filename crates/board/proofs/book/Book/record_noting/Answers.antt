@@ -1,7 +1,7 @@
 use Rattle.std.proofs.Common.{◌≡◌, List, ◌∷◌, [], ◌+◌, ◌<◌, ◌≤◌, ◌^◌, true, false, length, vec_capacity, subst, sym, refl, ◌∙◌, ap, rules, arith}
 use Rattle.conn_machine.specs.States.{is_halted}
 use Rattle.conn_machine.specs.declared.state.State.{State}
-use Rattle.conn_machine.specs.Table.{is_allowed, reply}
+use Rattle.conn_machine.specs.Table.{is_allowed, note_made, reply}
 use Rattle.conn_machine.specs.declared.event.Entry.{Entry}
 use Rattle.conn_machine.specs.Events.{count_events, is_order}
 use Rattle.conn_machine.specs.Runs.{Adds, after}
@@ -11,11 +11,11 @@ use Rattle.board.specs.RoomInside.{room_with_event}
 use Rattle.board.proofs.BookLemmas.{goes_by, kept_roomier, kept_with_room, open_if, recorded_is}
 use Rattle.board.proofs.EditionLemmas.{keeps_on}
 use Rattle.board.proofs.PassLemmas.{adds_nothing, adds_recorded, is_own, may_be_next, role_inside, row-recorded}
-use Rattle.board.proofs.book.Book.record.Goals.{then-saturating_add-most-via-then-saturating_add-most, then-saturating_add-most-via-else-saturating_add-most+then-is_err, then-saturating_add-most-via-else-saturating_add-most+else-is_err+then-is_err-2}
-use Rattle.board.proofs.book.Book.record.Goals as goal
+use Rattle.board.proofs.book.Book.record_noting.Goals.{then-saturating_add-most-via-then-saturating_add-most, then-saturating_add-most-via-else-saturating_add-most+then-is_err, then-saturating_add-most-via-else-saturating_add-most+else-is_err+then-is_err-2}
+use Rattle.board.proofs.book.Book.record_noting.Goals as goal
 
-pub step-requires-clause-allowed : goal.step-requires-clause-allowed
-step-requires-clause-allowed c =
+pub step_and_note-requires-clause-allowed : goal.step_and_note-requires-clause-allowed
+step_and_note-requires-clause-allowed c =
     let going : is_halted c.args.self.now.state.going ≡ false =
     ap (λ (s : State). is_halted s.going) (sym c.state.ensures) ∙ sym c.is_halted.ensures ∙ c.if-is_halted.false in
     subst (λ (v : SeenBook). is_allowed v.state c.args.event ≡ true) (sym c.self.view_is) (c.requires.allowed going)
@@ -35,17 +35,17 @@ invariant_of-self-2 c =
     let history = inside.history.items in
     let folded = inside.folded in
     let passes = length folded.ordinals in
-    let e = numbered_entry c.args.who c.args.event c.in-Ok.reply folded history in
+    let e = numbered_entry c.args.who c.args.event c.in-Ok.stepped.reply folded history in
     let role = role_inside c.args.who _ c.args.self.now c.args.event c.self.view_is c.requires.role in
     let below : c.args.who < passes = search rules in
     let goes_on = c.histories_go_on_by_one_entry.ensures in
     let editions = inside.editions.items.items in
-    let editions_are : c.add.new.self.items.items ≡ with_begun c.args.event c.step.new.state.newest (folded.orders + count_events is_order history + 1) editions =
+    let editions_are : c.add.new.self.items.items ≡ with_begun c.args.event c.step_and_note.new.state.newest (folded.orders + count_events is_order history + 1) editions =
     search rules in
-    kept_with_room c.rows_change_one_at_a_time.ensures c.generations_begin_in_order.ensures passes base folded history c.append.new.history.items inside.state c.step.new.state inside.ahead
+    kept_with_room c.rows_change_one_at_a_time.ensures c.generations_begin_in_order.ensures passes base folded history c.append.new.history.items inside.state c.step_and_note.new.state inside.ahead
     c.append.new.ahead editions c.add.new.self.items.items (vec_capacity inside.history) (vec_capacity c.append.new.history)
     e c.self.invariant editions_are c.append.ensures.ahead
-    (record { sound = c.step.ensures.sound; sizes = c.step.ensures.sizes; sized = c.step.ensures.sized })
+    (record { sound = c.step_and_note.ensures.sound; sizes = c.step_and_note.ensures.sizes; sized = c.step_and_note.ensures.sized })
     (rw c.reserve.ensures.items at c.append.ensures.history) c.in-Ok.ensures.state space few
     (goes_by passes base folded history inside.state inside.ahead editions (vec_capacity inside.history) e c.self.invariant below may c.in-Ok.ensures.reply
     refl role goes_on.state goes_on.history goes_on.made goes_on.other)
@@ -55,8 +55,8 @@ returns-clause-ok c =
     let inside = c.self.inside in
     record {
       was_open = open_if c.args.self.now c.state.result.now c.is_halted.result c.state.ensures c.is_halted.ensures c.if-is_halted.false;
-      new_is = recorded_is c.args.self.now inside.base.value inside.folded inside.history.items c.append.new.history.items inside.state c.step.new.state
-          c.args.who c.args.event c.in-Ok.reply c.self.view_is (rw c.reserve.ensures.items at c.append.ensures.history) c.in-Ok.ensures.state
+      new_is = recorded_is c.args.self.now inside.base.value inside.folded inside.history.items c.append.new.history.items inside.state c.step_and_note.new.state
+          c.args.who c.args.event c.in-Ok.stepped.reply c.self.view_is (rw c.reserve.ensures.items at c.append.ensures.history) c.in-Ok.ensures.state
           c.in-Ok.ensures.reply;
       keeps = keeps_on c.generations_begin_in_order.ensures c.args.self.now (book_with_entry c.args.who c.args.event c.args.self.now)
           (entry_of c.args.who c.args.event c.args.self.now ∷ []) refl refl refl;
@@ -66,6 +66,10 @@ pub returns-clause-reply : goal.returns-clause-reply
 returns-clause-reply c =
     c.in-Ok.ensures.reply ∙ ap (λ (v : SeenBook). reply v.state c.args.event) c.self.view_is
 
+pub returns-clause-note : goal.returns-clause-note
+returns-clause-note c =
+    c.in-Ok.ensures.note ∙ ap (λ (v : SeenBook). note_made v.state c.args.event) c.self.view_is
+
 pub returns-clause-entries : goal.returns-clause-entries
 returns-clause-entries c =
     let inside = c.self.inside in
@@ -73,8 +77,8 @@ returns-clause-entries c =
     let going : is_halted b.state.going ≡ false = ap (λ (s : State). is_halted s.going) (sym c.state.ensures) ∙ sym c.is_halted.ensures ∙ c.if-is_halted.false in
     let state_is = subst (λ (v : SeenBook). after v.base v.history ≡ v.state) c.self.view_is c.self.invariant.state_is in
     adds_recorded c.args.who c.args.event b _
-    (recorded_is b inside.base.value inside.folded inside.history.items c.append.new.history.items inside.state c.step.new.state c.args.who
-    c.args.event c.in-Ok.reply c.self.view_is (rw c.reserve.ensures.items at c.append.ensures.history) c.in-Ok.ensures.state
+    (recorded_is b inside.base.value inside.folded inside.history.items c.append.new.history.items inside.state c.step_and_note.new.state c.args.who
+    c.args.event c.in-Ok.stepped.reply c.self.view_is (rw c.reserve.ensures.items at c.append.ensures.history) c.in-Ok.ensures.state
     c.in-Ok.ensures.reply)
     (c.passes_add_entries.ensures.one c.args.who b.base b.folded b.history (entry_of c.args.who c.args.event b)
     (may_be_next c.args.who b c.args.event state_is (c.requires.allowed going) c.requires.role))
@@ -83,9 +87,9 @@ pub returns-clause-row : goal.returns-clause-row
 returns-clause-row c =
     let inside = c.self.inside in
     let b = c.args.self.now in
-    row-recorded c.args.who c.args.event c.in-Ok.reply b _
-    (recorded_is b inside.base.value inside.folded inside.history.items c.append.new.history.items inside.state c.step.new.state c.args.who
-    c.args.event c.in-Ok.reply c.self.view_is (rw c.reserve.ensures.items at c.append.ensures.history) c.in-Ok.ensures.state
+    row-recorded c.args.who c.args.event c.in-Ok.stepped.reply b _
+    (recorded_is b inside.base.value inside.folded inside.history.items c.append.new.history.items inside.state c.step_and_note.new.state c.args.who
+    c.args.event c.in-Ok.stepped.reply c.self.view_is (rw c.reserve.ensures.items at c.append.ensures.history) c.in-Ok.ensures.state
     c.in-Ok.ensures.reply)
     (c.in-Ok.ensures.reply ∙ ap (λ (v : SeenBook). reply v.state c.args.event) c.self.view_is)
     (c.histories_go_on_by_one_entry.ensures.row b.folded c.args.who b.history (entry_of c.args.who c.args.event b) (is_own c.args.who c.args.event b))
