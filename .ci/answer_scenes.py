@@ -127,9 +127,11 @@ def a_caller_that_goes_away_before_its_answer_ends_alone():
 @scene
 def a_caller_that_never_reads_keeps_nobody_waiting():
     with serving() as server:
-        silent = [connect(server.control, room=1) for _ in range(40)]
-        for caller in silent:
-            caller.send(b"status\n")
+        silent = []
+        for _ in range(40):
+            # each sends its line at once: of those whose line isn't there yet the server keeps no more than 16
+            silent.append(connect(server.control, room=1))
+            silent[-1].send(b"status\n")
         expect("a restart", server.tell(b"graceful\n"), b"generation 1\n")
         with connect(server.port) as client:
             client.send(GET)

@@ -29,7 +29,7 @@ taken_since wait p = if p.wait == wait then p.taken else 0
 -- a read that answered this was counted since the last wait, and no more bytes were given since then than a link gives between two waits
 pub record GivesWay (old new : Passed) (answer : Got) : Type 0 where
   pub given : new.given ≡ given_since new.wait old + count_of_got answer
-  pub few : new.given ≤ 65536
+  pub few : new.given ≤ 16384
   pub taken : new.taken ≡ taken_since new.wait old
 
 -- a write that answered this was counted since the last wait, and no more bytes were taken since then than a link takes between two waits

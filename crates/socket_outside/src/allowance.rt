@@ -7,7 +7,7 @@ use mpm_base::{Got, Sent};
 use std::marker::Model;
 
 /// How many bytes a link gives at most by reads between two waits of its front.
-const MOST_GIVEN: usize = 65_536;
+const MOST_GIVEN: usize = 16_384;
 
 /// How many bytes it takes at most by writes between two waits.
 const MOST_TAKEN: usize = 1_048_576;
@@ -33,7 +33,7 @@ impl Model for Allowance {
       taken = a.taken;
     } };
 
-    ghost invariant = { λ a. (a.given ≤ 65536) × (a.taken ≤ 1048576) };
+    ghost invariant = { λ a. (a.given ≤ 16384) × (a.taken ≤ 1048576) };
 }
 
 impl Allowance {
@@ -65,8 +65,8 @@ impl Allowance {
 
     /// How many bytes the link may give where so many are asked for.
     pub(crate) fn may_give(&self, room: usize) -> usize
-        ensures is { result ≡ min room (65536 - self.now.given) }
-        ensures few { self.now.given + result ≤ 65536 }
+        ensures is { result ≡ min room (16384 - self.now.given) }
+        ensures few { self.now.given + result ≤ 16384 }
     {
         room.min(MOST_GIVEN - self.given)
     }
@@ -81,7 +81,7 @@ impl Allowance {
 
     /// A read answered this.
     pub(crate) fn read(&mut self, got: Got)
-        requires few { self.old.given + count_of_got got ≤ 65536 }
+        requires few { self.old.given + count_of_got got ≤ 16384 }
         ensures { self.new
             ≡ record self.old { given = self.old.given + count_of_got got } }
     {

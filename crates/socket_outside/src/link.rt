@@ -17,7 +17,7 @@ use std::sync::Arc;
 
 /// A link over a non-blocking socket, which it gives back where it is closed or dropped. It tells nothing.
 ///
-/// It gives way to others: since the last wait of its front it gives at most 65,536 bytes by reads and takes at most 1,048,576 by
+/// It gives way to others: since the last wait of its front it gives at most 16,384 bytes by reads and takes at most 1,048,576 by
 /// writes. What is asked of it beyond that it puts off: it answers NotReady, as it does where the system does, and the next wait gives its
 /// slot.
 #[derive(Drop)]
@@ -77,7 +77,7 @@ impl SocketLink {
     fn give(&mut self, buffer: &mut [u8]) -> Got
         ensures fits { FitsBuffer result (length buffer.new) }
         ensures closed { self.old.socket ≡ None → result ≡ Got.Failed }
-        ensures few { self.new.allowance.given + count_of_got result ≤ 65536 }
+        ensures few { self.new.allowance.given + count_of_got result ≤ 16384 }
         ensures same { self.new.allowance ≡ self.old.allowance }
         ensures counts { self.new.counters ≡ self.old.counters }
     {
