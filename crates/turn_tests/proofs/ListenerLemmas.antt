@@ -30,18 +30,14 @@ use Rattle.board.specs.Book.{SeenBook, entry_of}
 use Rattle.board.specs.Events.{IsTaken}
 use Rattle.board.specs.Fits.{IsOf}
 use Rattle.board.specs.Ledger.{ledger_of}
-use Rattle.turn_tests.specs.Books.{state_of}
-use Rattle.turn_tests.specs.GoesOn.{IsListener, IsOfButWaits, IsUnparked, MadeEvent}
-use Rattle.turn_tests.specs.Rests.{TurnsRestOn}
-use Rattle.turn_tests.proofs.FoundLemmas.{own_row, same_live, same_state}
-use Rattle.turn_tests.proofs.GoesOnLemmas.{Changes, free_then, same_seen}
-use Rattle.turn_tests.proofs.ThenLemmas.{nothing_row_as, row_then, state_then}
-
--- an event that leaves a pass its connection, or nothing, leaves it that
-pub keeps_row : {K : Type 0} (v w u : Me (Option K) View) (who : ℕ) (b : Bool) (e : Event) (old new : SeenBoard) → TurnsRestOn → TookTurn v w (ledger_of old)
-    → GaveBack w u (ledger_of new) → v.0.who.number ≡ who → Changes b who e old new → has_after v.0.row e (entry_of who e old.book).reply ≡ v.0.row → u.0.row ≡ v.0.row
-keeps_row v w u who true e old new rests took gave number m keeps = row_then v w u who e old new rests took gave number m ∙ keeps
-keeps_row v w u who false e old new rests took gave number same keeps = nothing_row_as v w u old new rests took gave same
+use Rattle.board_turns.specs.Books.{state_of}
+use Rattle.turn_tests.specs.Passes.{IsOfButWaits, IsUnparked}
+use Rattle.board_turns.specs.Turns.{IsListener}
+use Rattle.board_turns.specs.GoesOnInside.{MadeEvent}
+use Rattle.board_turns.specs.Rests.{TurnsRestOn}
+use Rattle.board_turns.proofs.FoundLemmas.{own_row, same_live, same_state}
+use Rattle.board_turns.proofs.GoesOnLemmas.{Changes, free_then, same_seen}
+use Rattle.board_turns.proofs.ThenLemmas.{nothing_row_as, row_then, state_then}
 
 -- ## The credit
 

@@ -14,7 +14,8 @@ use Rattle.recycle_perch.specs.Resting.{IsFreeCarrier}
 use Rattle.board.specs.Board.{SeenBoard}
 use Rattle.board.specs.Ledger.{ledger_of}
 use Rattle.board.specs.ReportLine.{line_of}
-use Rattle.turn_tests.specs.GoesOn.{IsFresh, IsListener, IsPlayer}
+use Rattle.turn_tests.specs.Passes.{IsFresh, IsPlayer}
+use Rattle.board_turns.specs.Turns.{IsListener}
 
 -- a board without a history may be put into a lock
 pub opens : (b : SeenBoard) (slots children passes : ℕ) (shape : Shape) → is_in_bounds shape ≡ true → 1 ≤ passes → passes ≤ 4099

@@ -1,18 +1,21 @@
 //! The turns of pass 0, one for each event.
-ghost use Rattle.std.specs.Prelude.{◌≡◌, ◌<◌, true, None, Some, IfSome, slice_index};
+ghost use Rattle.std.specs.Prelude.{◌≡◌, ◌<◌, true, None, Some, IfNone, IfSome, slice_index};
 ghost use Rattle.mpm_base.specs.declared.conn.Kind.TheVariants.{Reading};
 ghost use Rattle.conn_machine.specs.Table.{is_allowed};
 ghost use Rattle.conn_machine.specs.declared.event.Event.TheVariants as event;
 ghost use Rattle.board.specs.Finds.{cause_of};
 ghost use Rattle.board.specs.Fits.{IsSettled};
-ghost use Rattle.turn_tests.specs.Books.{state_of};
-ghost use Rattle.turn_tests.specs.GoesOn.{IsListener, IsOfButWaits, IsUnparked};
+ghost use Rattle.board_turns.specs.Books.{state_of};
+ghost use Rattle.board_turns.specs.Turns.{IsListener};
+ghost use Rattle.turn_tests.specs.Passes.{IsOfButWaits, IsUnparked};
 
 use crate::clients::link_of;
-use crate::laws::turns_rest_on_these;
-use crate::opening::ScriptBoard;
+use crate::links::TestLink;
+use crate::opening::TestBoard;
+use crate::tally::Tally;
 use board::laws::waits_are_backed_by_calls;
 use board_lock::{Pass, Shared};
+use board_turns::turns_rest_on_these;
 use conn_machine::laws::taken_connections_start_afresh;
 use conn_machine::{Event, may};
 use conn_state::{Conn, Nothing};
@@ -20,7 +23,6 @@ use file_table::Site;
 use http_read::Limits;
 use idle_workers::credit;
 use mpm_base::{ConnName, Kind};
-use stand_ins::ScriptLink;
 use std::alloc::Global;
 use std::sync::{Arc, Wait};
 
@@ -32,7 +34,7 @@ const LIMITS: Limits = Limits {
 };
 
 /// Whether the event is allowed.
-fn may_make(board: &ScriptBoard, event: &Event) -> bool
+fn may_make(board: &TestBoard, event: &Event) -> bool
     ensures { result ≡ is_allowed board.now.book.state event.now }
 {
     board.show();
@@ -42,8 +44,8 @@ fn may_make(board: &ScriptBoard, event: &Event) -> bool
 /// The child starts, where that may be: whether it did.
 pub fn starts_child<R: Wait>(
     rt: &R,
-    shared: &Shared<ScriptBoard>,
-    pass: &mut Pass<ScriptBoard>,
+    shared: &Shared<TestBoard>,
+    pass: &mut Pass<TestBoard>,
     child: u32,
 ) -> bool
     requires own { pass.old.seat.table_id ≡ shared.now.table.shared.table_id }
@@ -67,8 +69,8 @@ pub fn starts_child<R: Wait>(
 /// The child gets the credit of its workers: whether it did.
 pub fn credits<R: Wait>(
     rt: &R,
-    shared: &Shared<ScriptBoard>,
-    pass: &mut Pass<ScriptBoard>,
+    shared: &Shared<TestBoard>,
+    pass: &mut Pass<TestBoard>,
     child: u32,
 ) -> bool
     requires own { pass.old.seat.table_id ≡ shared.now.table.shared.table_id }
@@ -92,33 +94,37 @@ pub fn credits<R: Wait>(
     true
 }
 
-/// A connection is taken, of the client of that number, and waits for its request: whether it does.
+/// A connection is taken, of the client of that number, and waits for its request: whether it does. None where it was taken and can't wait.
 pub fn takes<R: Wait>(
     rt: &R,
     alloc: Global,
-    shared: &Shared<ScriptBoard>,
-    pass: &mut Pass<ScriptBoard>,
+    shared: &Shared<TestBoard>,
+    pass: &mut Pass<TestBoard>,
     site: &Arc<Site>,
+    tally: &Arc<Tally>,
     client: u32,
-) -> bool
+) -> Option<bool>
     requires own { pass.old.seat.table_id ≡ shared.now.table.shared.table_id }
     requires listener { IsListener pass.old.seat.me }
     requires none { pass.old.seat.me.0.row ≡ None }
     ensures own { pass.new.seat.table_id ≡ pass.old.seat.table_id }
     ensures listener { IsListener pass.new.seat.me }
-    ensures none { result ≡ true → pass.new.seat.me.0.row ≡ None }
+    ensures none { IfSome result (λ _. pass.new.seat.me.0.row ≡ None) }
 {
-    match accepts(rt, shared, pass) {
-        Some(name) => parks_new(rt, alloc, shared, pass, site, name, client),
-        None => false,
+    let Some(name) = accepts(rt, shared, pass) else {
+        return Some(false);
+    };
+    if parks_new(rt, alloc, shared, pass, site, tally, name, client) {
+        return Some(true);
     }
+    None
 }
 
 /// A connection is taken: its name.
 fn accepts<R: Wait>(
     rt: &R,
-    shared: &Shared<ScriptBoard>,
-    pass: &mut Pass<ScriptBoard>,
+    shared: &Shared<TestBoard>,
+    pass: &mut Pass<TestBoard>,
 ) -> Option<ConnName>
     requires own { pass.old.seat.table_id ≡ shared.now.table.shared.table_id }
     requires listener { IsListener pass.old.seat.me }
@@ -126,6 +132,7 @@ fn accepts<R: Wait>(
     ensures own { pass.new.seat.table_id ≡ pass.old.seat.table_id }
     ensures listener { IsListener pass.new.seat.me }
     ensures row { IfSome result (λ name. pass.new.seat.me.0.row ≡ Some name) }
+    ensures none { IfNone result (pass.new.seat.me.0.row ≡ None) }
     ensures unparked { IfSome result (IsUnparked (state_of pass.new.seat.me.0)) }
 {
     turns_rest_on_these();
@@ -144,11 +151,12 @@ fn accepts<R: Wait>(
 /// The connection of that name, which was taken, of the client of that number.
 fn conn_for(
     alloc: Global,
-    board: &ScriptBoard,
+    board: &TestBoard,
     site: &Arc<Site>,
+    tally: &Arc<Tally>,
     name: ConnName,
     client: u32,
-) -> Option<Conn<ScriptLink, Nothing>>
+) -> Option<Conn<TestLink, Nothing>>
     ensures name { IfSome result (λ conn. conn.name ≡ name) }
     ensures fits { IfSome result (IsOfButWaits board.now.book.state) }
     ensures settled { IfSome result
@@ -164,7 +172,7 @@ fn conn_for(
     if !row.notes.is_empty() {
         return None;
     }
-    let Ok(link) = link_of(alloc, row.arrival, client) else {
+    let Ok(link) = link_of(alloc, tally, row.arrival, client) else {
         return None;
     };
     let conn = Conn::new(alloc, name, row.child, row.generation, LIMITS, site, link);
@@ -176,9 +184,10 @@ fn conn_for(
 fn parks_new<R: Wait>(
     rt: &R,
     alloc: Global,
-    shared: &Shared<ScriptBoard>,
-    pass: &mut Pass<ScriptBoard>,
+    shared: &Shared<TestBoard>,
+    pass: &mut Pass<TestBoard>,
     site: &Arc<Site>,
+    tally: &Arc<Tally>,
     name: ConnName,
     client: u32,
 ) -> bool
@@ -194,7 +203,7 @@ fn parks_new<R: Wait>(
     waits_are_backed_by_calls();
     let mut turn = shared.turn(rt, pass);
     turn.kept.show();
-    let Some(conn) = conn_for(alloc, &turn.kept, site, name, client) else {
+    let Some(conn) = conn_for(alloc, &turn.kept, site, tally, name, client) else {
         shared.done(pass, turn);
         return false;
     };
@@ -207,30 +216,43 @@ fn parks_new<R: Wait>(
     parked.is_ok()
 }
 
-/// The board is folded, where that may be, and else something may have come for the slot: whether it was folded.
-pub fn goes_on<R: Wait>(
-    rt: &R,
-    shared: &Shared<ScriptBoard>,
-    pass: &mut Pass<ScriptBoard>,
-    slot: u32,
-) -> bool
+/// The board is folded, where that may be.
+pub fn folds<R: Wait>(rt: &R, shared: &Shared<TestBoard>, pass: &mut Pass<TestBoard>)
     requires own { pass.old.seat.table_id ≡ shared.now.table.shared.table_id }
     requires listener { IsListener pass.old.seat.me }
     ensures own { pass.new.seat.table_id ≡ pass.old.seat.table_id }
     ensures listener { IsListener pass.new.seat.me }
+    ensures row { pass.new.seat.me.0.row ≡ pass.old.seat.me.0.row }
 {
     turns_rest_on_these();
     let mut turn = shared.turn(rt, pass);
-    if turn.kept.can_fold() {
-        let folded = turn.kept.fold();
+    if !turn.kept.can_fold() {
         shared.done(pass, turn);
-        return folded.is_ok();
+        return;
     }
+    let _ = turn.kept.fold();
+    shared.done(pass, turn);
+}
+
+/// Something may have come for the slot.
+pub fn signals<R: Wait>(
+    rt: &R,
+    shared: &Shared<TestBoard>,
+    pass: &mut Pass<TestBoard>,
+    slot: u32,
+)
+    requires own { pass.old.seat.table_id ≡ shared.now.table.shared.table_id }
+    requires listener { IsListener pass.old.seat.me }
+    ensures own { pass.new.seat.table_id ≡ pass.old.seat.table_id }
+    ensures listener { IsListener pass.new.seat.me }
+    ensures row { pass.new.seat.me.0.row ≡ pass.old.seat.me.0.row }
+{
+    turns_rest_on_these();
+    let mut turn = shared.turn(rt, pass);
     if !may_make(&turn.kept, &Event::Ready(slot)) {
         shared.done(pass, turn);
-        return false;
+        return;
     }
     let _ = turn.kept.ready(0, slot);
     shared.done(pass, turn);
-    false
 }

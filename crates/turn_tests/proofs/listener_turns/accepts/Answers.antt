@@ -1,8 +1,8 @@
 use Rattle.std.proofs.Common.{sym}
-use Rattle.turn_tests.proofs.FoundLemmas.{pass_as, row_as}
-use Rattle.turn_tests.proofs.GoesOnLemmas.{made_added, may_accept}
+use Rattle.board_turns.proofs.FoundLemmas.{pass_as, row_as}
+use Rattle.board_turns.proofs.GoesOnLemmas.{made_added, may_accept}
 use Rattle.turn_tests.proofs.ListenerLemmas.{accepted_row, unparked_then}
-use Rattle.turn_tests.proofs.ThenLemmas.{listener_then}
+use Rattle.board_turns.proofs.ThenLemmas.{listener_then}
 use Rattle.turn_tests.proofs.listener_turns.accepts.Goals as goal
 
 pub accept-taken-requires-clause-who : goal.accept-taken-requires-clause-who

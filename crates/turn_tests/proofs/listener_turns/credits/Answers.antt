@@ -1,8 +1,8 @@
 use Rattle.std.proofs.Common.{ap, refl, ◌∙◌, rules}
 use Rattle.table_rule.specs.declared.view.View.{View}
-use Rattle.turn_tests.proofs.GoesOnLemmas.{may_stay}
+use Rattle.board_turns.proofs.GoesOnLemmas.{may_stay}
 use Rattle.turn_tests.proofs.ListenerLemmas.{credited_listener, credited_row, may_credit}
-use Rattle.turn_tests.proofs.ThenLemmas.{listener_then, nothing_row}
+use Rattle.board_turns.proofs.ThenLemmas.{listener_then, nothing_row}
 use Rattle.turn_tests.proofs.listener_turns.credits.Goals as goal
 
 pub done-requires-clause-left : goal.done-requires-clause-left

@@ -3,10 +3,10 @@ use Rattle.mpm_base.specs.declared.conn.ConnName.{ConnName}
 use Rattle.mpm_base.specs.declared.conn.Kind.TheVariants.{Reading}
 use Rattle.conn_machine.specs.declared.event.Event.TheVariants as event
 use Rattle.table_rule.specs.declared.view.View.{View}
-use Rattle.turn_tests.proofs.FoundLemmas.{pass_as, row_as}
-use Rattle.turn_tests.proofs.GoesOnLemmas.{changed, may_change, may_stay}
+use Rattle.board_turns.proofs.FoundLemmas.{pass_as, row_as}
+use Rattle.board_turns.proofs.GoesOnLemmas.{changed, may_change, may_stay}
 use Rattle.turn_tests.proofs.ListenerLemmas.{backs_first, is_of_new, parked_row, unparked_here}
-use Rattle.turn_tests.proofs.ThenLemmas.{listener_then}
+use Rattle.board_turns.proofs.ThenLemmas.{listener_then}
 use Rattle.turn_tests.proofs.listener_turns.parks_new.Goals as goal
 
 pub done-requires-clause-left : goal.done-requires-clause-left

@@ -1,10 +1,10 @@
 use Rattle.std.proofs.Common.{ap, refl, sym, is_ok}
 use Rattle.conn_machine.specs.declared.event.Event.TheVariants as event
 use Rattle.table_rule.specs.declared.view.View.{View}
-use Rattle.turn_tests.proofs.FoundLemmas.{pass_as}
-use Rattle.turn_tests.proofs.GoesOnLemmas.{changed, may_change, may_stay}
-use Rattle.turn_tests.proofs.ListenerLemmas.{keeps_row}
-use Rattle.turn_tests.proofs.ThenLemmas.{listener_then, nothing_row, stays_as}
+use Rattle.board_turns.proofs.FoundLemmas.{pass_as}
+use Rattle.board_turns.proofs.GoesOnLemmas.{changed, may_change, may_stay}
+use Rattle.board_turns.proofs.FoldLemmas.{keeps_row}
+use Rattle.board_turns.proofs.ThenLemmas.{listener_then, nothing_row, stays_as}
 use Rattle.turn_tests.proofs.listener_turns.starts_child.Goals as goal
 
 pub start_child-started-requires-clause-who : goal.start_child-started-requires-clause-who

@@ -1,6 +1,6 @@
 use Rattle.std.proofs.Common.{◌≡◌, ap, ◌∙◌}
 use Rattle.std.specs.Prelude.{slice_get}
-use Rattle.turn_tests.specs.GoesOn.{IsFresh, IsPlayer}
+use Rattle.turn_tests.specs.Passes.{IsFresh, IsPlayer}
 use Rattle.turn_tests.proofs.OpeningLemmas.{at_first, last_has, player}
 use Rattle.turn_tests.proofs.opening.last_of.Goals as goal
 

@@ -1,0 +1,2 @@
+mod ListenerLemmas
+mod ManyLemmas

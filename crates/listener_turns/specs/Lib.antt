@@ -1,0 +1,4 @@
+pub mod Credits
+pub mod Holds
+pub mod Looks
+pub mod PartsInside

@@ -1,0 +1,20 @@
+//! The turns of pass 0, which listens: one call for each event that it alone makes, and the few that make many in one turn.
+//!
+//! As in `board_turns` each takes the turn, makes its calls of the board, and gives the turn back, and all of it is said over what the pass has
+//! seen. Where a turn has to find out first what is to be done, it does so in the same turn, and says what it found where there was nothing.
+//! A connection that the listener holds is known by what lasts while others act (`specs/Holds.antt`): its link is called
+//! between the turn in which it is taken up and the one in which it is let go of. What may be done next follows from the last turn, since
+//! nobody else lets time pass, takes connections, starts or lets go of children, or stops the server.
+#![tactic(auto)]
+
+mod held;
+mod looks;
+mod parts;
+mod taken;
+
+pub use held::{Due, close, hold, linger, park};
+pub use looks::{Look, look};
+pub use parts::{
+    command, credit_child, fold, halt, pass_time, retire_child, signal_all, start_child,
+};
+pub use taken::accept;
