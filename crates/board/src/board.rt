@@ -49,7 +49,7 @@ use std::marker::{Model, PhantomData};
 use timeout_queues::Queues;
 
 /// The connection that was taken.
-#[derive(Clone, Copy, Debug, PartialEq, Eq)]
+#[derive(Clone, Copy)]
 pub struct Taken {
     /// Its name.
     pub name: ConnName,

@@ -15,7 +15,7 @@ use mpm_base::{Ask, Cause, ConnName, Kind, Moment, NoMemory, Note, Shape};
 use std::alloc::Global;
 
 /// What a step replies, and the note of the response that it decided, where it decided one.
-#[derive(Debug, Drop)]
+#[derive(Drop)]
 pub struct Stepped {
     /// The reply.
     pub reply: Reply,

@@ -51,7 +51,7 @@ use std::sync::{Arc, Wait};
 use worker_group::laws::passes_act_in_steps;
 
 /// What a wait of the front answered, and the moment behind it.
-#[derive(Clone, Copy, Debug, PartialEq, Eq)]
+#[derive(Clone, Copy)]
 pub struct Pause {
     /// What the wait answered.
     pub woke: Woke,

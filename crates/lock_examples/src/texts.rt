@@ -7,7 +7,7 @@ use conn_machine::Kept;
 use std::sync::Wait;
 
 /// A value that has so many texts, each of them empty.
-#[derive(Debug, Drop)]
+#[derive(Drop)]
 pub struct Texts {
     pub count: u64,
     pub passes: u32,

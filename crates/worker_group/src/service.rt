@@ -30,7 +30,7 @@ use mpm_base::{Ask, Bell, Cause, ConnName, Gate, Kind, Link, NoMemory, Tail};
 use std::sync::Wait;
 
 /// How a worker leaves a connection.
-#[derive(Clone, Copy, Debug, PartialEq, Eq)]
+#[derive(Clone, Copy)]
 pub enum Exit {
     /// It waits for this.
     Park(Kind),
