@@ -134,13 +134,16 @@ impl<L: Link, N: Known> Board<L, N> {
         ensures ended { IfOk result (λ board. board.ended ≡ []) }
         ensures edition { IfOk result (λ board. edition_of board.book 0 ≡ Some 0) }
     {
+        let conns = Slots::make(alloc, slots)?;
+        let queues = Queues::make(alloc, slots)?;
+        // the book comes last, so that no way out lets go of it
         let book = Book::open(alloc, slots, children, passes, shape)?;
         let parts = Parts {
             alloc,
             book,
-            conns: Slots::make(alloc, slots)?,
+            conns,
             ended: Vec::new(alloc),
-            queues: Queues::make(alloc, slots)?,
+            queues,
         };
         let Ok(parts) = Box::new(alloc, parts) else {
             return Err(NoMemory);

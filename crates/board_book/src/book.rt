@@ -97,13 +97,14 @@ impl Book {
         each_pass_has_its_own_connection();
         folds_are_one_fold();
         records_open_with_nothing();
-        let state = FiledState::opening(alloc, slots, children, shape)?;
         let folded = Folded::opening(alloc, passes)?;
         let ahead = Ahead::first(alloc, passes)?;
         let editions = KnownEditions::first(alloc)?;
         let Ok(history) = Vec::with_capacity(alloc, 1) else {
             return Err(NoMemory);
         };
+        // the state comes last, so that no way out lets go of it
+        let state = FiledState::opening(alloc, slots, children, shape)?;
         Ok(Book {
             alloc,
             base: Snapshot::of(state.state()),
