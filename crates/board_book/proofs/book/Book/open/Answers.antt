@@ -8,7 +8,7 @@ pub invariant_of-result : goal.invariant_of-result
 invariant_of-result c =
     let space : 1 ≤ vec_capacity c.in-Ok.history = search rules in
     let opened = opening_state c.args.slots c.args.children c.args.shape in
-    rw (c.of.ensures, c.state-2.ensures, c.in_ok-state.ensures, c.in-Ok.ensures.items, c.in_ok-folded.ensures, c.in_ok-editions.ensures, length-replicate {A = ℕ} c.args.passes 0)
+    rw (c.of.ensures, c.state.ensures, c.in_ok-state.ensures, c.in-Ok.ensures.items, c.in_ok-folded.ensures, c.in_ok-editions.ensures, length-replicate {A = ℕ} c.args.passes 0)
     (kept_first c.args.slots c.args.children c.args.passes (vec_capacity c.in-Ok.history) c.args.shape c.in_ok-ahead.ahead
     (c.folds_are_one_fold.ensures.opening opened c.args.passes) c.requires.slots c.requires.children
     (c.events_keep_states_sound.ensures.opening c.args.slots c.args.children c.args.shape c.requires.shape) space
