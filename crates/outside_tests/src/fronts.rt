@@ -108,7 +108,11 @@ fn show_wait<R: Wait>(sheet: &mut Sheet, rt: &R, play: &mut Play, rest: &str) {
     let woke = woken(rt, play, moment.parse::<Moment>().ok(), word == "quiet");
     print!(sheet; "{woke:?} {:?}, ", play.ready.slots());
     let front = play.front.front();
-    println!(sheet; "{} of {} lines", front.happened(), front.script().lines().len());
+    println!(sheet;
+        "{} of {} lines",
+        front.happened(),
+        front.script().lines().len()
+    );
 }
 
 fn woken<R: Wait>(rt: &R, play: &mut Play, until: Option<Moment>, quiet: bool) -> Woke {

@@ -71,12 +71,7 @@ fn parts_of(alloc: Global, rows: &mut Lines<'_>) -> Result<Parts, NoMemory> {
 }
 
 /// Shows what a link of that kind answers to each call.
-pub fn show_link(
-    sheet: &mut Sheet,
-    alloc: Global,
-    kind: &str,
-    rows: &str,
-) -> Result<(), NoMemory> {
+pub fn show_link(sheet: &mut Sheet, alloc: Global, kind: &str, rows: &str) -> Result<(), NoMemory> {
     let mut calls = rows.lines();
     let parts = parts_of(alloc, &mut calls)?;
     match kind {

@@ -1,5 +1,5 @@
 //! The files of scripts' stores, edition by edition.
-use mpm_base::{NoMemory, Octets, Store, StoreFault};
+use mpm_base::{Names, NoMemory, Octets, Store, StoreFault};
 use mpm_script::{ScriptFault, read_script};
 use script_front::{CONF_NAME, script_store};
 use stand_ins::PlainStore;
@@ -34,11 +34,7 @@ fn store_of(alloc: Global, bytes: &[u8]) -> Result<PlainStore, ScriptFault> {
 }
 
 /// Shows what the store has, and then behind each renewal.
-fn show_editions(
-    sheet: &mut Sheet,
-    alloc: Global,
-    store: &mut PlainStore,
-) -> Result<(), NoMemory> {
+fn show_editions(sheet: &mut Sheet, alloc: Global, store: &mut PlainStore) -> Result<(), NoMemory> {
     show_files(sheet, alloc, store)?;
     for _ in 0..3 {
         renew(store);
@@ -64,7 +60,7 @@ fn show_files(sheet: &mut Sheet, alloc: Global, store: &mut PlainStore) -> Resul
 }
 
 /// The names of at most nine files below `htdocs`. It has no clause, for the same reason as above.
-fn names_of(alloc: Global, store: &mut PlainStore) -> Result<Vec<Octets>, StoreFault> {
+fn names_of(alloc: Global, store: &mut PlainStore) -> Result<Names, StoreFault> {
     store.names(alloc, "htdocs", 9)
 }
 

@@ -6,12 +6,7 @@ use std::alloc::Global;
 use test_rows::{Marks, Sheet, text_of};
 
 /// Shows what an output answers to each piece, and what it keeps; and what one answers that keeps nothing.
-pub fn show_sink(
-    sheet: &mut Sheet,
-    alloc: Global,
-    slow: bool,
-    rows: &str,
-) -> Result<(), NoMemory> {
+pub fn show_sink(sheet: &mut Sheet, alloc: Global, slow: bool, rows: &str) -> Result<(), NoMemory> {
     let (fails, pieces) = rows.split_once('\n').unwrap_or((rows, ""));
     let calls = calls_of(alloc, fails)?;
     let mut sink = if slow {
