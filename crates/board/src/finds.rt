@@ -1,11 +1,12 @@
 //! The board's tests of its state: none takes memory, and each is exact.
 //! Why it is so stands in docs/DECISIONS.md: 45, Which one of several.
 ghost use Rattle.std.specs.Prelude.{◌≡◌, ◌<◌, length, IfSome};
+ghost use Rattle.conn_machine.specs.Children.{child_at};
 ghost use Rattle.board_book.specs.Finds.{FindsRetirable, FindsRow, IsFirstDue, acceptable, cause_of, has_to_be_drained, is_due, is_due_of, is_late, is_let_go, is_quiet, is_waiting, next_deadline_of, startable, waits_for};
 
 use crate::board::Board;
 use board_book::{can_accept, can_retire, can_start, kind, least_with_ending};
-use conn_machine::Going;
+use conn_machine::{Child, Going};
 use conn_state::Known;
 use mpm_base::{Cause, ConnName, GREATEST_MOMENT, Kind, Link, Moment};
 
