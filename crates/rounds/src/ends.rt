@@ -12,7 +12,7 @@ pub const LISTENER: u32 = 0;
 pub(crate) const SERVER: u32 = 1;
 
 /// Why the listener's turns end.
-#[derive(Clone, Copy)]
+#[derive(Clone, Copy, PartialEq, Eq)]
 pub enum End {
     /// Nothing more can come.
     Ended,
