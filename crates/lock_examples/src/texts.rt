@@ -7,7 +7,7 @@ use conn_machine::Kept;
 use std::sync::Wait;
 
 /// A value that has so many texts, each of them empty.
-#[derive(Drop)]
+#[derive(Debug, Drop)]
 pub struct Texts {
     pub count: u64,
     pub passes: u32,

@@ -15,7 +15,7 @@ const OPENING_STEPS: u64 = 2;
 
 /// A value that keeps a history of steps, each made by its pass, and folds it. The folded entries stay in memory, so that they
 /// can be looked at.
-#[derive(Drop)]
+#[derive(Debug, Drop)]
 pub struct Toy {
     entries: Vec<Entry>,
     steps: u64,
