@@ -9,8 +9,9 @@ use mpm_base::{
 use script_front::{FailingFront, ScriptBell, ScriptFront};
 use stand_ins::ScriptLink;
 use std::alloc::Global;
+use std::io::{self, ErrorKind};
 use std::sync::Wait;
-use test_rows::{Sheet, small_of, words};
+use test_rows::{grown, number_of, small_of, words};
 
 /// A front, the slots of its last wait, and the links that it handed out and that weren't turned away.
 #[derive(Drop)]
@@ -22,29 +23,27 @@ struct Play {
 
 /// Shows what a front of the script in the first row answers to each call. The calls of these lists fail: the numbers of the waits, a
 /// semicolon, those of the accepts, and perhaps a further one and those of the watches.
-pub fn show_front<R: Wait>(
-    sheet: &mut Sheet,
+pub fn show_front<R: Print + Wait>(
     rt: &R,
     alloc: Global,
     lists: &str,
     rows: &str,
-) -> Result<(), NoMemory> {
+) -> io::Result<()> {
     let (script, calls) = rows.split_once('\n').unwrap_or((rows, ""));
-    let mut play = play_of(alloc, script, lists)?;
-    show_calls(sheet, rt, alloc, &mut play, calls)
+    let mut play = grown(play_of(alloc, script, lists))?;
+    show_calls(rt, alloc, &mut play, calls)
 }
 
 /// Shows each call, and what is answered to it.
-fn show_calls<R: Wait>(
-    sheet: &mut Sheet,
+fn show_calls<R: Print + Wait>(
     rt: &R,
     alloc: Global,
     play: &mut Play,
     calls: &str,
-) -> Result<(), NoMemory> {
+) -> io::Result<()> {
     for call in calls.lines() {
-        print!(sheet; "{call} => ");
-        show_call(sheet, rt, alloc, play, call)?;
+        print!(rt; "{call} => ")?;
+        show_call(rt, alloc, play, call)?;
     }
     Ok(())
 }
@@ -70,49 +69,39 @@ fn front_of(alloc: Global, row: &str, lists: &str) -> Result<FailingFront, NoMem
 }
 
 /// Shows what the front, or one of its links, answers to the call.
-fn show_call<R: Wait>(
-    sheet: &mut Sheet,
+fn show_call<R: Print + Wait>(
     rt: &R,
     alloc: Global,
     play: &mut Play,
     call: &str,
-) -> Result<(), NoMemory> {
+) -> io::Result<()> {
     let (word, rest) = words(call);
     match word {
-        "accept" => return show_accept(sheet, play),
-        "all" => return show_all(sheet, play),
-        "bell" => return show_bell(sheet, alloc, play),
-        "wait" => show_wait(sheet, rt, play, rest),
-        "dial" => show_dial(sheet, alloc, play, rest),
-        _ => show_plain_call(sheet, play, word, rest),
-    }
-    Ok(())
-}
-
-/// The same of a call that takes no memory and waits for nothing.
-fn show_plain_call(sheet: &mut Sheet, play: &mut Play, word: &str, rest: &str) {
-    match word {
-        "turn" => show_turn(sheet, play),
-        "watch" => show_watch(sheet, play, rest),
-        "bind" | "hush" => show_told(sheet, play, word),
-        "command" => show_command(sheet, play),
-        "faults" => show_faults(sheet, play),
-        "answer" => show_answer(sheet, play, rest),
-        _ => show_link_call(sheet, play.links.as_mut_slice(), word, rest),
+        "wait" => show_wait(rt, play, rest),
+        "accept" => show_accept(rt, play),
+        "turn" => show_turn(rt, play),
+        "watch" => show_watch(rt, play, rest),
+        "all" => show_all(rt, play),
+        "bind" | "hush" => show_told(rt, play, word),
+        "command" => show_command(rt, play),
+        "faults" => show_faults(rt, play),
+        "answer" => show_answer(rt, play, rest),
+        "dial" => show_dial(rt, alloc, play, rest),
+        "bell" => show_bell(rt, alloc, play),
+        _ => show_link_call(rt, alloc, play.links.as_mut_slice(), word, rest),
     }
 }
 
 /// Shows the answer of a wait, the slots that it gave, and how many lines of the script have happened.
-fn show_wait<R: Wait>(sheet: &mut Sheet, rt: &R, play: &mut Play, rest: &str) {
+fn show_wait<R: Print + Wait>(rt: &R, play: &mut Play, rest: &str) -> io::Result<()> {
     let (moment, word) = words(rest);
     let woke = woken(rt, play, moment.parse::<Moment>().ok(), word == "quiet");
-    print!(sheet; "{woke:?} {:?}, ", play.ready.slots());
-    let front = play.front.front();
-    println!(sheet;
-        "{} of {} lines",
-        front.happened(),
-        front.script().lines().len()
-    );
+    println!(rt;
+        "{woke:?} {:?}, {} of {} lines",
+        play.ready.slots(),
+        play.front.front().happened(),
+        play.front.front().script().lines().len()
+    )
 }
 
 fn woken<R: Wait>(rt: &R, play: &mut Play, until: Option<Moment>, quiet: bool) -> Woke {
@@ -128,39 +117,33 @@ enum Taken {
 }
 
 /// Takes the next link, and keeps it.
-fn take(play: &mut Play) -> Result<Taken, NoMemory> {
+fn take(play: &mut Play) -> io::Result<Taken> {
     match play.front.accept() {
-        Arrival::Some(link) => keep(&mut play.links, link),
+        Arrival::Some(link) => {
+            play.links.push(link)?;
+            Ok(Taken::Link)
+        }
         Arrival::None => Ok(Taken::None),
         Arrival::Failed => Ok(Taken::Failed),
     }
 }
 
-/// Keeps the link behind those that are there.
-fn keep(links: &mut Vec<ScriptLink>, link: ScriptLink) -> Result<Taken, NoMemory> {
-    match links.push(link) {
-        Ok(()) => Ok(Taken::Link),
-        Err(_) => Err(NoMemory),
-    }
-}
-
-fn show_accept(sheet: &mut Sheet, play: &mut Play) -> Result<(), NoMemory> {
+fn show_accept(rt: &impl Print, play: &mut Play) -> io::Result<()> {
     let number = play.links.len();
     match take(play)? {
-        Taken::Link => println!(sheet; "link {number}"),
-        Taken::None => sheet.print("none\n"),
-        Taken::Failed => sheet.print("failed\n"),
+        Taken::Link => println!(rt; "link {number}"),
+        Taken::None => println!(rt; "none"),
+        Taken::Failed => println!(rt; "failed"),
     }
-    Ok(())
 }
 
-fn show_turn(sheet: &mut Sheet, play: &mut Play) {
+fn show_turn(rt: &impl Print, play: &mut Play) -> io::Result<()> {
     match play.links.pop() {
         Some(link) => {
             turn(play, link);
-            sheet.print("done\n");
+            println!(rt; "done")
         }
-        None => sheet.print("there is no such link\n"),
+        None => println!(rt; "there is no such link"),
     }
 }
 
@@ -168,10 +151,12 @@ fn turn(play: &mut Play, link: ScriptLink) {
     play.front.turn_away(link);
 }
 
-fn show_watch(sheet: &mut Sheet, play: &mut Play, rest: &str) {
+fn show_watch(rt: &impl Print, play: &mut Play, rest: &str) -> io::Result<()> {
     let (number, slot) = words(rest);
-    let is = is_watched(play, small_of(number) as usize, small_of(slot));
-    println!(sheet; "{is}");
+    println!(rt;
+        "{}",
+        is_watched(play, small_of(number) as usize, small_of(slot))
+    )
 }
 
 /// Whether the link of that number is watched now.
@@ -183,36 +168,28 @@ fn is_watched(play: &mut Play, number: usize, slot: u32) -> bool {
 }
 
 /// Takes each link that waits and watches it. No accept is to fail.
-fn show_all(sheet: &mut Sheet, play: &mut Play) -> Result<(), NoMemory> {
+fn show_all(rt: &impl Print, play: &mut Play) -> io::Result<()> {
     for slot in 0..u32::MAX {
         let number = play.links.len();
         match take(play)? {
-            Taken::Link if is_watched(play, number, slot) => (),
-            Taken::Link => {
-                println!(sheet; "link {number} isn't watched");
-                return Ok(());
-            }
-            Taken::None => {
-                println!(sheet; "{slot} links");
-                return Ok(());
-            }
-            Taken::Failed => {
-                println!(sheet; "accept {slot} failed");
-                return Ok(());
-            }
+            Taken::Link => (),
+            Taken::None => return println!(rt; "{slot} links"),
+            Taken::Failed => return Err(io::Error::from(ErrorKind::Other)),
+        }
+        if !is_watched(play, number, slot) {
+            return println!(rt; "link {number} isn't watched");
         }
     }
-    Ok(())
+    println!(rt; "no end of links")
 }
 
 /// Tells the front to listen or to stop it.
-fn show_told(sheet: &mut Sheet, play: &mut Play, word: &str) {
+fn show_told(rt: &impl Print, play: &mut Play, word: &str) -> io::Result<()> {
     if word == "bind" {
-        let is = is_bound(play);
-        println!(sheet; "{is}");
+        println!(rt; "{}", is_bound(play))
     } else {
         hush(play);
-        sheet.print("done\n");
+        println!(rt; "done")
     }
 }
 
@@ -229,10 +206,10 @@ fn hush(play: &mut Play) {
 }
 
 /// Reads the next command line.
-fn show_command(sheet: &mut Sheet, play: &mut Play) {
+fn show_command(rt: &impl Print, play: &mut Play) -> io::Result<()> {
     match next_command(play) {
-        Some(line) => println!(sheet; "{}", line.as_str()),
-        None => sheet.print("none\n"),
+        Some(line) => println!(rt; "{}", line.as_str()),
+        None => println!(rt; "none"),
     }
 }
 
@@ -241,18 +218,18 @@ fn next_command(play: &mut Play) -> Option<Line> {
 }
 
 /// Shows how many waits and how many accepts failed.
-fn show_faults(sheet: &mut Sheet, play: &Play) {
-    println!(sheet;
+fn show_faults(rt: &impl Print, play: &Play) -> io::Result<()> {
+    println!(rt;
         "{} waits, {} accepts",
         play.front.faults(),
         play.front.accept_faults()
-    );
+    )
 }
 
 /// Answers the line that was read last.
-fn show_answer(sheet: &mut Sheet, play: &mut Play, text: &str) {
+fn show_answer(rt: &impl Print, play: &mut Play, text: &str) -> io::Result<()> {
     answer(play, text);
-    sheet.print("done\n");
+    println!(rt; "done")
 }
 
 fn answer(play: &mut Play, text: &str) {
@@ -262,11 +239,11 @@ fn answer(play: &mut Play, text: &str) {
 }
 
 /// Shows the answer of a dial, and how many bytes came back.
-fn show_dial(sheet: &mut Sheet, alloc: Global, play: &mut Play, rest: &str) {
+fn show_dial(rt: &impl Print, alloc: Global, play: &mut Play, rest: &str) -> io::Result<()> {
     let (port, word) = words(rest);
     let mut came = Octets::make(alloc);
     let dialled = is_dialled(play, port.parse::<u16>().unwrap_or(0), word, &mut came);
-    println!(sheet; "{dialled}, {} bytes", came.len());
+    println!(rt; "{dialled}, {} bytes", came.len())
 }
 
 fn is_dialled(play: &mut Play, port: u16, word: &str, came: &mut Octets) -> bool {
@@ -274,11 +251,10 @@ fn is_dialled(play: &mut Play, port: u16, word: &str, came: &mut Octets) -> bool
 }
 
 /// Makes a bell of the front and rings it.
-fn show_bell(sheet: &mut Sheet, alloc: Global, play: &mut Play) -> Result<(), NoMemory> {
-    let bell = bell_of(alloc, play)?;
+fn show_bell(rt: &impl Print, alloc: Global, play: &mut Play) -> io::Result<()> {
+    let bell = grown(bell_of(alloc, play))?;
     bell.ring();
-    sheet.print("done\n");
-    Ok(())
+    println!(rt; "done")
 }
 
 fn bell_of(alloc: Global, play: &mut Play) -> Result<ScriptBell, NoMemory> {

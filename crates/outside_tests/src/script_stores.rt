@@ -1,29 +1,27 @@
 //! The files of scripts' stores, edition by edition.
-use mpm_base::{Names, NoMemory, Octets, Store, StoreFault};
+use mpm_base::{Octets, Store, StoreFault};
 use mpm_script::{ScriptFault, read_script};
 use script_front::{CONF_NAME, script_store};
 use stand_ins::PlainStore;
 use std::alloc::Global;
-use test_rows::{Marks, Sheet, text_of};
+use std::io;
+use test_rows::{Marks, grown, show_bytes, text_of};
 
 /// Shows what the store of each script has at first, and behind each of three renewals.
-pub fn show_stores(sheet: &mut Sheet, alloc: Global, rows: &str) -> Result<(), NoMemory> {
+pub fn show_stores(rt: &impl Print, alloc: Global, rows: &str) -> io::Result<()> {
     for row in rows.lines() {
-        print!(sheet; "{row} =>");
-        show_store(sheet, alloc, row)?;
+        print!(rt; "{row} =>")?;
+        show_store(rt, alloc, row)?;
     }
     Ok(())
 }
 
 /// Shows the same of the store of one script, or why it is refused.
-fn show_store(sheet: &mut Sheet, alloc: Global, row: &str) -> Result<(), NoMemory> {
-    let text = text_of(alloc, row, Marks::Controls)?;
+fn show_store(rt: &impl Print, alloc: Global, row: &str) -> io::Result<()> {
+    let text = grown(text_of(alloc, row, Marks::Controls))?;
     match store_of(alloc, text.as_slice()) {
-        Ok(mut store) => show_editions(sheet, alloc, &mut store),
-        Err(fault) => {
-            println!(sheet; " {fault:?}");
-            Ok(())
-        }
+        Ok(mut store) => show_editions(rt, alloc, &mut store),
+        Err(fault) => println!(rt; " {fault:?}"),
     }
 }
 
@@ -34,14 +32,13 @@ fn store_of(alloc: Global, bytes: &[u8]) -> Result<PlainStore, ScriptFault> {
 }
 
 /// Shows what the store has, and then behind each renewal.
-fn show_editions(sheet: &mut Sheet, alloc: Global, store: &mut PlainStore) -> Result<(), NoMemory> {
-    show_files(sheet, alloc, store)?;
+fn show_editions(rt: &impl Print, alloc: Global, store: &mut PlainStore) -> io::Result<()> {
+    show_files(rt, alloc, store)?;
     for _ in 0..3 {
         renew(store);
-        show_files(sheet, alloc, store)?;
+        show_files(rt, alloc, store)?;
     }
-    sheet.print("\n");
-    Ok(())
+    println!(rt; "")
 }
 
 fn renew(store: &mut PlainStore) {
@@ -49,41 +46,33 @@ fn renew(store: &mut PlainStore) {
 }
 
 /// Shows the configuration, and each file below `htdocs`.
-fn show_files(sheet: &mut Sheet, alloc: Global, store: &mut PlainStore) -> Result<(), NoMemory> {
-    show_file(sheet, alloc, store, CONF_NAME);
-    match names_of(alloc, store) {
-        Ok(names) => show_names(sheet, alloc, store, names.as_slice())?,
-        Err(fault) => print!(sheet; " {fault:?}"),
+fn show_files(rt: &impl Print, alloc: Global, store: &mut PlainStore) -> io::Result<()> {
+    show_file(rt, alloc, store, CONF_NAME)?;
+    match store.names(alloc, "htdocs", 9) {
+        Ok(names) => show_names(rt, alloc, store, names.as_slice())?,
+        Err(fault) => print!(rt; " {fault:?}")?,
     }
-    sheet.print(";");
-    Ok(())
-}
-
-/// The names of at most nine files below `htdocs`. It has no clause, for the same reason as above.
-fn names_of(alloc: Global, store: &mut PlainStore) -> Result<Names, StoreFault> {
-    store.names(alloc, "htdocs", 9)
+    print!(rt; ";")
 }
 
 fn show_names(
-    sheet: &mut Sheet,
+    rt: &impl Print,
     alloc: Global,
     store: &mut PlainStore,
     names: &[Octets],
-) -> Result<(), NoMemory> {
+) -> io::Result<()> {
     for name in names {
-        let Ok(text) = String::from_utf8_lossy(alloc, name.as_slice()) else {
-            return Err(NoMemory);
-        };
-        show_file(sheet, alloc, store, text.as_str());
+        let text = String::from_utf8_lossy(alloc, name.as_slice())?;
+        show_file(rt, alloc, store, text.as_str())?;
     }
     Ok(())
 }
 
-fn show_file(sheet: &mut Sheet, alloc: Global, store: &mut PlainStore, name: &str) {
-    print!(sheet; " {name}");
+fn show_file(rt: &impl Print, alloc: Global, store: &mut PlainStore, name: &str) -> io::Result<()> {
+    print!(rt; " ")?;
     match file_of(alloc, store, name) {
-        Ok(bytes) => sheet.bytes("", bytes.as_slice()),
-        Err(fault) => print!(sheet; " {fault:?}"),
+        Ok(bytes) => show_bytes(rt, alloc, name, bytes.as_slice()),
+        Err(fault) => print!(rt; "{name} {fault:?}"),
     }
 }
 

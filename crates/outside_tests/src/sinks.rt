@@ -1,47 +1,37 @@
 //! What outputs answer and keep.
 use crate::calls::calls_of;
-use mpm_base::{NoMemory, Sink};
+use mpm_base::Sink;
 use stand_ins::{MemSink, PlainSink};
 use std::alloc::Global;
-use test_rows::{Marks, Sheet, text_of};
+use std::io;
+use test_rows::{Marks, grown, show_bytes, text_of};
 
 /// Shows what an output answers to each piece, and what it keeps; and what one answers that keeps nothing.
-pub fn show_sink(sheet: &mut Sheet, alloc: Global, slow: bool, rows: &str) -> Result<(), NoMemory> {
+pub fn show_sink(rt: &impl Print, alloc: Global, slow: bool, rows: &str) -> io::Result<()> {
     let (fails, pieces) = rows.split_once('\n').unwrap_or((rows, ""));
-    let calls = calls_of(alloc, fails)?;
+    let calls = grown(calls_of(alloc, fails))?;
     let mut sink = if slow {
         MemSink::slow(alloc, calls)
     } else {
         MemSink::make(alloc, calls)
     };
-    show_kept(sheet, alloc, &mut sink, pieces)?;
-    show_writes(sheet, alloc, &mut PlainSink, pieces)
-}
-
-/// Shows what the output answers to each piece, and what it keeps.
-fn show_kept(
-    sheet: &mut Sheet,
-    alloc: Global,
-    sink: &mut MemSink,
-    pieces: &str,
-) -> Result<(), NoMemory> {
-    show_writes(sheet, alloc, sink, pieces)?;
-    sheet.bytes("kept", sink.bytes());
-    println!(sheet; ", {} faults", sink.faults());
-    Ok(())
+    show_writes(rt, alloc, &mut sink, pieces)?;
+    show_bytes(rt, alloc, "kept", sink.bytes())?;
+    println!(rt; ", {} faults", sink.faults())?;
+    show_writes(rt, alloc, &mut PlainSink, pieces)
 }
 
 /// Shows what the output answers to each piece.
 fn show_writes<K: Sink>(
-    sheet: &mut Sheet,
+    rt: &impl Print,
     alloc: Global,
     sink: &mut K,
     pieces: &str,
-) -> Result<(), NoMemory> {
+) -> io::Result<()> {
     for piece in pieces.lines() {
-        let text = text_of(alloc, piece, Marks::Lines)?;
+        let text = grown(text_of(alloc, piece, Marks::Lines))?;
         let put = sink.write(text.as_slice());
-        println!(sheet; "{piece} => {put:?}");
+        println!(rt; "{piece} => {put:?}")?;
     }
     Ok(())
 }

@@ -1,9 +1,10 @@
 //! What stores answer.
 use crate::calls::calls_of;
 use mpm_base::{NoMemory, Store};
-use stand_ins::{Calls, Files, History, MemStore, PlainStore, Slot};
+use stand_ins::{Calls, Files, History, MemStore, PlainStore};
 use std::alloc::Global;
-use test_rows::{Sheet, number_of, small_of, words};
+use std::io;
+use test_rows::{grown, number_of, show_bytes, small_of, words};
 
 /// The files that the rows set and unset.
 fn files_of(alloc: Global, rows: &str) -> Result<Files, NoMemory> {
@@ -21,99 +22,85 @@ fn files_of(alloc: Global, rows: &str) -> Result<Files, NoMemory> {
 }
 
 /// Shows the files that the rows set and unset, in their order.
-pub fn show_files(sheet: &mut Sheet, alloc: Global, rows: &str) -> Result<(), NoMemory> {
-    let files = files_of(alloc, rows)?;
+pub fn show_files(rt: &impl Print, alloc: Global, rows: &str) -> io::Result<()> {
+    let files = grown(files_of(alloc, rows))?;
     for slot in files.slots() {
-        show_slot(sheet, slot);
+        if let Some(bytes) = &slot.bytes {
+            let name = String::from_utf8_lossy(alloc, slot.name.as_slice())?;
+            show_bytes(rt, alloc, name.as_str(), bytes.as_slice())?;
+            println!(rt; "")?;
+        }
     }
     Ok(())
-}
-
-/// Shows the name of the slot and its bytes, where it has some.
-fn show_slot(sheet: &mut Sheet, slot: &Slot) {
-    if let Some(bytes) = &slot.bytes {
-        sheet.text(slot.name.as_slice());
-        sheet.bytes("", bytes.as_slice());
-        sheet.print("\n");
-    }
 }
 
 /// Shows what a store of the files answers whose listed calls fail, and where call 0 is listed, which is none, also what a plain one does.
-pub fn show_store(
-    sheet: &mut Sheet,
-    alloc: Global,
-    files: &str,
-    rows: &str,
-) -> Result<(), NoMemory> {
+pub fn show_store(rt: &impl Print, alloc: Global, files: &str, rows: &str) -> io::Result<()> {
     let (fails, calls) = rows.split_once('\n').unwrap_or((rows, ""));
-    show_failing(sheet, alloc, files, fails, calls)?;
+    let listed = grown(calls_of(alloc, fails))?;
+    let mut store = MemStore::make(alloc, grown(files_of(alloc, files))?, listed);
+    show_calls(rt, alloc, &mut store, calls)?;
+    println!(rt; "{} faults", store.faults())?;
     if fails.starts_with('0') {
-        let mut plain = PlainStore::make(alloc, files_of(alloc, files)?);
-        show_calls(sheet, alloc, &mut plain, calls);
+        let mut plain = PlainStore::make(alloc, grown(files_of(alloc, files))?);
+        show_calls(rt, alloc, &mut plain, calls)?;
     }
-    Ok(())
-}
-
-/// Shows what a store of the files answers whose listed calls fail.
-fn show_failing(
-    sheet: &mut Sheet,
-    alloc: Global,
-    files: &str,
-    fails: &str,
-    calls: &str,
-) -> Result<(), NoMemory> {
-    let listed = calls_of(alloc, fails)?;
-    let mut store = MemStore::make(alloc, files_of(alloc, files)?, listed);
-    show_calls(sheet, alloc, &mut store, calls);
-    println!(sheet; "{} faults", store.faults());
     Ok(())
 }
 
 /// Shows what the store answers to each call.
-fn show_calls<D: Store>(sheet: &mut Sheet, alloc: Global, store: &mut D, calls: &str) {
+fn show_calls<D: Store>(
+    rt: &impl Print,
+    alloc: Global,
+    store: &mut D,
+    calls: &str,
+) -> io::Result<()> {
     for call in calls.lines() {
-        print!(sheet; "{call} =>");
-        show_call(sheet, alloc, store, call);
-        sheet.print("\n");
+        print!(rt; "{call} =>")?;
+        show_call(rt, alloc, store, call)?;
+        println!(rt; "")?;
     }
+    Ok(())
 }
 
 /// Shows what the store answers to the call.
-fn show_call<D: Store>(sheet: &mut Sheet, alloc: Global, store: &mut D, call: &str) {
+fn show_call<D: Store>(
+    rt: &impl Print,
+    alloc: Global,
+    store: &mut D,
+    call: &str,
+) -> io::Result<()> {
     let (word, rest) = words(call);
     let (name, most) = words(rest);
     match word {
         "read" => match store.read(alloc, name, number_of(most)) {
-            Ok(bytes) => sheet.bytes("", bytes.as_slice()),
-            Err(fault) => print!(sheet; " {fault:?}"),
+            Ok(bytes) => show_bytes(rt, alloc, "", bytes.as_slice()),
+            Err(fault) => print!(rt; " {fault:?}"),
         },
         "names" => match store.names(alloc, name, small_of(most)) {
-            Ok(names) => print!(sheet; " {} names", names.len()),
-            Err(fault) => print!(sheet; " {fault:?}"),
+            Ok(names) => print!(rt; " {} names", names.len()),
+            Err(fault) => print!(rt; " {fault:?}"),
         },
-        _ => store.renew(),
+        _ => {
+            store.renew();
+            Ok(())
+        }
     }
 }
 
 /// Shows what a file is in each edition, and in one more.
-pub fn show_editions(sheet: &mut Sheet, alloc: Global, rows: &str) -> Result<(), NoMemory> {
+pub fn show_editions(rt: &impl Print, alloc: Global, rows: &str) -> io::Result<()> {
     let mut store = MemStore::make(alloc, Files::make(alloc), Calls::make(alloc));
-    add_editions(alloc, &mut store, rows)?;
+    for row in rows.lines() {
+        let files = grown(files_of(alloc, row))?;
+        grown(store.later(files))?;
+    }
     show_calls(
-        sheet,
+        rt,
         alloc,
         &mut store,
         "read a 9\nrenew\nread a 9\nrenew\nread a 9\nrenew\nread a 9\nrenew\nread a 9",
-    );
-    Ok(())
-}
-
-/// Adds an edition for each row.
-fn add_editions(alloc: Global, store: &mut MemStore, rows: &str) -> Result<(), NoMemory> {
-    for row in rows.lines() {
-        store.later(files_of(alloc, row)?)?;
-    }
-    Ok(())
+    )
 }
 
 /// The history of the changes and ends that the rows say.
@@ -132,9 +119,9 @@ fn history_of(alloc: Global, rows: &str) -> Result<History, NoMemory> {
 }
 
 /// Shows what the store of a history answers.
-pub fn show_history(sheet: &mut Sheet, alloc: Global, rows: &str) -> Result<(), NoMemory> {
+pub fn show_history(rt: &impl Print, alloc: Global, rows: &str) -> io::Result<()> {
     let (changes, calls) = rows.split_once("--\n").unwrap_or((rows, ""));
-    let mut store = PlainStore::of_history(alloc, history_of(alloc, changes)?)?;
-    show_calls(sheet, alloc, &mut store, calls);
-    Ok(())
+    let history = grown(history_of(alloc, changes))?;
+    let mut store = grown(PlainStore::of_history(alloc, history))?;
+    show_calls(rt, alloc, &mut store, calls)
 }

@@ -14,4 +14,4 @@ pub use numbers::{NumberStream, below, small};
 pub use row::{grown, name_of, number_of, out_of_memory, small_of, words};
 pub use sections::{Section, begin_section, open_section, sections_of};
 pub use sheet::Sheet;
-pub use texts::{Marks, text_of};
+pub use texts::{Marks, show_bytes, text_of};

@@ -2,6 +2,7 @@
 use crate::row::{number_of, words};
 use mpm_base::{NoMemory, Octets};
 use std::alloc::Global;
+use std::io;
 
 /// Which bytes of a row stand for others.
 #[derive(Clone, Copy)]
@@ -63,4 +64,10 @@ fn add_byte(text: &mut Octets, byte: u8, marks: Marks) -> Result<(), NoMemory> {
         (_, b'|') => text.add(b"\n"),
         _ => text.add(&[byte]),
     }
+}
+
+/// Prints the bytes under the name, in the same line.
+pub fn show_bytes(rt: &impl Print, alloc: Global, name: &str, bytes: &[u8]) -> io::Result<()> {
+    let text = String::from_utf8_lossy(alloc, bytes)?;
+    print!(rt; "{name} {text:?}")
 }
