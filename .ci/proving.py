@@ -1,10 +1,13 @@
-"""Proves and builds a program of this repository by `rt lib` and `rt run`, for ./serve, with a kit whose `rt ci` takes no names of crates.
+"""Proves and builds a program of this repository by `rt lib` and `rt run`, for ./serve.
 
 One run of the kit at a time works on a crate and on those below it. So each crate is proved in a room of its own, a repository of the crate
 and those below it with their built libraries, by hard links. What the kit keeps of a crate to prove only what changed (`out/incremental`)
 moves from the clone into the room and back, and the built library (`out/rlib`) is put into the clone: there `rt check` and the next ./serve
 go on from them. The kit's stamp on each library tells of which sources it was built. The run that builds the program looks at all of them,
-and builds what isn't of the sources in its room anew: so whatever was kept, the program is that of the sources."""
+and builds what isn't of the sources in its room anew: so whatever was kept, the program is that of the sources.
+
+How many processors a proof may use is said where it begins. So the crate on which most of what is left waits, one behind the other, may use
+all of them, and those beside it, of one processor each, run at a lower priority: they have what that one leaves free."""
 
 import contextlib
 import fcntl
@@ -21,6 +24,10 @@ KEPT = "out/incremental"
 BUILT = "out/rlib"
 # Beside the kit's stamp: the checksum of all sources that the library was built of. It goes where the kit builds the library anew.
 MARK = f"{BUILT}/sources"
+# What runs a command at a lower priority.
+BEHIND = ["nice", "-n", "15"] if shutil.which("nice") else []
+# The most processors of which a proof still gains.
+MOST_JOBS = 4
 
 
 @functools.lru_cache(maxsize=None)
@@ -95,7 +102,7 @@ def crates_to_oneself(top, crates):
 class Room:
     """A crate that is being proved, in a room of its own."""
 
-    def __init__(self, rooms, crate, jobs):
+    def __init__(self, rooms, crate, jobs, leads):
         self.crate, self.jobs, self.top = crate, jobs, rooms.top
         self.place = f"{rooms.place}/{crate}"
         self.folder = f"{self.place}/crates/{crate}"
@@ -109,7 +116,7 @@ class Room:
         words = ["run", "--jobs", str(jobs), "--", *rooms.words] if is_program else ["lib", "--jobs", str(jobs)]
         with open(f"{self.place}/said", "wb") as said:
             streams = {"stdin": subprocess.DEVNULL, "stdout": said, "stderr": subprocess.STDOUT}
-            self.running = subprocess.Popen(["rt", *words], cwd=self.folder, **streams)
+            self.running = subprocess.Popen([*([] if leads else BEHIND), "rt", *words], cwd=self.folder, **streams)
 
     def said(self):
         return f"== {self.crate}, with {self.jobs} jobs\n" + text_of(f"{self.place}/said").replace(self.place, self.top)
@@ -185,24 +192,24 @@ class Lanes:
         return self.needs[crate] * (1 + 0.6 * (jobs - 1))
 
     def fill(self):
-        """Begins what can begin."""
+        """Begins what can begin: at most as many crates as there are processors."""
         undone = {*self.left, *self.running}
         ready = [it for it in self.left if not undone & self.under[it]]
         for at, crate in enumerate(ready):
-            idle = self.plan.lanes - sum(room.jobs for room in self.running.values())
             spare = self.memory - sum(self.taken(it, room.jobs) for it, room in self.running.items())
-            if idle <= 0 or self.running and self.taken(crate, 1) > spare:
+            if len(self.running) >= self.plan.lanes or self.running and self.taken(crate, 1) > spare:
                 continue
-            jobs = self.jobs(crate, undone, idle, len(ready) - at)
+            leads = self.ways[crate] == max(self.ways[it] for it in undone)
+            jobs = min(self.plan.lanes, MOST_JOBS) if leads else self.share(len(ready) - at)
             while jobs > 1 and self.taken(crate, jobs) > spare:
                 jobs -= 1
             self.left.remove(crate)
-            self.running[crate] = Room(self.rooms, crate, jobs)
+            self.running[crate] = Room(self.rooms, crate, jobs, leads)
 
-    def jobs(self, crate, undone, idle, ready):
-        """How many processors a crate gets: those that no other one waits for, and as many as its chain has of all that is to be proved."""
-        share = int(self.plan.lanes * self.ways[crate] / sum(self.plan.weights[it] for it in undone))
-        return max(1, min(idle, 4, max(share, idle // ready)))
+    def share(self, ready):
+        """How many processors a crate gets beside which so many others can begin: what those that run leave."""
+        idle = self.plan.lanes - sum(room.jobs for room in self.running.values())
+        return max(1, min(idle, MOST_JOBS) // ready)
 
     def ended(self):
         return [room for room in self.running.values() if room.running.poll() is not None]

@@ -11,7 +11,7 @@ use Rattle.conn_machine.specs.Rows.{is_live, live_row}
 use Rattle.conn_machine.specs.Table.{next, note_for, answered_row}
 use Rattle.conn_state.specs.Conn.{SeenConn}
 use Rattle.conn_state.specs.Turns.{TakesNote}
-use Rattle.board.specs.Events.{IsDecided}
+use Rattle.board_book.specs.Decided.{IsDecided}
 use Rattle.board.specs.Fits.{IsOf}
 use Rattle.conn_machine.specs.HistoryLaws.{RowsChangeOneAtATime}
 use Rattle.board.proofs.BoardLemmas.{LivesAs, lives_as}

@@ -15,7 +15,7 @@ use Rattle.conn_slots.specs.Slots.{Slot}
 use Rattle.conn_state.specs.Conn.{SeenConn}
 use Rattle.conn_state.specs.Answered.{SeenEnded}
 use Rattle.conn_state.specs.Known.{KnownOutside}
-use Rattle.board.specs.Book.{SeenBook}
+use Rattle.board_book.specs.Book.{SeenBook}
 use Rattle.board.specs.Board.{SeenBoard, IsHome, AreHome, conn_at}
 use Rattle.board.specs.BoardInside.{IsBoard}
 use Rattle.board.specs.Layout.{conns_in}

@@ -11,10 +11,11 @@ use Rattle.conn_machine.specs.Sound.{IsSound}
 use Rattle.conn_state.specs.Conn.{SeenConn}
 use Rattle.conn_state.specs.Answered.{SeenEnded}
 use Rattle.conn_state.specs.Known.{KnownOutside, IsOfClient}
-use Rattle.board.specs.Book.{SeenBook, folded_book}
+use Rattle.board_book.specs.Book.{SeenBook, folded_book}
 use Rattle.board.specs.Board.{AreHome, EndedOfOutside, IsAtHome, IsHeldHere, IsHome, IsOfOutside, WaitOfOutside, conn_at}
-use Rattle.board.specs.Editions.{GenerationsKeepTheirEditions, IsOfGeneration, KeepsEditions}
-use Rattle.board.proofs.EditionLemmas.{generation_carried}
+use Rattle.board_book.specs.Editions.{KeepsEditions}
+use Rattle.board.specs.Editions.{GenerationsKeepTheirEditions, IsOfGeneration}
+use Rattle.board.proofs.CarriedLemmas.{generation_carried}
 
 -- a list without connections has none
 pub clients_first : (known : Option KnownOutside) (b : SeenBook) (slots : ℕ) → WaitOfOutside known b (replicate slots None)

@@ -19,8 +19,9 @@ use Rattle.conn_slots.specs.Slots.{Slot, unused_slot}
 use Rattle.conn_state.specs.Conn.{SeenConn}
 use Rattle.conn_state.specs.Answered.{SeenEnded, IsEnded}
 use Rattle.conn_state.specs.Known.{KnownOutside, IsOfClient}
-use Rattle.board.specs.Book.{SeenBook, entry_of, book_with_entry}
-use Rattle.board.specs.Editions.{GenerationsKeepTheirEditions, IsOfGeneration, KeepsEditions}
+use Rattle.board_book.specs.Book.{SeenBook, entry_of, book_with_entry}
+use Rattle.board_book.specs.Editions.{KeepsEditions}
+use Rattle.board.specs.Editions.{GenerationsKeepTheirEditions, IsOfGeneration}
 use Rattle.board.specs.Fits.{IsClosing}
 use Rattle.board.specs.Board.{SeenBoard, AreClosed, AreEnded, ClosesFirst, WaitOfOutside, folded_board}
 use Rattle.board.specs.BoardInside.{IsBoard}

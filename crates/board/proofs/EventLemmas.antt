@@ -30,6 +30,7 @@ use Rattle.board.specs.Fits.{Fits, IsSettled, IsSettledFrom, LingersFor}
 use Rattle.board.specs.Board.{IsHeldHere, IsAtHome, IsHome, AreHome, conn_at}
 use Rattle.board.specs.QueuesInside.{waits_in, queues_of}
 use Rattle.conn_machine.specs.HistoryLaws.{RowsChangeOneAtATime}
+use Rattle.board_book.proofs.AlikeLemmas.{get-replicate, get_or-alike}
 use Rattle.board.proofs.QueueLemmas.{away-waits, queues-away}
 use Rattle.board.proofs.BoardLemmas.{AreThere, LivesAs, count-update, lives_as, there_set}
 
@@ -318,18 +319,6 @@ close-room s name why how conns queues ended room may there =
     omega (arith, count, there.has_room)
 
 -- ## The opening state
-
--- each item of a list of one item is that item
-pub get-replicate : {X : Type 0} (n i : ℕ) (x y : X) → slice_get (replicate n x) i ≡ Some y → x ≡ y
-get-replicate zero i x y at = absurd (cc)
-get-replicate (suc n) zero x y at = cc
-get-replicate (suc n) (suc i) x y at = get-replicate n i x y at
-
--- so is what is read of it, past its end too
-pub get_or-alike : {X : Type 0} (n i : ℕ) (x : X) → get_or (replicate n x) i x ≡ x
-get_or-alike zero i x = refl
-get_or-alike (suc n) zero x = refl
-get_or-alike (suc n) (suc i) x = get_or-alike n i x
 
 -- no unused row is live
 none-live : (n : ℕ) → count_by is_live (replicate n unused_row) ≡ 0

@@ -25,16 +25,16 @@ use Rattle.conn_machine.specs.Sound.{IsSound}
 use Rattle.timeout_queues.specs.Waiting.{ParkedName, IsFree, parked_of, without_name}
 use Rattle.conn_state.specs.declared.turn.LastLinger.TheVariants as linger
 use Rattle.conn_state.specs.Conn.{SeenConn}
-use Rattle.board.specs.declared.faults.BoardFault.{BoardFault}
-use Rattle.board.specs.declared.faults.BoardFault.TheVariants as fault
-use Rattle.board.specs.Book.{SeenBook}
-use Rattle.board.specs.Faults.{IsNotTakenFor, IsRefusedFor, accept_fault}
-use Rattle.board.specs.Finds.{cause_of}
+use Rattle.board_book.specs.declared.faults.BoardFault.{BoardFault}
+use Rattle.board_book.specs.declared.faults.BoardFault.TheVariants as fault
+use Rattle.board_book.specs.Book.{SeenBook}
+use Rattle.board_book.specs.Faults.{IsNotTakenFor, IsRefusedFor, accept_fault}
+use Rattle.board_book.specs.Finds.{cause_of}
 use Rattle.board.specs.Fits.{Fits, IsOnItsWay, IsTakenUp, IsSettledFrom}
 use Rattle.board.specs.Board.{SeenBoard, AreHome, IsAtHome, IsHeldHere, conn_at}
 use Rattle.board.specs.QueuesInside.{waits_in, queues_of, waits_under}
 use Rattle.conn_machine.specs.HistoryLaws.{RowsChangeOneAtATime}
-use Rattle.board.specs.Events.{IsDecided}
+use Rattle.board_book.specs.Decided.{IsDecided}
 use Rattle.board.proofs.BoardLemmas.{LivesAs, get-below, lives_as}
 use Rattle.board.proofs.QueueLemmas.{is-free, is-parked}
 use Rattle.board.proofs.EventLemmas.{home-of, linger-lives, parked-settled, queue-parked}

@@ -14,7 +14,7 @@ use Rattle.conn_machine.specs.Lists.{update}
 use Rattle.conn_machine.specs.Rows.{is_parked, is_live_as, row_where, live_row, lives_and}
 use Rattle.conn_machine.specs.States.{is_overdue}
 use Rattle.timeout_queues.specs.Waiting.{ParkedName, in_life, parked_of, all_parked, least_deadline, overdue_at, deadline_of, IsFree, IsPastDeadline}
-use Rattle.board.specs.Finds.{FindsRow, IsFirstDue, is_late, waiting_deadlines}
+use Rattle.board_book.specs.Finds.{FindsRow, IsFirstDue, is_late, waiting_deadlines}
 use Rattle.board.specs.QueuesInside.{waits_at, waits_in, queues_of, waits_under}
 
 -- ## One row changes

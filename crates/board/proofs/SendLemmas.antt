@@ -2,11 +2,7 @@
 use denote.RattleType.{RattleType}
 use denote.Param.Send.{IsSend, sendable}
 use Rattle.std.proofs.Crossing.{crosses}
-use Rattle.board.specs.contracts.book.Book as Book
-use Rattle.board.specs.contracts.filed.FiledState as Filed
-use Rattle.board.proofs.ahead.Ahead.TheSendSync as ahead
-use Rattle.board.proofs.editions.KnownEditions.TheSendSync as editions
-use Rattle.board.proofs.filed.FiledState.TheSendSync as filed
+use Rattle.board_book.proofs.SendLemmas.{Book-send}
 use Rattle.mpm_base.specs.declared.link.Link as link
 use Rattle.conn_state.specs.declared.known.Known as known
 use Rattle.board.specs.contracts.board.Board as Board
@@ -17,16 +13,8 @@ use Rattle.conn_state.proofs.conn.Conn.TheSendSync as conn
 use Rattle.conn_state.proofs.kept_notes.KeptNotes.TheSendSync as notes
 use Rattle.conn_slots.proofs.Slots.TheSendSync as slots
 use Rattle.timeout_queues.proofs.Queues.TheSendSync as queues
-use Rattle.conn_machine.proofs.folded.Folded.TheSendSync as folded
-use Rattle.conn_machine.proofs.event.Entry.TheSendSync as entry
 
 -- a search for the whole gives up, so each part is shown by one of its own
-pub Filed-send : IsSend Filed.the_row
-Filed-send = filed.the_send
-
-pub Book-send : IsSend Book.the_row
-Book-send = search (ahead.the_field_send, editions.the_field_send, Filed-send, folded.the_field_send, entry.the_field_send, sendable, crosses) depth 60 fits 20000
-
 module _ (L : RattleType) (g : link.Ghosts L.Denot) where
   pub Ended-send : IsSend L → IsSend (Ended.the_row L g)
   Ended-send s = search (notes.the_send, sendable, crosses) depth 60 fits 20000

@@ -6,8 +6,9 @@ use Rattle.conn_machine.specs.declared.event.Entry.{Entry}
 use Rattle.conn_machine.specs.declared.folded.Folded.{Folded}
 use Rattle.conn_machine.specs.Folds.{fold_of, is_in_use}
 use Rattle.conn_state.specs.Known.{KnownOutside}
-use Rattle.board.specs.Book.{SeenBook}
-use Rattle.board.specs.Editions.{GenerationsKeepTheirEditions, HasItsEdition, IsOfGeneration, KeepsEditions, UsedHaveEditions, edition_of}
+use Rattle.board_book.specs.Book.{SeenBook}
+use Rattle.board_book.specs.Editions.{KeepsEditions, UsedHaveEditions, edition_of}
+use Rattle.board.specs.Editions.{GenerationsKeepTheirEditions, HasItsEdition, IsOfGeneration}
 use Rattle.board.specs.WholeEditions.{IsLeftOf, with_more}
 
 -- what has an edition in what is left has it in the whole

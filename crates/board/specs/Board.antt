@@ -15,7 +15,7 @@ use Rattle.conn_machine.specs.Table.{next}
 use Rattle.conn_state.specs.Conn.{SeenConn}
 use Rattle.conn_state.specs.Answered.{SeenEnded, IsEnded}
 use Rattle.conn_state.specs.Known.{KnownOutside, IsOfClient}
-use Rattle.board.specs.Book.{SeenBook, folded_book}
+use Rattle.board_book.specs.Book.{SeenBook, folded_book}
 use Rattle.board.specs.Editions.{IsOfGeneration}
 use Rattle.board.specs.ReportLine.{line_of}
 use Rattle.board.specs.Fits.{Fits, IsSettled, IsClosing}

@@ -24,9 +24,9 @@ use Rattle.mpm_base.specs.declared.conn.Kind.{Kind}
 use Rattle.mpm_base.specs.declared.conn.Kind.TheVariants.{Reading}
 use Rattle.board.specs.Backed.{AllBacked, AreBacked, waits_to_read, waits_to_write}
 use Rattle.board.specs.Board.{AreClosed, AreEnded, EndedOfOutside}
-use Rattle.board.specs.Book.{SeenBook}
-use Rattle.board.specs.Editions.{KeepsEditions}
-use Rattle.board.specs.Events.{IsDecided}
+use Rattle.board_book.specs.Book.{SeenBook}
+use Rattle.board_book.specs.Editions.{KeepsEditions}
+use Rattle.board_book.specs.Decided.{IsDecided}
 use Rattle.board.specs.Fits.{IsOf}
 use Rattle.board.specs.Ranks.{AllTell, has_rank, ranks_of}
 

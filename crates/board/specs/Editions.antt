@@ -1,6 +1,6 @@
--- Which edition each generation of a book has, and what a type that knows the outside says of the connections of a generation.
+-- What a type that knows the outside says of the connections of a generation, and that generations keep their editions.
 -- Why it is so stands in docs/DECISIONS.md: 100, By which edition a board's connections are served.
-use Rattle.std.specs.Prelude.{◌≡◌, ◌==◌, ℕ, ◌+◌, true, false, List, ◌++◌, find, slice_get, Option, Some, IfSome, option_map}
+use Rattle.std.specs.Prelude.{◌≡◌, ℕ, ◌+◌, true, false, List, ◌++◌, slice_get, Option, Some, IfSome}
 use Rattle.mpm_base.specs.declared.shape.Shape.{Shape}
 use Rattle.http_read.specs.declared.request.Limits.{Limits}
 use Rattle.file_table.specs.Site.{SeenSite}
@@ -8,42 +8,16 @@ use Rattle.conn_machine.specs.declared.event.Commanded.TheVariants.{Graceful}
 use Rattle.conn_machine.specs.declared.event.Entry.{Entry}
 use Rattle.conn_machine.specs.declared.event.Event.{Event}
 use Rattle.conn_machine.specs.declared.event.Event.TheVariants as event
-use Rattle.conn_machine.specs.declared.folded.Edition.{Edition}
 use Rattle.conn_machine.specs.declared.row.Row.{Row}
 use Rattle.conn_machine.specs.declared.state.State.{State}
-use Rattle.conn_machine.specs.Events.{begins_generation, count_events, is_order}
-use Rattle.conn_machine.specs.Folds.{HaveBegun, begun_editions, fold_of, is_in_use}
+use Rattle.conn_machine.specs.Events.{begins_generation}
+use Rattle.conn_machine.specs.Folds.{HaveBegun, fold_of, is_in_use}
 use Rattle.conn_machine.specs.Rows.{is_live}
 use Rattle.conn_machine.specs.Runs.{after}
 use Rattle.conn_machine.specs.Sound.{IsSound}
 use Rattle.conn_state.specs.Known.{KnownOutside, IsOfEdition}
-use Rattle.board.specs.Book.{SeenBook, book_with_entry, folded_book}
-
--- ## The edition of a generation
-
--- the editions of the generations that were in use behind what was folded, and of those that began since
-abbrev pub editions_in : SeenBook → List Edition
-editions_in b = b.folded.editions ++ begun_editions b.base.newest b.folded.orders b.history
-
--- the number of the generation's edition among these, where it is known
-abbrev pub edition_among : ℕ → List Edition → Option ℕ
-edition_among generation editions =
-    option_map (λ e. e.edition) (find (λ e. e.generation == generation) editions)
-
--- the number of the generation's edition, where it is known
-abbrev pub edition_of : SeenBook → ℕ → Option ℕ
-edition_of b generation = edition_among generation (editions_in b)
-
--- how many commands `graceful` were taken or refused
-abbrev pub orders_in : SeenBook → ℕ
-orders_in b = b.folded.orders + count_events is_order b.history
-
--- each generation in use has an edition
-abbrev pub UsedHaveEditions : SeenBook → Type 0
-UsedHaveEditions b =
-    (generation : ℕ)
-    → is_in_use b.state generation ≡ true
-    → (number : ℕ) × (edition_of b generation ≡ Some number)
+use Rattle.board_book.specs.Book.{SeenBook, book_with_entry, folded_book}
+use Rattle.board_book.specs.Editions.{KeepsEditions, edition_of, orders_in}
 
 -- ## What a type knows
 
@@ -60,13 +34,6 @@ IsOfGeneration known b generation limits site =
     IfSome known (λ k. HasItsEdition k b generation limits site)
 
 -- ## How books go on
-
--- each generation that has an edition in the old book has it in the new one
-abbrev pub KeepsEditions : SeenBook → SeenBook → Type 0
-KeepsEditions old new =
-    (generation number : ℕ)
-    → edition_of old generation ≡ Some number
-    → edition_of new generation ≡ Some number
 
 -- generations keep their editions. A book whose history went on, behind the same base and record, has each edition that there was, so a
 -- connection stays of its generation; and so it is wherever editions stay. A fold leaves each generation in use its edition, and what has

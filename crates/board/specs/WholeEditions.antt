@@ -6,8 +6,9 @@ use Rattle.conn_machine.specs.declared.event.Entry.{Entry}
 use Rattle.conn_machine.specs.Folds.{HaveBegun, fold_of, is_in_use}
 use Rattle.conn_machine.specs.Runs.{after}
 use Rattle.conn_state.specs.Known.{KnownOutside}
-use Rattle.board.specs.Book.{SeenBook}
-use Rattle.board.specs.Editions.{IsOfGeneration, KeepsEditions, UsedHaveEditions}
+use Rattle.board_book.specs.Book.{SeenBook}
+use Rattle.board_book.specs.Editions.{KeepsEditions, UsedHaveEditions}
+use Rattle.board.specs.Editions.{IsOfGeneration}
 
 -- the book is left of the whole one, whose first entries were folded: its record is what one fold makes of them all, but for its lines
 pub record IsLeftOf (whole b : SeenBook) : Type 0 where

@@ -3,11 +3,10 @@ ghost use Rattle.std.specs.Prelude.{◌≡◌, ◌≢◌, Some, true, IfOk, IfEr
 ghost use Rattle.conn_slots.specs.Slots.{IsNextName, next_name, vacant_count};
 ghost use Rattle.conn_machine.specs.Table.{is_allowed};
 ghost use Rattle.conn_machine.specs.declared.event.Event.TheVariants as event;
-ghost use Rattle.board.specs.Faults.{IsNotTakenFor, IsOpen};
+ghost use Rattle.board_book.specs.Faults.{IsNotTakenFor, IsOpen};
 ghost use Rattle.board.specs.SlotsInside.{AreUsedAlike};
 
-use crate::book::Book;
-use crate::faults::AcceptFault;
+use board_book::{AcceptFault, Book};
 use conn_machine::laws::connections_go_to_the_chosen_child;
 use conn_slots::Slots;
 use mpm_base::ConnName;

@@ -22,21 +22,22 @@ ghost use Rattle.conn_state.specs.Answered.{IsEnded, MayLinger};
 ghost use Rattle.conn_state.specs.Conn.{SeenConn};
 ghost use Rattle.conn_state.specs.Known.{IsOfClient};
 ghost use Rattle.board.specs.Backed.{BacksWait};
-ghost use Rattle.board.specs.Book.{AddsOnly, book_with_entry, row_in};
+ghost use Rattle.board_book.specs.Book.{AddsOnly, book_with_entry, row_in};
 ghost use Rattle.board.specs.Board.{Agrees, AreOfOutside, conn_at, folded_board};
-ghost use Rattle.board.specs.Editions.{IsOfGeneration, UsedHaveEditions, edition_of, orders_in};
-ghost use Rattle.board.specs.Events.{IsAdded, IsDecided, IsTaken, with_recorded};
-ghost use Rattle.board.specs.Faults.{IsNotTakenFor, IsRefusedFor};
-ghost use Rattle.board.specs.Finds.{cause_of};
+ghost use Rattle.board_book.specs.Editions.{UsedHaveEditions, edition_of, orders_in};
+ghost use Rattle.board.specs.Editions.{IsOfGeneration};
+ghost use Rattle.board_book.specs.Decided.{IsDecided};
+ghost use Rattle.board.specs.Events.{IsAdded, IsTaken, with_recorded};
+ghost use Rattle.board_book.specs.Faults.{IsNotTakenFor, IsRefusedFor};
+ghost use Rattle.board_book.specs.Finds.{cause_of};
 ghost use Rattle.board.specs.Fits.{FoundNoMore, IsClosing, IsOnItsWay, IsTakenUp, IsOf, IsSettled};
 
 use crate::accept::slot_for_accept;
-use crate::book::Book;
 use crate::conns::{put_back, take_out};
-use crate::faults::{AcceptFault, BoardFault};
 use crate::laws::generations_keep_their_editions;
 use crate::report_line::further_lines;
 use crate::waits::wait_in_queue;
+use board_book::{AcceptFault, BoardFault, Book};
 use conn_machine::laws_of_runs::rows_change_one_at_a_time;
 use conn_machine::{Commanded, Entry, Event, Folded, Kept, Reply, State, Totals, Why};
 use conn_slots::Slots;
@@ -48,7 +49,7 @@ use std::marker::{Model, PhantomData};
 use timeout_queues::Queues;
 
 /// The connection that was taken.
-#[derive(Clone, Copy, Debug, PartialEq, Eq)]
+#[derive(Clone, Copy)]
 pub struct Taken {
     /// Its name.
     pub name: ConnName,
@@ -133,13 +134,16 @@ impl<L: Link, N: Known> Board<L, N> {
         ensures ended { IfOk result (λ board. board.ended ≡ []) }
         ensures edition { IfOk result (λ board. edition_of board.book 0 ≡ Some 0) }
     {
+        let conns = Slots::make(alloc, slots)?;
+        let queues = Queues::make(alloc, slots)?;
+        // the book comes last, so that no way out lets go of it
         let book = Book::open(alloc, slots, children, passes, shape)?;
         let parts = Parts {
             alloc,
             book,
-            conns: Slots::make(alloc, slots)?,
+            conns,
             ended: Vec::new(alloc),
-            queues: Queues::make(alloc, slots)?,
+            queues,
         };
         let Ok(parts) = Box::new(alloc, parts) else {
             return Err(NoMemory);

@@ -1,7 +1,7 @@
 //! The lines that a report has for connections that ended.
 ghost use Rattle.std.specs.Prelude.{◌≡◌, ◌++◌, map, IfOk, OnOk};
 ghost use Rattle.conn_machine.specs.Folds.{lines_after};
-ghost use Rattle.board.specs.BookInside.{lines_then};
+ghost use Rattle.board_book.specs.BookInside.{lines_then};
 ghost use Rattle.board.specs.ReportLine as line;
 
 use conn_state::Ended;

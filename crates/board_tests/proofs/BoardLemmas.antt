@@ -18,9 +18,9 @@ use Rattle.table_rule.specs.declared.view.View.{View}
 use Rattle.table_rule.specs.Ledgers.{IsSplit, MayGiveBack}
 use Rattle.table_rule.specs.Tie.{IsNew}
 use Rattle.board_lock.specs.Passes.{HasNoTurn, TookTurn, fresh_view}
-use Rattle.board.specs.declared.faults.BoardFault.{BoardFault}
+use Rattle.board_book.specs.declared.faults.BoardFault.{BoardFault}
 use Rattle.board.specs.Board.{SeenBoard}
-use Rattle.board.specs.Book.{AddsOnly, entry_of}
+use Rattle.board_book.specs.Book.{AddsOnly, entry_of}
 use Rattle.board.specs.Events.{IsAdded, with_recorded}
 use Rattle.board.specs.Ledger.{ledger_of}
 use Rattle.board.specs.ReportLine.{line_of}

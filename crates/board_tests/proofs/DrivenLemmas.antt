@@ -25,8 +25,8 @@ use Rattle.conn_state.specs.Turns.{LingersOn, ReadsOn, WritesOn, is_linger_late}
 use Rattle.board.specs.Backed.{AreBacked, BacksWait, waits_to_read, waits_to_write}
 use Rattle.board.specs.Board.{SeenBoard}
 use Rattle.board.specs.BoardLaws.{WaitsAreBackedByCalls}
-use Rattle.board.specs.Book.{SeenBook, book_with_entry, entry_of}
-use Rattle.board.specs.Finds.{cause_of}
+use Rattle.board_book.specs.Book.{SeenBook, book_with_entry, entry_of}
+use Rattle.board_book.specs.Finds.{cause_of}
 use Rattle.board.specs.Fits.{IsOf, IsSettled, IsSettledFrom, IsTakenUp, WaitsAs}
 
 -- a connection that was handed out is the one of its row

@@ -11,7 +11,7 @@ use Rattle.conn_state.specs.declared.turn.LastTurn.{LastTurn}
 use Rattle.conn_state.specs.declared.turn.LastTurn.TheVariants as turn
 use Rattle.conn_state.specs.Replies.{IsNoteFor}
 use Rattle.conn_state.specs.Turns.{IsNoteOf}
-use Rattle.board.specs.Events.{IsDecided}
+use Rattle.board_book.specs.Decided.{IsDecided}
 
 -- a page is there where it was asked for
 page_there : (asked : Bool) (page : Snapshot) → is_some (if asked then Some page else None) ≡ asked

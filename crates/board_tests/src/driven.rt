@@ -11,8 +11,8 @@ ghost use Rattle.conn_state.specs.declared.turn.LastLinger.TheVariants as linger
 ghost use Rattle.conn_state.specs.Answered.{IsShown, MayLinger};
 ghost use Rattle.conn_state.specs.Conn.{is_usable, lingers};
 ghost use Rattle.board.specs.Backed.{BacksWait, waits_to_read};
-ghost use Rattle.board.specs.Book.{row_in};
-ghost use Rattle.board.specs.Finds.{cause_of};
+ghost use Rattle.board_book.specs.Book.{row_in};
+ghost use Rattle.board_book.specs.Finds.{cause_of};
 ghost use Rattle.board.specs.Fits.{FoundNoMore, IsOf, IsSettled};
 
 use crate::clients::link_of;
@@ -76,7 +76,7 @@ struct InHand {
 impl Model for InHand {
     ghost use Rattle.std.specs.Prelude.{◌≡◌, ◌<◌, true, Some};
     ghost use Rattle.board.specs.Board.{SeenBoard};
-    ghost use Rattle.board.specs.Book.{row_in};
+    ghost use Rattle.board_book.specs.Book.{row_in};
     ghost use Rattle.board.specs.Fits.{IsOf};
     ghost use Rattle.conn_state.specs.Conn.{SeenConn, is_usable};
     ghost use Rattle.conn_state.specs.declared.turn.LastLinger.TheVariants as linger;
@@ -100,7 +100,7 @@ impl Model for Lingering {
     ghost use Rattle.std.specs.Prelude.{◌≡◌, ◌<◌, true, Some};
     ghost use Rattle.mpm_base.specs.declared.conn.Cause.{Cause};
     ghost use Rattle.board.specs.Board.{SeenBoard};
-    ghost use Rattle.board.specs.Book.{row_in};
+    ghost use Rattle.board_book.specs.Book.{row_in};
     ghost use Rattle.board.specs.Fits.{IsOf, LingersFor};
     ghost use Rattle.conn_state.specs.Conn.{SeenConn};
 

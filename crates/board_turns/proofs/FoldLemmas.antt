@@ -12,7 +12,7 @@ use Rattle.table_rule.specs.declared.view.View.{View}
 use Rattle.table_rule.specs.Ledgers.{FoldsOn, KeepsOn}
 use Rattle.board_lock.specs.Passes.{GaveBack, TookTurn}
 use Rattle.board.specs.Board.{SeenBoard, folded_board}
-use Rattle.board.specs.Book.{entry_of}
+use Rattle.board_book.specs.Book.{entry_of}
 use Rattle.board.specs.Ledger.{ledger_of}
 use Rattle.board_turns.specs.Rests.{TurnsRestOn}
 use Rattle.board_turns.specs.Turns.{HadTurn}

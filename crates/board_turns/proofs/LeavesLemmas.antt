@@ -38,16 +38,17 @@ use Rattle.conn_state.specs.Replies.{IsNoteFor}
 use Rattle.conn_state.specs.Turns.{IsNoteOf, ReadsOn, ShutsOn, TakesNote, WritesOn, after_reading}
 use Rattle.table_rule.specs.declared.view.View.{View}
 use Rattle.board_lock.specs.Passes.{GaveBack, TookTurn}
-use Rattle.board.specs.declared.faults.BoardFault.{BoardFault}
-use Rattle.board.specs.declared.faults.BoardFault.TheVariants as fault
+use Rattle.board_book.specs.declared.faults.BoardFault.{BoardFault}
+use Rattle.board_book.specs.declared.faults.BoardFault.TheVariants as fault
 use Rattle.board.specs.Backed.{BacksWait}
 use Rattle.board.specs.Board.{SeenBoard}
 use Rattle.board.specs.BoardLaws.{WaitsAreBackedByCalls}
-use Rattle.board.specs.Book.{AddsOnly, SeenBook}
+use Rattle.board_book.specs.Book.{AddsOnly, SeenBook}
 use Rattle.board.specs.Editions.{IsOfGeneration}
-use Rattle.board.specs.Events.{IsAdded, IsDecided}
-use Rattle.board.specs.Faults.{IsRefusedFor}
-use Rattle.board.specs.Finds.{cause_of}
+use Rattle.board_book.specs.Decided.{IsDecided}
+use Rattle.board.specs.Events.{IsAdded}
+use Rattle.board_book.specs.Faults.{IsRefusedFor}
+use Rattle.board_book.specs.Finds.{cause_of}
 use Rattle.board.specs.Fits.{IsClosing, IsOf, IsSettled}
 use Rattle.board.specs.Ledger.{ledger_of}
 use Rattle.worker_group.specs.declared.service.Exit.{Exit}

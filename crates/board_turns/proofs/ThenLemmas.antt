@@ -25,7 +25,7 @@ use Rattle.table_rule.specs.declared.view.View.{View}
 use Rattle.table_rule.specs.declared.view.Who.{Who}
 use Rattle.board_lock.specs.Passes.{GaveBack, TookTurn}
 use Rattle.board.specs.Board.{SeenBoard}
-use Rattle.board.specs.Book.{SeenBook, entry_of}
+use Rattle.board_book.specs.Book.{SeenBook, entry_of}
 use Rattle.board.specs.Editions.{IsOfGeneration}
 use Rattle.board.specs.Fits.{IsSettledFrom, IsTakenUp, WaitsAs}
 use Rattle.board.specs.Ledger.{ledger_of}

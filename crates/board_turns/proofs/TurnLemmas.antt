@@ -26,12 +26,13 @@ use Rattle.conn_state.specs.declared.turn.LastTurn.TheVariants as last_turn
 use Rattle.conn_state.specs.Answered.{IsEndOf, SeenEnded}
 use Rattle.conn_state.specs.Conn.{SeenConn}
 use Rattle.conn_state.specs.Turns.{TakesNote}
-use Rattle.board.specs.declared.faults.BoardFault.{BoardFault}
-use Rattle.board.specs.declared.faults.BoardFault.TheVariants as fault
+use Rattle.board_book.specs.declared.faults.BoardFault.{BoardFault}
+use Rattle.board_book.specs.declared.faults.BoardFault.TheVariants as fault
 use Rattle.board.specs.Board.{SeenBoard}
-use Rattle.board.specs.Book.{AddsOnly, SeenBook}
-use Rattle.board.specs.Events.{IsAdded, IsDecided}
-use Rattle.board.specs.Faults.{IsRefusedFor}
+use Rattle.board_book.specs.Book.{AddsOnly, SeenBook}
+use Rattle.board_book.specs.Decided.{IsDecided}
+use Rattle.board.specs.Events.{IsAdded}
+use Rattle.board_book.specs.Faults.{IsRefusedFor}
 use Rattle.board.specs.Ledger.{ledger_of}
 use Rattle.board_turns.specs.Books.{book_of}
 use Rattle.board_turns.specs.Carries.{LackedResponse, TookResponse, WasRefused}

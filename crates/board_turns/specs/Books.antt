@@ -6,7 +6,7 @@ use Rattle.conn_machine.specs.Folds.{opening_record}
 use Rattle.conn_machine.specs.Runs.{after}
 use Rattle.table_rule.specs.declared.view.Origin.{Origin}
 use Rattle.table_rule.specs.declared.view.View.{View}
-use Rattle.board.specs.Book.{SeenBook}
+use Rattle.board_book.specs.Book.{SeenBook}
 
 -- the book of a history from its origin on, of which nothing was folded
 abbrev pub whole_book : Origin → List Entry → SeenBook

@@ -17,12 +17,12 @@ use Rattle.conn_state.specs.Conn.{SeenConn}
 use Rattle.conn_state.specs.Known.{KnownOutside}
 use Rattle.conn_state.specs.Turns.{TakesNote}
 use Rattle.table_rule.specs.declared.view.View.{View}
-use Rattle.board.specs.declared.faults.BoardFault.{BoardFault}
-use Rattle.board.specs.declared.faults.BoardFault.TheVariants as fault
+use Rattle.board_book.specs.declared.faults.BoardFault.{BoardFault}
+use Rattle.board_book.specs.declared.faults.BoardFault.TheVariants as fault
 use Rattle.board.specs.Backed.{BacksWait}
 use Rattle.board.specs.Editions.{IsOfGeneration}
-use Rattle.board.specs.Events.{IsDecided}
-use Rattle.board.specs.Faults.{IsRefusedFor}
+use Rattle.board_book.specs.Decided.{IsDecided}
+use Rattle.board_book.specs.Faults.{IsRefusedFor}
 use Rattle.board.specs.Fits.{IsTakenUp, WaitsAs}
 use Rattle.worker_group.specs.declared.service.Exit.{Exit}
 use Rattle.worker_group.specs.declared.service.Exit.TheVariants as exit

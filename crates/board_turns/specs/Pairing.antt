@@ -3,8 +3,8 @@ use Rattle.std.specs.Prelude.{◌≡◌, ℕ, true, false, [], ◌∷◌, None}
 use Rattle.conn_machine.specs.declared.event.Event.TheVariants as event
 use Rattle.table_rule.specs.declared.view.View.{View}
 use Rattle.idle_workers.specs.Found.{ReleasesPermit, ReservesPermit}
-use Rattle.board.specs.Faults.{IsRefusedFor}
-use Rattle.board.specs.Finds.{FindsRow, is_due_of}
+use Rattle.board_book.specs.Faults.{IsRefusedFor}
+use Rattle.board_book.specs.Finds.{FindsRow, is_due_of}
 use Rattle.board_turns.specs.declared.pairing.NotPaired.{NotPaired}
 use Rattle.board_turns.specs.declared.pairing.NotPaired.TheVariants as not_paired
 use Rattle.board_turns.specs.Books.{book_of, state_of}

@@ -9,7 +9,7 @@ use std::marker::Model;
 const MOST: usize = 512;
 
 /// The text of an answer, at most 512 bytes, as contracts see it: the list of these.
-#[derive(Debug, Drop)]
+#[derive(Drop)]
 pub struct AnswerText {
     bytes: ArrayVec<u8, 512>,
 }

@@ -10,7 +10,7 @@ use mpm_base::{NoMemory, Words};
 use std::alloc::{AllocError, Global};
 
 /// The values that the words give to the options of the command, as texts.
-#[derive(Clone, Copy, Debug)]
+#[derive(Clone, Copy)]
 pub struct Options<'a> {
     /// FILE of `--script FILE`.
     pub script: Option<&'a str>,

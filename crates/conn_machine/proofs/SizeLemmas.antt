@@ -124,6 +124,10 @@ sizes_step s s' e made = subst (HasSizesOf s) (sym made) record {
   signals = length-signals s e;
 }
 
+-- so does one that stays
+pub sizes_same : (s s' : State) → s' ≡ s → HasSizesOf s s'
+sizes_same s s' same = subst (HasSizesOf s) (sym same) record { rows = refl; children = refl; signals = refl }
+
 -- so does a history
 pub sizes-after : (s : State) (history : List Entry) → HasSizesOf s (after s history)
 sizes-after s [] = record { rows = refl; children = refl; signals = refl }

@@ -154,7 +154,7 @@ impl PassRows {
 }
 
 /// What is still known of the entries that were folded. Each number counts them alone.
-#[derive(Debug, Drop)]
+#[derive(Drop)]
 pub struct Folded {
     /// How many there were.
     pub entries: u64,

@@ -15,7 +15,7 @@ use mpm_base::{Ask, Cause, ConnName, Kind, Moment, NoMemory, Note, Shape};
 use std::alloc::Global;
 
 /// What a step replies, and the note of the response that it decided, where it decided one.
-#[derive(Debug, Drop)]
+#[derive(Drop)]
 pub struct Stepped {
     /// The reply.
     pub reply: Reply,
@@ -53,7 +53,7 @@ pub fn step(alloc: Global, state: &mut State, event: &Event) -> Result<Reply, No
 }
 
 /// Does the same, and gives the note of the response that was decided too: so one that is the status page is made once.
-#[tactic(auto, using(crate::proofs::SoundRuns::sound_step, crate::proofs::SizeLemmas::sizes_step, crate::proofs::SizeLemmas::sized_step))]
+#[tactic(auto, using(crate::proofs::SoundRuns::sound_step, crate::proofs::SizeLemmas::sizes_step, crate::proofs::SizeLemmas::sizes_same, crate::proofs::SizeLemmas::sized_step))]
 pub fn step_and_note(alloc: Global, state: &mut State, event: &Event) -> Result<Stepped, NoMemory>
     requires allowed { table.is_allowed state.old event.now ≡ true }
     requires few_rows { length state.old.rows ≤ 8192 }
@@ -67,6 +67,24 @@ pub fn step_and_note(alloc: Global, state: &mut State, event: &Event) -> Result<
     ensures sound { IsSound state.old → IsSound state.new }
     ensures sizes { HasSizesOf state.old state.new }
     ensures sized { IsSized state.old → IsSized state.new }
+{
+    match make(alloc, state, event) {
+        Ok(stepped) => Ok(stepped),
+        Err(NoMemory) => Err(NoMemory),
+    }
+}
+
+/// What the event does to the state, and what is replied, without what follows of that for states that are sound or sized.
+fn make(alloc: Global, state: &mut State, event: &Event) -> Result<Stepped, NoMemory>
+    requires allowed { table.is_allowed state.old event.now ≡ true }
+    requires few_rows { length state.old.rows ≤ 8192 }
+    requires few_children { length state.old.children ≤ 32 }
+    requires signals { length state.old.signals ≡ length state.old.rows }
+    ensures state { OnOk result (state.new ≡ table.next state.old event.now) }
+    ensures reply { IfOk result (λ stepped. stepped.reply ≡ table.reply state.old event.now) }
+    ensures note { IfOk result (λ stepped. stepped.note ≡ table.note_made state.old event.now) }
+    ensures err { OnErr result (state.new ≡ state.old) }
+    ensures sure { table.takes_memory event.now ≡ false → IsOk result }
 {
     match *event {
         Event::Accept(slot) => Ok(Stepped::of(accept(state, slot))),

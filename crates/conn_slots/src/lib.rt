@@ -23,7 +23,7 @@ use std::mem;
 
 /// A table of slots, as contracts see it: of each slot its life, and the item that it has; and which slot is
 /// given next.
-#[derive(Debug, Drop)]
+#[derive(Drop)]
 pub struct Slots<T> {
     entries: Vec<Entry<T>>,
     // The first of the list of vacant entries, and how many there are.
@@ -31,7 +31,7 @@ pub struct Slots<T> {
     free: u32,
 }
 
-#[derive(Debug, Drop)]
+#[derive(Drop)]
 struct Entry<T> {
     // Up to 2^32, where the slot had its last life.
     life: u64,

@@ -14,7 +14,7 @@ use mpm_base::{Ask, Link, NoMemory};
 use std::alloc::Global;
 
 /// What a turn of reading answers, and the plan of the response.
-#[derive(Debug, Drop)]
+#[derive(Drop)]
 pub struct ReadAnswer {
     /// The answer.
     pub turn: ReadTurn,

@@ -25,7 +25,7 @@ use std::marker::Model;
 use std::mem;
 
 /// What a turn of reading found.
-#[derive(Clone, Copy, Debug, PartialEq, Eq)]
+#[derive(Clone, Copy)]
 pub enum RequestAnswer {
     /// The next request is whole, or refused.
     Item,

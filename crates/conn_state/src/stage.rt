@@ -2,7 +2,7 @@
 use http_read::{BodyReader, HeadReader, Request};
 
 /// How far the next request was read.
-#[derive(Debug, Drop)]
+#[derive(Drop)]
 pub enum Stage {
     /// Its head isn't whole.
     Head(HeadReader),

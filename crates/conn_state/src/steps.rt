@@ -14,7 +14,7 @@ use http_read::{BodyAnswer, BodyReader, HeadAnswer, HeadReader, Request};
 use std::alloc::Global;
 
 /// What the bytes that are there say of the next request.
-#[derive(Clone, Copy, Debug, PartialEq, Eq)]
+#[derive(Clone, Copy)]
 pub enum StepAnswer {
     /// It is whole.
     Whole,

@@ -4,7 +4,7 @@ ghost use Rattle.http_core.specs.Code as spec;
 ghost use Rattle.http_core.specs.Code.{refuses_head};
 
 /// The code of a response (RFC 9110, section 15).
-#[derive(Clone, Copy, Debug, PartialEq, Eq)]
+#[derive(Clone, Copy)]
 pub enum Code {
     /// Section 15.3.1.
     Ok,

@@ -7,7 +7,7 @@ use crate::code::Code;
 use mpm_base::Octets;
 
 /// A part of a file of a site: its bytes from one place up to another, which isn't one of them.
-#[derive(Clone, Copy, Debug, PartialEq, Eq)]
+#[derive(Clone, Copy)]
 pub struct FilePart {
     /// The place of the file in the site.
     pub file: u32,
@@ -20,7 +20,7 @@ pub struct FilePart {
 }
 
 /// What a request is served.
-#[derive(Debug, Drop)]
+#[derive(Drop)]
 pub enum Served {
     /// The whole file (RFC 9110, section 15.3.1).
     Whole(FilePart),
@@ -39,7 +39,7 @@ pub enum Served {
 }
 
 /// The plan of a response.
-#[derive(Debug, Drop)]
+#[derive(Drop)]
 pub struct Plan {
     /// What is served: a file, a part of one, or an answer of the server's own.
     pub served: Served,

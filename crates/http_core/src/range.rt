@@ -10,7 +10,7 @@ use mpm_base::{is_same_ignoring_case, number_in_digits};
 const MOST_DIGITS: usize = 18;
 
 /// A range of bytes (RFC 9110, section 14.1.2).
-#[derive(Clone, Copy, Debug, PartialEq, Eq)]
+#[derive(Clone, Copy)]
 pub enum Range {
     /// From the one position to the other, which is one of them.
     Between(u64, u64),
@@ -21,7 +21,7 @@ pub enum Range {
 }
 
 /// What a range selects of a file.
-#[derive(Clone, Copy, Debug, PartialEq, Eq)]
+#[derive(Clone, Copy)]
 pub enum Selection {
     /// The whole file: the range is ignored.
     Whole,

@@ -17,7 +17,7 @@ use mpm_base::{NoMemory, Note, Octets};
 use std::alloc::Global;
 
 /// What follows the head of a response.
-#[derive(Debug, Drop)]
+#[derive(Drop)]
 pub enum Body {
     /// Nothing.
     Nothing,
@@ -41,7 +41,7 @@ impl Body {
 }
 
 /// A response, its head as bytes.
-#[derive(Debug, Drop)]
+#[derive(Drop)]
 pub struct Reply {
     /// The head, with the empty line behind it.
     pub head: Octets,

@@ -3,6 +3,7 @@ use Rattle.std.proofs.Common.{◌≡◌, ◌≢◌, ℕ, ◌+◌, ◌*◌, ◌<�
 use Rattle.std.specs.Prelude.{if◌then◌else◌, ◌==◌, ◌||◌, nat_lt}
 use Rattle.std.specs.Char.{is_ascii_hexdigit, digit_value}
 use Rattle.std.specs.Str.Parse.{digits_value}
+use Rattle.std.proofs.lemmas.Bool.{eqb-true, eqb-false, ltb-true, ltb-false}
 use Rattle.std.proofs.lemmas.Bool.Decides.{nat_tests}
 use Rattle.std.proofs.lemmas.List.{append-nil, take_all}
 use Rattle.std.proofs.lemmas.List.Elements.{All-push, All-nil, All-head}
@@ -24,6 +25,13 @@ use Rattle.http_read.specs.ChunkStepsInside.{longer, pad_step, digit_step, exten
 pub on_test : {A : Type 0} (P : A → Type 0) (b : Bool) (x y : A) → (b ≡ true → P x) → (b ≡ false → P y) → P (if b then x else y)
 on_test P true x y f g = f refl
 on_test P false x y f g = g refl
+
+-- what tests of numbers say
+some_of : (n : ℕ) → (n == 0) ≡ false → 0 < n
+some_of n some = let differs = eqb-false n 0 some in omega (arith, differs)
+
+passes_extension : (b : ℕ) → (b == 13) ≡ false → (b == 10) ≡ false → is_extension_byte b ≡ true
+passes_extension b no_cr no_lf = rw (no_cr, no_lf) refl
 
 -- ---- a front stays open
 
@@ -101,8 +109,8 @@ longer_means : (t : List ℕ) (f : ChunkLineFront) (size extension : ℕ) (part 
     → length t ≤ 1024 → EndsInPart part t size extension → LineMeans t (longer f size extension part)
 longer_means t f size extension part len most ends =
     on_test (LineMeans t) (nat_lt (f.len + 1) 1024) _ _
-    (λ below. record { len = len; short = grind (arith, nat_tests); ends = ends })
-    (λ above. inr (grind (arith, nat_tests), subst HasNoChunkLine (sym (take_all 1024 t most)) (open_no_line t (front_open part t size extension ends))))
+    (λ below. let short = ltb-true (f.len + 1) 1024 below in record { len = len; short = omega (arith, len, short); ends = ends })
+    (λ above. let long = ltb-false (f.len + 1) 1024 above in inr (omega (arith, len, long), subst HasNoChunkLine (sym (take_all 1024 t most)) (open_no_line t (front_open part t size extension ends))))
 
 length_more : (s : List ℕ) (b n : ℕ) → n ≡ length s → n + 1 ≡ length (s ++ b ∷ [])
 length_more s b n e = omega (arith, length-append s (b ∷ []))
@@ -240,25 +248,25 @@ module _ (s : List ℕ) (f : ChunkLineFront) (b : ℕ) (len_is : f.len ≡ lengt
       on_test (LineMeans (s ++ b ∷ [])) (b == 32 || b == 9) _ _
       (λ ows. longer_front f.size 0 Pad (pad_push f.size s b ows t))
       (λ no_pad. on_test (LineMeans (s ++ b ∷ [])) (b == 59) _ _
-      (λ is. longer_front f.size 1 InExtension ([], All-nil (λ c. is_extension_byte c ≡ true), subst (λ c. IsSizeBefore f.size (s ++ b ∷ []) (c ∷ [])) (grind (arith, nat_tests)) (then_push f.size s [] b t), refl))
+      (λ is. longer_front f.size 1 InExtension ([], All-nil (λ c. is_extension_byte c ≡ true), subst (λ c. IsSizeBefore f.size (s ++ b ∷ []) (c ∷ [])) (eqb-true b 59 is) (then_push f.size s [] b t), refl))
       (λ no_semicolon. on_test (LineMeans (s ++ b ∷ [])) (b == 13) _ _
-      (λ is. longer_front f.size 0 CarriageReturn (None, tt, subst (λ c. IsSizeBefore f.size (s ++ b ∷ []) (c ∷ [])) (grind (arith, nat_tests)) (then_push f.size s [] b t), refl))
-      (λ no_cr. inl (never_behind_pad f.size s b t stops no_pad (grind (arith, nat_tests)) (grind (arith, nat_tests))))))
+      (λ is. longer_front f.size 0 CarriageReturn (None, tt, subst (λ c. IsSizeBefore f.size (s ++ b ∷ []) (c ∷ [])) (eqb-true b 13 is) (then_push f.size s [] b t), refl))
+      (λ no_cr. inl (never_behind_pad f.size s b t stops no_pad (eqb-false b 59 no_semicolon) (eqb-false b 13 no_cr)))))
 
   digits_mean : EndsInPart Digits s f.size f.extension → LineMeans (s ++ b ∷ []) (digit_step f b)
   digits_mean (few, each, value, none) =
       on_test (LineMeans (s ++ b ∷ [])) (is_ascii_hexdigit b) _ _
       (λ digit. on_test (LineMeans (s ++ b ∷ [])) (nat_lt f.len 16) _ _
       (λ fits. longer_front (f.size * 16 + digit_value b) 0 Digits (
-        grind (arith, nat_tests, length_more s b f.len len_is),
+        (let more = length_more s b f.len len_is in let below = ltb-true f.len 16 fits in omega (arith, more, below)),
         All-push (λ c. is_ascii_hexdigit c ≡ true) s b each digit,
         ap (λ n. n * 16 + digit_value b) value ∙ sym (digits_value_after_push 16 0 s b),
         refl,
       ))
-      (λ full. inl (never_long s b (grind (arith, nat_tests)) few each digit)))
+      (λ full. let above = ltb-false f.len 16 full in inl (never_long s b (omega (arith, len_is, above)) few each digit)))
       (λ no_digit. on_test (LineMeans (s ++ b ∷ [])) (f.len == 0) _ _
-      (λ none. inl (subst (λ xs. NeverHasChunkLine (xs ++ b ∷ [])) (sym (no_bytes s (grind (arith, nat_tests)))) (never_empty b no_digit)))
-      (λ some. pad_means (size_alone s f.size (grind (arith, nat_tests)) few each value) (λ _. no_digit)))
+      (λ none. inl (subst (λ xs. NeverHasChunkLine (xs ++ b ∷ [])) (sym (no_bytes s (sym len_is ∙ eqb-true f.len 0 none))) (never_empty b no_digit)))
+      (λ some. let many = some_of f.len some in pad_means (size_alone s f.size (omega (arith, len_is, many)) few each value) (λ _. no_digit)))
     where
       no_bytes : (xs : List ℕ) → length xs ≡ 0 → xs ≡ []
       no_bytes [] e = refl
@@ -267,12 +275,12 @@ module _ (s : List ℕ) (f : ChunkLineFront) (b : ℕ) (len_is : f.len ≡ lengt
   extension_means : EndsInPart InExtension s f.size f.extension → LineMeans (s ++ b ∷ []) (extension_step f b)
   extension_means (text, passes, t, count) =
       on_test (LineMeans (s ++ b ∷ [])) (b == 13) _ _
-      (λ cr. longer_front f.size f.extension CarriageReturn (Some text, passes, subst (λ c. IsSizeBefore f.size (s ++ b ∷ []) ((59 ∷ text) ++ c ∷ [])) (grind (arith, nat_tests)) (then_push f.size s (59 ∷ text) b t), count))
+      (λ cr. longer_front f.size f.extension CarriageReturn (Some text, passes, subst (λ c. IsSizeBefore f.size (s ++ b ∷ []) ((59 ∷ text) ++ c ∷ [])) (eqb-true b 13 cr) (then_push f.size s (59 ∷ text) b t), count))
       (λ no_cr. on_test (LineMeans (s ++ b ∷ [])) (b == 10) _ _
-      (λ lf. inl (subst (λ c. NeverHasChunkLine (s ++ c ∷ [])) (grind (arith, nat_tests)) (never_in_extension f.size s text passes t)))
+      (λ lf. inl (subst (λ c. NeverHasChunkLine (s ++ c ∷ [])) (sym (eqb-true b 10 lf)) (never_in_extension f.size s text passes t)))
       (λ no_lf. longer_front f.size (f.extension + 1) InExtension (
         text ++ b ∷ [],
-        All-push (λ c. is_extension_byte c ≡ true) text b passes (grind (arith, nat_tests)),
+        All-push (λ c. is_extension_byte c ≡ true) text b passes (passes_extension b no_cr no_lf),
         then_push f.size s (59 ∷ text) b t,
         omega (arith, count, length-append text (b ∷ [])),
       )))
@@ -287,8 +295,8 @@ module _ (s : List ℕ) (f : ChunkLineFront) (b : ℕ) (len_is : f.len ≡ lengt
   end_means : EndsInPart CarriageReturn s f.size f.extension → LineMeans (s ++ b ∷ []) (if b == 10 then Whole f.size f.extension else Broken)
   end_means ends =
       on_test (LineMeans (s ++ b ∷ [])) (b == 10) _ _
-      (λ lf. subst (λ c. LineMeans (s ++ c ∷ []) (Whole f.size f.extension)) (grind (arith, nat_tests)) (whole_line ends))
-      (λ no_lf. inl (never_behind_cr f.size s ends.0 b ends.1 ends.2 (grind (arith, nat_tests))))
+      (λ lf. subst (λ c. LineMeans (s ++ c ∷ []) (Whole f.size f.extension)) (sym (eqb-true b 10 lf)) (whole_line ends))
+      (λ no_lf. inl (never_behind_cr f.size s ends.0 b ends.1 ends.2 (eqb-false b 10 no_lf)))
 
   part_means : (part : ChunkLinePart) → EndsInPart part s f.size f.extension → LineMeans (s ++ b ∷ []) (part_step part f b)
   part_means Digits ends = digits_mean ends

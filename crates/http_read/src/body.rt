@@ -21,7 +21,7 @@ pub enum BodyAnswer {
 }
 
 /// Where in a body its reader stands.
-#[derive(Clone, Copy, Debug, PartialEq, Eq)]
+#[derive(Clone, Copy)]
 pub enum BodyPlace {
     /// So many bytes of a body without chunks are to come.
     Plain(u64),
@@ -38,7 +38,7 @@ pub enum BodyPlace {
 /// Each call of `feed` gets the bytes behind those that the earlier calls took. Of a chunk line or a trailer line that
 /// isn't whole none are taken, and the next call gets them again, with more behind them; the reader remembers how far it
 /// has looked into them. Behind the end of a body it takes no byte, and answers so again.
-#[derive(Clone, Copy, Debug)]
+#[derive(Clone, Copy)]
 pub struct BodyReader {
     place: BodyPlace,
 }

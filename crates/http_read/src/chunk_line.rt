@@ -8,7 +8,7 @@ use crate::sizes::GREATEST_CHUNK_LINE;
 use httparse::parse_hex_digit;
 
 /// What the front of a chunk line ends in.
-#[derive(Clone, Copy, Debug, PartialEq, Eq)]
+#[derive(Clone, Copy)]
 pub enum ChunkLinePart {
     /// The digits of the size, or nothing.
     Digits,
@@ -21,7 +21,7 @@ pub enum ChunkLinePart {
 }
 
 /// The front of a chunk line that isn't whole.
-#[derive(Clone, Copy, Debug, PartialEq, Eq)]
+#[derive(Clone, Copy)]
 pub struct ChunkLineFront {
     /// How many bytes of the line there are.
     pub len: u32,
@@ -34,7 +34,7 @@ pub struct ChunkLineFront {
 }
 
 /// What one more byte makes of the front of a chunk line.
-#[derive(Clone, Copy, Debug, PartialEq, Eq)]
+#[derive(Clone, Copy)]
 pub enum ChunkLineMove {
     /// A longer front.
     Front(ChunkLineFront),

@@ -11,7 +11,7 @@ use crate::sizes::{GREATEST_BODY, GREATEST_EXTENSIONS, MOST_TRAILERS};
 use crate::trailer_line::{TrailerFront, TrailerMove};
 
 /// What the chunks have in all.
-#[derive(Clone, Copy, Debug, PartialEq, Eq)]
+#[derive(Clone, Copy)]
 pub struct ChunkTotals {
     /// How many bytes of data.
     pub content: u64,
@@ -20,7 +20,7 @@ pub struct ChunkTotals {
 }
 
 /// Where in a chunked body the reader stands.
-#[derive(Clone, Copy, Debug, PartialEq, Eq)]
+#[derive(Clone, Copy)]
 pub enum ChunkedPlace {
     /// In a chunk line, or right before one: what the chunks before it have, and the line's front.
     Line(ChunkTotals, ChunkLineFront),
@@ -35,7 +35,7 @@ pub enum ChunkedPlace {
 }
 
 /// What further bytes make of a chunked body.
-#[derive(Clone, Copy, Debug, PartialEq, Eq)]
+#[derive(Clone, Copy)]
 pub enum ChunkedMove {
     /// The body goes on.
     On(ChunkedPlace),

@@ -12,7 +12,7 @@ use crate::whole_head::read_head;
 use std::alloc::Global;
 
 /// What the bytes of a connection say of the head of its next request.
-#[derive(Debug, Drop)]
+#[derive(Drop)]
 pub enum HeadAnswer {
     /// The bytes begin with the head of a request, which has so many bytes.
     Whole(Request, u64),

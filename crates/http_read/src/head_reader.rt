@@ -12,7 +12,7 @@ use crate::version::{Version, version_at};
 use memchr::memchr;
 
 /// Reads the head at the front of bytes that come piece by piece.
-#[derive(Clone, Copy, Debug)]
+#[derive(Clone, Copy)]
 pub struct HeadReader {
     pub(crate) limits: Limits,
     /// Where the line that isn't whole begins.
@@ -26,7 +26,7 @@ pub struct HeadReader {
 }
 
 /// What is to be known of the lines of a head beside where they end.
-#[derive(Clone, Copy, Debug, PartialEq, Eq)]
+#[derive(Clone, Copy)]
 pub(crate) struct Noted {
     /// A field line is longer than its limit.
     pub long: bool,
@@ -35,7 +35,7 @@ pub(crate) struct Noted {
 }
 
 /// How far the head at the front of the bytes goes.
-#[derive(Clone, Copy, Debug)]
+#[derive(Clone, Copy)]
 pub(crate) enum Extent {
     /// The first line is longer than its limit.
     LongLine,
@@ -48,7 +48,7 @@ pub(crate) enum Extent {
 }
 
 /// What one more line does.
-#[derive(Clone, Copy, Debug)]
+#[derive(Clone, Copy)]
 pub(crate) enum Added {
     /// The head goes on.
     Goes,

@@ -18,7 +18,7 @@ pub struct Limits {
 }
 
 /// What follows the head of a request (RFC 9112, section 6.3).
-#[derive(Clone, Copy, Debug, PartialEq, Eq)]
+#[derive(Clone, Copy, Debug)]
 pub enum BodyKind {
     /// No body.
     Nothing,
@@ -29,7 +29,7 @@ pub enum BodyKind {
 }
 
 /// The head of a request.
-#[derive(Debug, Drop)]
+#[derive(Drop)]
 pub struct Request {
     pub(crate) head: Vec<u8>,
     pub(crate) method: Span,

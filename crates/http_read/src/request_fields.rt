@@ -10,7 +10,7 @@ use httparse::spans::{HeaderSpan, Span};
 use mpm_base::is_same_ignoring_case;
 
 /// The values of the fields of one name.
-#[derive(Clone, Copy, Debug)]
+#[derive(Clone, Copy)]
 pub(crate) enum Values {
     /// No field has the name.
     Absent,

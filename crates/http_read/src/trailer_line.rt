@@ -8,7 +8,7 @@ use crate::sizes::GREATEST_TRAILER;
 use httparse::{is_header_name_token, is_header_value_token};
 
 /// What the front of such a line ends in.
-#[derive(Clone, Copy, Debug, PartialEq, Eq)]
+#[derive(Clone, Copy)]
 pub enum TrailerPart {
     /// The name of a field, or nothing.
     Name,
@@ -23,7 +23,7 @@ pub enum TrailerPart {
 }
 
 /// The front of such a line that isn't whole.
-#[derive(Clone, Copy, Debug, PartialEq, Eq)]
+#[derive(Clone, Copy)]
 pub struct TrailerFront {
     /// How many bytes of the line there are.
     pub len: u32,
@@ -32,7 +32,7 @@ pub struct TrailerFront {
 }
 
 /// What one more byte makes of it.
-#[derive(Clone, Copy, Debug, PartialEq, Eq)]
+#[derive(Clone, Copy)]
 pub enum TrailerMove {
     /// A longer front.
     Front(TrailerFront),

@@ -6,7 +6,7 @@ ghost use Rattle.http_read.specs.LookedAt.{version_at};
 use crate::lines::line_len;
 
 /// How the version at the end of a first line is read.
-#[derive(Clone, Copy, Debug, PartialEq, Eq)]
+#[derive(Clone, Copy)]
 pub(crate) enum Version {
     /// As it is written.
     Written,

@@ -6,7 +6,7 @@ use Rattle.mpm_base.specs.Store.{StoreSeen}
 use Rattle.mpm_base.specs.declared.script_line.CommandWord.{CommandWord}
 use Rattle.conn_machine.specs.declared.state.State.{State}
 use Rattle.conn_state.specs.Known.{KnownOutside}
-use Rattle.board.specs.Book.{SeenBook, row_in}
+use Rattle.board_book.specs.Book.{SeenBook, row_in}
 use Rattle.worker_group.specs.Acts.{ActsInSteps}
 use Rattle.rounds.specs.TableInside.{StandsInTime}
 use Rattle.listener.specs.CountedInside.{CountsOn}

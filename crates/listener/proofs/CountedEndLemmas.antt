@@ -18,10 +18,10 @@ use Rattle.conn_machine.specs.declared.state.State.{State}
 use Rattle.conn_machine.specs.Events.{count_events, is_order}
 use Rattle.conn_machine.specs.States.{is_over, is_serving}
 use Rattle.conn_state.specs.Known.{KnownOutside}
-use Rattle.board.specs.declared.faults.BoardFault.{BoardFault}
+use Rattle.board_book.specs.declared.faults.BoardFault.{BoardFault}
 use Rattle.board.specs.Board.{SeenBoard}
-use Rattle.board.specs.Book.{SeenBook}
-use Rattle.board.specs.Editions.{orders_in}
+use Rattle.board_book.specs.Book.{SeenBook}
+use Rattle.board_book.specs.Editions.{orders_in}
 use Rattle.worker_group.specs.Acts.{Acts, ActsInSteps}
 use Rattle.worker_group.specs.Service.{LeavesRest}
 use Rattle.rounds.specs.declared.ends.End.{End}

@@ -12,8 +12,8 @@ use Rattle.mpm_base.specs.declared.given_words.GivenWords.{GivenWords}
 use Rattle.mpm_base.specs.declared.script_line.CommandWord.{CommandWord}
 use Rattle.mpm_base.specs.declared.script_line.CommandWord.TheVariants as word
 use Rattle.conn_machine.specs.States.{is_serving}
-use Rattle.board.specs.Book.{SeenBook}
-use Rattle.board.specs.Editions.{orders_in}
+use Rattle.board_book.specs.Book.{SeenBook}
+use Rattle.board_book.specs.Editions.{orders_in}
 use Rattle.listener.specs.CountedInside.{CountsOn, CountsUntil, LacksLink}
 use Rattle.listener.specs.OrdersInside.{MayHush}
 use Rattle.listener.proofs.LineLemmas.{IsIdle, other-word}

@@ -6,8 +6,8 @@ use Rattle.conn_machine.specs.declared.event.Entry.{Entry}
 use Rattle.conn_machine.specs.declared.event.Why.TheVariants as why
 use Rattle.conn_machine.specs.declared.state.Going.{Going}
 use Rattle.conn_machine.specs.declared.state.Going.TheVariants.{Ending, Halted}
-use Rattle.board.specs.Book.{SeenBook}
-use Rattle.board.specs.declared.faults.BoardFault.{BoardFault}
+use Rattle.board_book.specs.Book.{SeenBook}
+use Rattle.board_book.specs.declared.faults.BoardFault.{BoardFault}
 use Rattle.rounds.specs.EndsInside.{HaltsAs}
 use Rattle.rounds.specs.PartsInside.{GoesDown}
 use Rattle.rounds.specs.declared.ends.End.{End}

@@ -6,7 +6,7 @@ use Rattle.http_read.specs.declared.request.Limits.{Limits}
 use Rattle.file_table.specs.Site.{SeenSite}
 use Rattle.conn_machine.specs.declared.event.Event.{Event}
 use Rattle.conn_state.specs.Known.{KnownOutside}
-use Rattle.board.specs.Book.{SeenBook}
+use Rattle.board_book.specs.Book.{SeenBook}
 use Rattle.board.specs.Editions.{GenerationsKeepTheirEditions, IsOfGeneration}
 use Rattle.worker_group.specs.Acts.{Acts}
 use Rattle.listener.specs.OrdersInside.{KnowsComing, ServesNewest}

@@ -1,7 +1,7 @@
 -- What stays of the passes where a history is folded.
 use Rattle.std.proofs.Common.{ℕ, List, ◌∙◌}
 use Rattle.conn_machine.specs.Folds.{GoesOnFrom, fold_of}
-use Rattle.board.specs.Book.{SeenBook, folded_book}
+use Rattle.board_book.specs.Book.{SeenBook, folded_book}
 use Rattle.rounds.specs.PartsInside.{NoneHas}
 
 -- no pass has a connection behind a fold, where none had one before

@@ -9,7 +9,7 @@ use Rattle.conn_machine.specs.Made.{AreMade}
 use Rattle.conn_machine.specs.Runs.{after, entries_of}
 use Rattle.conn_state.specs.Known.{KnownOutside}
 use Rattle.board.specs.Board.{AreClosed, SeenBoard}
-use Rattle.board.specs.Book.{folded_book}
+use Rattle.board_book.specs.Book.{folded_book}
 use Rattle.board.specs.ReportLine.{line_of}
 use Rattle.listener.specs.FirstNumbers.{folded_by, opened_by}
 use Rattle.listener.specs.FoldsInside.{FoldsJoin, ShowsForFolds}

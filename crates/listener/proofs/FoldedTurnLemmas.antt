@@ -3,7 +3,7 @@ use Rattle.std.proofs.Common.{ℕ, Option, ◌∙◌, ap, sym, subst}
 use Rattle.conn_machine.specs.declared.state.State.{State}
 use Rattle.conn_state.specs.Known.{KnownOutside}
 use Rattle.board.specs.Board.{SeenBoard}
-use Rattle.board.specs.Finds.{next_deadline_of}
+use Rattle.board_book.specs.Finds.{next_deadline_of}
 use Rattle.worker_group.specs.Service.{IsUp}
 use Rattle.rounds.specs.declared.ends.Rest.{Rest}
 use Rattle.listener.specs.FoldsInside.{ListensOn}

@@ -8,7 +8,7 @@ use Rattle.mpm_base.specs.declared.given_words.GivenWords.{GivenWords}
 use Rattle.mpm_base.specs.declared.script_line.CommandWord.TheVariants as word
 use Rattle.mpm_base.specs.Link.{LinkTold}
 use Rattle.conn_machine.specs.declared.state.State.{State}
-use Rattle.board.specs.declared.faults.BoardFault.{BoardFault}
+use Rattle.board_book.specs.declared.faults.BoardFault.{BoardFault}
 use Rattle.command_answers.specs.Answers.{stopping_answer}
 use Rattle.rounds.specs.declared.ends.End.{End}
 use Rattle.rounds.specs.declared.ends.End.TheVariants as end

@@ -8,7 +8,7 @@ use Rattle.mpm_base.specs.declared.conn.ConnName.{ConnName}
 use Rattle.mpm_base.specs.declared.front.Arrival.{Arrival}
 use Rattle.mpm_base.specs.declared.front.Arrival.TheVariants as arrival
 use Rattle.std.specs.Prelude.{Bool, true}
-use Rattle.board.specs.Book.{SeenBook}
+use Rattle.board_book.specs.Book.{SeenBook}
 use Rattle.listener.specs.Pace.{Brought, brought, taken}
 use Rattle.listener.specs.ShareInside.{HandsMany, MakesOneAtMost, TakesAllButOne, TakesHanded}
 

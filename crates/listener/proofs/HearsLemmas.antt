@@ -15,7 +15,7 @@ use Rattle.conn_machine.specs.Events.{count_events, is_order}
 use Rattle.conn_machine.specs.Runs.{after}
 use Rattle.conn_machine.specs.Table.{next}
 use Rattle.conn_state.specs.Known.{KnownOutside}
-use Rattle.board.specs.Book.{SeenBook}
+use Rattle.board_book.specs.Book.{SeenBook}
 use Rattle.worker_group.specs.Acts.{Acts, events_of}
 use Rattle.rounds.specs.PartsInside.{StaysTimely}
 use Rattle.listener.specs.Commands.{asked_by}

@@ -14,8 +14,9 @@ use Rattle.conn_machine.specs.declared.event.Event.{Event}
 use Rattle.conn_machine.specs.declared.event.Event.TheVariants as event
 use Rattle.conn_machine.specs.declared.state.State.{State}
 use Rattle.conn_state.specs.Known.{KnownOutside}
-use Rattle.board.specs.Book.{SeenBook, row_in}
-use Rattle.board.specs.Editions.{GenerationsKeepTheirEditions, orders_in}
+use Rattle.board_book.specs.Book.{SeenBook, row_in}
+use Rattle.board_book.specs.Editions.{orders_in}
+use Rattle.board.specs.Editions.{GenerationsKeepTheirEditions}
 use Rattle.worker_group.specs.Acts.{Acts, ActsInSteps}
 use Rattle.listener.specs.Commands.{asked_in, asks_to_end, stop_line}
 use Rattle.listener.specs.ListenInside.{Follows, HasNoneToHeed, HasOneToHeed, IsInStep, OnlyReads, StaysWatching}

@@ -15,9 +15,9 @@ use Rattle.conn_machine.specs.declared.state.Going.TheVariants.{Serving}
 use Rattle.conn_machine.specs.Children.{is_empty}
 use Rattle.conn_machine.specs.States.{is_halted, is_over, is_serving, pick_child}
 use Rattle.conn_machine.specs.Table.{next}
-use Rattle.board.specs.Book.{SeenBook}
-use Rattle.board.specs.Finds.{acceptable}
-use Rattle.board.specs.declared.faults.BoardFault.{BoardFault}
+use Rattle.board_book.specs.Book.{SeenBook}
+use Rattle.board_book.specs.Finds.{acceptable}
+use Rattle.board_book.specs.declared.faults.BoardFault.{BoardFault}
 use Rattle.worker_group.specs.declared.service.Exit.{Exit}
 use Rattle.worker_group.specs.declared.service.Exit.TheVariants as exit
 use Rattle.worker_group.specs.Acts.{Acts, ActsInSteps}

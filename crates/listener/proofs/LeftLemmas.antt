@@ -5,7 +5,7 @@ use Rattle.conn_machine.specs.declared.event.Why.TheVariants as why
 use Rattle.conn_machine.specs.declared.state.Going.{Going}
 use Rattle.conn_machine.specs.declared.state.Going.TheVariants.{Halted}
 use Rattle.conn_machine.specs.declared.state.State.{State}
-use Rattle.board.specs.Book.{SeenBook}
+use Rattle.board_book.specs.Book.{SeenBook}
 use Rattle.board.specs.Board.{SeenBoard, AreOfOutside, EndedOfOutside}
 use Rattle.run_report.specs.EndingsInside.{IsEnd}
 use Rattle.listener.specs.Stops.{HasEnded, StoppedFor}
@@ -15,7 +15,8 @@ use Rattle.mpm_base.specs.Store.{StoreSeen, StoreTold}
 use Rattle.conn_machine.specs.declared.event.Entry.{Entry}
 use Rattle.conn_state.specs.Answered.{SeenEnded}
 use Rattle.conn_state.specs.Known.{KnownOutside}
-use Rattle.board.specs.Editions.{GenerationsKeepTheirEditions, KeepsEditions}
+use Rattle.board_book.specs.Editions.{KeepsEditions}
+use Rattle.board.specs.Editions.{GenerationsKeepTheirEditions}
 use Rattle.listener.specs.Counted.{CountsRun, GivesNoEnding}
 use Rattle.listener.specs.HeardInside.{WritesOn}
 use Rattle.listener.specs.RunsInside.{BacksWaits, HasRunBy, open_lines_of}

@@ -18,7 +18,7 @@ use Rattle.conn_machine.specs.Runs.{after}
 use Rattle.conn_machine.specs.Shown.{totals_of}
 use Rattle.conn_machine.specs.States.{is_serving}
 use Rattle.conn_state.specs.Known.{KnownOutside}
-use Rattle.board.specs.Book.{SeenBook, row_in}
+use Rattle.board_book.specs.Book.{SeenBook, row_in}
 use Rattle.command_answers.specs.Answers.{ending_answer, generation_answer, open_line, status_answer, unknown_answer}
 use Rattle.run_report.specs.EndingsInside.{WritesAll}
 use Rattle.worker_group.specs.Acts.{Acts, ActsInSteps}

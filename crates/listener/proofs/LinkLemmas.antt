@@ -5,7 +5,7 @@ use Rattle.mpm_base.specs.Front.{FrontTold, IsHandedOut, IsNext, after_accept, a
 use Rattle.mpm_base.specs.Link.{LinkTold, after_close, fresh_link}
 use Rattle.mpm_base.specs.declared.front.Arrival.TheVariants as arrival
 use Rattle.conn_machine.specs.declared.state.State.{State}
-use Rattle.board.specs.declared.faults.BoardFault.{BoardFault}
+use Rattle.board_book.specs.declared.faults.BoardFault.{BoardFault}
 use Rattle.rounds.specs.declared.ends.End.{End}
 use Rattle.listener.specs.Links.{HandsOutTaken, TakesLinks, TurnsOneAway}
 use Rattle.rounds.specs.EndsInside.{HaltsAs}

@@ -9,7 +9,7 @@ use Rattle.conn_machine.specs.Runs.{after}
 use Rattle.conn_machine.specs.Sizes.{HasSizesOf}
 use Rattle.conn_state.specs.Known.{KnownOutside}
 use Rattle.board.specs.Board.{SeenBoard, folded_board}
-use Rattle.board.specs.Book.{SeenBook, folded_book}
+use Rattle.board_book.specs.Book.{SeenBook, folded_book}
 use Rattle.board.specs.Editions.{GenerationsKeepTheirEditions, HasItsEdition, IsOfGeneration}
 use Rattle.board.specs.ReportLine.{line_of}
 use Rattle.listener.specs.FoldsInside.{FoldsJoin, ListensOn, ShowsForFolds}

@@ -3,8 +3,8 @@ use Rattle.std.proofs.Common.{◌≡◌, inl, ℕ, suc, ◌+◌, true, [], Optio
 use Rattle.mpm_base.specs.Front.{Binds, FrontSeen}
 use Rattle.mpm_base.specs.Store.{StoreSeen, StoreTold}
 use Rattle.conn_state.specs.Known.{KnownOutside}
-use Rattle.board.specs.Book.{SeenBook}
-use Rattle.board.specs.Editions.{orders_in}
+use Rattle.board_book.specs.Book.{SeenBook}
+use Rattle.board_book.specs.Editions.{orders_in}
 use Rattle.listener.specs.FirstNumbersInside.{AreNumbers, opened_book}
 use Rattle.listener.specs.FoldsInside.{FoldsJoin}
 use Rattle.listener.specs.Generations.{Opening, known_edition, made_edition, renewed, head_limits_of}

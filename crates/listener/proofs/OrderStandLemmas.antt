@@ -16,7 +16,7 @@ use Rattle.conn_machine.specs.Events.{count_events, is_order}
 use Rattle.conn_machine.specs.Runs.{after}
 use Rattle.conn_machine.specs.States.{is_serving}
 use Rattle.conn_state.specs.Known.{KnownOutside}
-use Rattle.board.specs.Book.{SeenBook}
+use Rattle.board_book.specs.Book.{SeenBook}
 use Rattle.worker_group.specs.Acts.{Acts}
 use Rattle.listener.specs.Commands.{is_by_line, is_graceful_stop}
 use Rattle.listener.specs.FirstNumbers.{opened_by}

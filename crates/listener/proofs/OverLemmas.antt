@@ -5,10 +5,10 @@ use Rattle.mpm_base.specs.Front.{GoesForward, TellsOn, is_ended, moments_in, wai
 use Rattle.mpm_base.specs.declared.front.Woke.{Woke}
 use Rattle.mpm_base.specs.declared.front.Woke.TheVariants as woke
 use Rattle.conn_state.specs.Known.{KnownOutside}
-use Rattle.board.specs.declared.faults.BoardFault.{BoardFault}
+use Rattle.board_book.specs.declared.faults.BoardFault.{BoardFault}
 use Rattle.board.specs.Board.{SeenBoard}
 use Rattle.board.specs.Editions.{GenerationsKeepTheirEditions}
-use Rattle.board.specs.Finds.{next_deadline_of}
+use Rattle.board_book.specs.Finds.{next_deadline_of}
 use Rattle.worker_group.specs.Acts.{ActsInSteps}
 use Rattle.worker_group.specs.Service.{IsUp, RefusalLasts}
 use Rattle.rounds.specs.declared.ends.End.{End}

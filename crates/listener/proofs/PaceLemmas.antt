@@ -16,10 +16,10 @@ use Rattle.conn_machine.specs.Runs.{after}
 use Rattle.conn_machine.specs.Sound.{IsSound}
 use Rattle.conn_machine.specs.States.{is_serving, pick_child}
 use Rattle.conn_state.specs.Conn.{IsFrontOf}
-use Rattle.board.specs.declared.faults.BoardFault.{BoardFault}
+use Rattle.board_book.specs.declared.faults.BoardFault.{BoardFault}
 use Rattle.board.specs.Board.{SeenBoard}
-use Rattle.board.specs.Book.{SeenBook}
-use Rattle.board.specs.Finds.{acceptable, next_deadline_of}
+use Rattle.board_book.specs.Book.{SeenBook}
+use Rattle.board_book.specs.Finds.{acceptable, next_deadline_of}
 use Rattle.worker_group.specs.Acts.{Acts, ActsInSteps}
 use Rattle.rounds.specs.declared.ends.End.{End}
 use Rattle.listener.specs.declared.listen.Pause.{Pause}

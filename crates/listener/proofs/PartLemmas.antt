@@ -6,9 +6,10 @@ use Rattle.mpm_base.specs.declared.conn.ConnName.{ConnName}
 use Rattle.conn_machine.specs.declared.event.Event.{Event}
 use Rattle.conn_machine.specs.declared.event.Event.TheVariants as event
 use Rattle.conn_state.specs.Known.{KnownOutside}
-use Rattle.board.specs.declared.faults.BoardFault.{BoardFault}
-use Rattle.board.specs.Book.{SeenBook, row_in}
-use Rattle.board.specs.Editions.{GenerationsKeepTheirEditions, orders_in}
+use Rattle.board_book.specs.declared.faults.BoardFault.{BoardFault}
+use Rattle.board_book.specs.Book.{SeenBook, row_in}
+use Rattle.board_book.specs.Editions.{orders_in}
+use Rattle.board.specs.Editions.{GenerationsKeepTheirEditions}
 use Rattle.worker_group.specs.Acts.{Acts, ActsInSteps}
 use Rattle.worker_group.specs.Service.{give_up_events, left_events}
 use Rattle.worker_group.specs.declared.service.Exit.{Exit}

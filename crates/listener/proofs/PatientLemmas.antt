@@ -16,8 +16,8 @@ use Rattle.conn_machine.specs.Rows.{is_parked}
 use Rattle.conn_machine.specs.Runs.{AreEntriesOf, after, may_make}
 use Rattle.conn_machine.specs.States.{is_overdue}
 use Rattle.conn_machine.specs.Table.{next}
-use Rattle.board.specs.Book.{SeenBook}
-use Rattle.board.specs.Finds.{ending_moments, next_deadline_of}
+use Rattle.board_book.specs.Book.{SeenBook}
+use Rattle.board_book.specs.Finds.{ending_moments, next_deadline_of}
 use Rattle.worker_group.specs.Acts.{Acts}
 use Rattle.listener.specs.ListenInside.{AsksFor}
 use Rattle.rounds.specs.TableInside.{NoneOverdue}

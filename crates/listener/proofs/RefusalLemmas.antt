@@ -24,7 +24,7 @@ use Rattle.restart_control.specs.declared.reload_fault.ReloadFault.TheVariants a
 use Rattle.conn_machine.specs.declared.event.Refusal.{Refusal}
 use Rattle.conn_machine.specs.declared.event.Refusal.TheVariants as refusal
 use Rattle.conn_machine.specs.declared.state.State.{State}
-use Rattle.board.specs.Book.{SeenBook}
+use Rattle.board_book.specs.Book.{SeenBook}
 use Rattle.command_answers.specs.Answers.{conf_answer_for, conf_line, late_answer, memory_answer, name_for, refused_answer}
 use Rattle.run_opening.specs.Configured.{config_fault}
 use Rattle.run_opening.specs.Sites.{IsSiteRefusedOf}

@@ -30,14 +30,15 @@ use Rattle.rounds.specs.Timely.{is_staffed}
 use Rattle.rounds.proofs.TimelyLemmas.{not-at_end, staffed-command, still-in_time, timely-command}
 use Rattle.listener.proofs.BroughtLemmas.{brought-as}
 use Rattle.conn_state.specs.Known.{KnownOutside}
-use Rattle.board.specs.Book.{AddsOnly, SeenBook, book_with_entry, row_in}
-use Rattle.board.specs.Editions.{GenerationsKeepTheirEditions, IsOfGeneration, edition_of, orders_in}
+use Rattle.board_book.specs.Book.{AddsOnly, SeenBook, book_with_entry, row_in}
+use Rattle.board_book.specs.Editions.{edition_of, orders_in}
+use Rattle.board.specs.Editions.{GenerationsKeepTheirEditions, IsOfGeneration}
 use Rattle.worker_group.specs.Acts.{Acts, ActsInSteps}
 use Rattle.restart_control.specs.Reload.{HasCause, IsPlan}
 use Rattle.restart_control.specs.declared.plan.Plan.{Plan}
 use Rattle.restart_control.specs.declared.reload_fault.ReloadFault.{ReloadFault}
 use Rattle.restart_control.specs.declared.reload_fault.ReloadFault.TheVariants as fault
-use Rattle.board.specs.declared.faults.BoardFault.{BoardFault}
+use Rattle.board_book.specs.declared.faults.BoardFault.{BoardFault}
 use Rattle.listener.specs.FirstNumbers.{opened_by}
 use Rattle.listener.specs.Generations.{Opening, config_at, renewed, head_limits_of}
 use Rattle.listener.specs.Orders.{EndsUntil, HasShape, HasSite, IsRefusedAs, ending_by, ending_moment, may_begin, shape_by}

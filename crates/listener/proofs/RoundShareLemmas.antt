@@ -5,8 +5,8 @@ use Rattle.mpm_base.specs.Front.{FrontTold, TellsOn}
 use Rattle.mpm_base.specs.declared.script_line.CommandWord.{CommandWord}
 use Rattle.mpm_base.specs.declared.script_line.CommandWord.TheVariants as word
 use Rattle.conn_machine.specs.declared.state.State.{State}
-use Rattle.board.specs.Book.{SeenBook}
-use Rattle.board.specs.declared.faults.BoardFault.{BoardFault}
+use Rattle.board_book.specs.Book.{SeenBook}
+use Rattle.board_book.specs.declared.faults.BoardFault.{BoardFault}
 use Rattle.worker_group.specs.Acts.{Acts}
 use Rattle.rounds.specs.ClosingInside.{IsLateWay, LetsGo}
 use Rattle.rounds.specs.Moments.{known_slots, moment_for, ticks_to}

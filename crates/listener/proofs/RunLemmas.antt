@@ -20,7 +20,7 @@ use Rattle.conn_machine.specs.Events.{count_events, is_accept, is_close}
 use Rattle.conn_machine.specs.Laws.{StaysSound}
 use Rattle.conn_state.specs.Answered.{SeenEnded, IsAnswered, IsEnded}
 use Rattle.conn_state.specs.Known.{KnownOutside, TellsFrom}
-use Rattle.board.specs.Book.{SeenBook, folded_book}
+use Rattle.board_book.specs.Book.{SeenBook, folded_book}
 use Rattle.board.specs.Board.{SeenBoard, Agrees, AreEnded, EndedOfOutside}
 use Rattle.board.specs.Ranks.{AllTell, has_rank}
 use Rattle.board.specs.ReportLine.{line_of}

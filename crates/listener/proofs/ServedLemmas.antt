@@ -18,8 +18,9 @@ use Rattle.conn_machine.specs.Table.{next}
 use Rattle.conn_state.specs.Answered.{SeenEnded}
 use Rattle.conn_state.specs.Known.{IsOfEdition, KnownEdition, KnownOutside}
 use Rattle.board.specs.Board.{EndedOfOutside, SeenBoard}
-use Rattle.board.specs.Book.{SeenBook}
-use Rattle.board.specs.Editions.{GenerationsKeepTheirEditions, KeepsEditions}
+use Rattle.board_book.specs.Book.{SeenBook}
+use Rattle.board_book.specs.Editions.{KeepsEditions}
+use Rattle.board.specs.Editions.{GenerationsKeepTheirEditions}
 use Rattle.board.specs.ReportLine.{line_of}
 use Rattle.listener.specs.FirstNumbers.{folded_by, opened_by}
 use Rattle.listener.specs.Generations.{Opening, config_among, config_at, known_edition, known_editions, made_edition, renewed}

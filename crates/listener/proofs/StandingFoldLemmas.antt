@@ -4,8 +4,9 @@ use Rattle.conn_machine.specs.declared.event.Entry.{Entry}
 use Rattle.conn_state.specs.Answered.{SeenEnded}
 use Rattle.conn_state.specs.Known.{KnownOutside}
 use Rattle.board.specs.Board.{EndedOfOutside, SeenBoard}
-use Rattle.board.specs.Book.{SeenBook, folded_book}
-use Rattle.board.specs.Editions.{GenerationsKeepTheirEditions, KeepsEditions}
+use Rattle.board_book.specs.Book.{SeenBook, folded_book}
+use Rattle.board_book.specs.Editions.{KeepsEditions}
+use Rattle.board.specs.Editions.{GenerationsKeepTheirEditions}
 use Rattle.board.specs.ReportLine.{line_of}
 use Rattle.listener.specs.FirstNumbers.{opened_by}
 use Rattle.listener.specs.FoldsInside.{FoldsJoin, ShowsForFolds}

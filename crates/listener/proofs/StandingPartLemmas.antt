@@ -4,7 +4,7 @@ use Rattle.mpm_base.specs.Front.{FrontSeen}
 use Rattle.mpm_base.specs.Store.{StoreSeen}
 use Rattle.conn_machine.specs.States.{is_serving}
 use Rattle.conn_state.specs.Known.{KnownOutside}
-use Rattle.board.specs.Book.{SeenBook}
+use Rattle.board_book.specs.Book.{SeenBook}
 use Rattle.listener.specs.Generations.{Opening}
 use Rattle.listener.specs.OrdersInside.{owed_by}
 use Rattle.listener.specs.StandingInside.{Past, Standing, StandsBroken, StandsOn, StandsSo, standing}

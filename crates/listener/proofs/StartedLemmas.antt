@@ -11,7 +11,7 @@ use Rattle.conn_machine.specs.declared.state.State.{State}
 use Rattle.conn_machine.specs.Children.{no_child}
 use Rattle.conn_machine.specs.declared.event.Entry.{Entry}
 use Rattle.conn_state.specs.Answered.{SeenEnded}
-use Rattle.board.specs.Book.{SeenBook}
+use Rattle.board_book.specs.Book.{SeenBook}
 use Rattle.listener.specs.Commands.{HeedsLines, NoneStops}
 use Rattle.listener.specs.FirstNumbersInside.{AreNumbers, opened_book}
 use Rattle.listener.specs.Links.{EndsLinks, TakesLinks}

@@ -23,8 +23,8 @@ use Rattle.conn_machine.specs.Events.{count_events, is_order}
 use Rattle.conn_machine.specs.Runs.{after}
 use Rattle.conn_machine.specs.States.{is_halted}
 use Rattle.conn_state.specs.Known.{KnownOutside}
-use Rattle.board.specs.declared.faults.BoardFault.{BoardFault}
-use Rattle.board.specs.Book.{SeenBook}
+use Rattle.board_book.specs.declared.faults.BoardFault.{BoardFault}
+use Rattle.board_book.specs.Book.{SeenBook}
 use Rattle.rounds.specs.declared.ends.End.{End}
 use Rattle.rounds.specs.declared.ends.End.TheVariants as end
 use Rattle.listener.specs.Commands.{is_by_line, is_graceful_stop, stop_line}

@@ -1,7 +1,7 @@
 -- A round in which nothing was done but that time passed.
 use Rattle.std.proofs.Common.{◌≡◌, ℕ, List, [], ◌++◌, None, sym, ap, ◌∙◌, append-nil}
 use Rattle.conn_machine.specs.declared.event.Event.{Event}
-use Rattle.board.specs.Book.{SeenBook}
+use Rattle.board_book.specs.Book.{SeenBook}
 use Rattle.worker_group.specs.Acts.{Acts}
 use Rattle.rounds.specs.PartsInside.{PassesTime, time_events}
 use Rattle.listener.specs.RoundInside.{Round, round_events}

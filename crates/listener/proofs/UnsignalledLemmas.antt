@@ -10,7 +10,7 @@ use Rattle.conn_machine.specs.declared.state.State.{State}
 use Rattle.conn_machine.specs.Rows.{carried_count, is_carried_at, is_carried_by, is_held, is_lingering, is_parked, is_unused, is_with_a_pass}
 use Rattle.conn_machine.specs.Sound.{IsSound}
 use Rattle.conn_machine.specs.States.{child_of, is_signalled}
-use Rattle.board.specs.Finds.{has_to_be_drained, is_due}
+use Rattle.board_book.specs.Finds.{has_to_be_drained, is_due}
 use Rattle.rounds.specs.AtRest.{IsAtRest}
 use Rattle.listener.specs.Patient.{NoneSignalled}
 use Rattle.rounds.proofs.ListenLemmas.{count-cons}

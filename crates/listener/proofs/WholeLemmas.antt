@@ -13,7 +13,7 @@ use Rattle.conn_machine.specs.Runs.{after}
 use Rattle.conn_machine.specs.States.{unused_row}
 use Rattle.conn_state.specs.Known.{KnownOutside}
 use Rattle.board.specs.Board.{SeenBoard}
-use Rattle.board.specs.Book.{SeenBook}
+use Rattle.board_book.specs.Book.{SeenBook}
 use Rattle.worker_group.specs.Acts.{Acts}
 use Rattle.rounds.specs.PartsInside.{StartsSome, StaysTimely}
 use Rattle.rounds.specs.Started.{BeginsWithStarts, starts_of}

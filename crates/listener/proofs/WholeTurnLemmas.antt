@@ -8,8 +8,8 @@ use Rattle.mpm_base.specs.declared.script_line.CommandWord.TheVariants as word
 use Rattle.conn_machine.specs.declared.event.Entry.{Entry}
 use Rattle.conn_state.specs.Known.{KnownOutside}
 use Rattle.board.specs.Board.{SeenBoard}
-use Rattle.board.specs.Book.{SeenBook}
-use Rattle.board.specs.declared.faults.BoardFault.{BoardFault}
+use Rattle.board_book.specs.Book.{SeenBook}
+use Rattle.board_book.specs.declared.faults.BoardFault.{BoardFault}
 use Rattle.worker_group.specs.Acts.{Acts, ActsInSteps}
 use Rattle.rounds.specs.declared.ends.End.{End}
 use Rattle.rounds.specs.declared.ends.End.TheVariants as end

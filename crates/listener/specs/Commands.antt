@@ -15,7 +15,7 @@ use Rattle.conn_machine.specs.declared.event.Why.TheVariants as why
 use Rattle.conn_machine.specs.declared.state.Going.{Going}
 use Rattle.conn_machine.specs.declared.state.Going.TheVariants.{Halted}
 use Rattle.conn_machine.specs.Events.{count_events}
-use Rattle.board.specs.Book.{HasEntryOf, SeenBook}
+use Rattle.board_book.specs.Book.{HasEntryOf, SeenBook}
 use Rattle.listener.specs.Stores.{RisesBy}
 
 -- ## What was read

@@ -9,8 +9,8 @@ use Rattle.conn_machine.specs.declared.state.Going.TheVariants.{Halted}
 use Rattle.conn_machine.specs.declared.state.State.{State}
 use Rattle.conn_machine.specs.Events.{count_events}
 use Rattle.board.specs.Board.{SeenBoard}
-use Rattle.board.specs.Book.{SeenBook}
-use Rattle.board.specs.Editions.{orders_in}
+use Rattle.board_book.specs.Book.{SeenBook}
+use Rattle.board_book.specs.Editions.{orders_in}
 use Rattle.rounds.specs.ClosedDown.{IsBrokenOff}
 use Rattle.rounds.specs.Moments.{moment_for}
 use Rattle.run_report.specs.Endings.{HasEndedGracefully}

@@ -6,9 +6,9 @@ use Rattle.mpm_base.specs.declared.front.Woke.{Woke}
 use Rattle.mpm_base.specs.declared.front.Woke.TheVariants as woke
 use Rattle.conn_machine.specs.declared.state.State.{State}
 use Rattle.conn_machine.specs.States.{is_serving}
-use Rattle.board.specs.Book.{SeenBook}
-use Rattle.board.specs.Editions.{orders_in}
-use Rattle.board.specs.declared.faults.BoardFault.{BoardFault}
+use Rattle.board_book.specs.Book.{SeenBook}
+use Rattle.board_book.specs.Editions.{orders_in}
+use Rattle.board_book.specs.declared.faults.BoardFault.{BoardFault}
 use Rattle.rounds.specs.ClosedDown.{IsBrokenOff}
 use Rattle.rounds.specs.Moments.{moment_for}
 use Rattle.listener.specs.Counted.{CountsRun}

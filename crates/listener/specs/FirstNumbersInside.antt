@@ -1,7 +1,7 @@
 -- What the numbers of a run are like, and how its board opens.
 use Rattle.std.specs.Prelude.{◌≡◌, ◌≤◌, true, []}
 use Rattle.mpm_base.specs.Shape.{is_in_bounds}
-use Rattle.board.specs.Book.{SeenBook}
+use Rattle.board_book.specs.Book.{SeenBook}
 use Rattle.listener.specs.declared.run_numbers.RunNumbers.{RunNumbers}
 use Rattle.listener.specs.FirstNumbers.{folded_by, opened_by}
 

@@ -13,8 +13,9 @@ use Rattle.conn_machine.specs.States.{opening_state}
 use Rattle.conn_state.specs.Answered.{SeenEnded}
 use Rattle.conn_state.specs.Known.{KnownOutside}
 use Rattle.board.specs.Board.{Agrees, AreClosed, AreEnded, EndedOfOutside, SeenBoard}
-use Rattle.board.specs.Book.{SeenBook}
-use Rattle.board.specs.Editions.{IsOfGeneration, KeepsEditions, orders_in}
+use Rattle.board_book.specs.Book.{SeenBook}
+use Rattle.board_book.specs.Editions.{KeepsEditions, orders_in}
+use Rattle.board.specs.Editions.{IsOfGeneration}
 use Rattle.file_table.specs.Site.{SeenSite}
 use Rattle.http_read.specs.declared.request.Limits.{Limits}
 use Rattle.rounds.specs.PartsInside.{NoneHas, StaysTimely}

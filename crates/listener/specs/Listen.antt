@@ -9,7 +9,7 @@ use Rattle.conn_machine.specs.declared.event.Entry.{Entry}
 use Rattle.conn_state.specs.Answered.{SeenEnded}
 use Rattle.conn_machine.specs.Laws.{StaysSound}
 use Rattle.conn_machine.specs.Passes.{EachHasItsOwn}
-use Rattle.board.specs.Book.{SeenBook}
+use Rattle.board_book.specs.Book.{SeenBook}
 use Rattle.board.specs.Board.{SeenBoard, Agrees, AreClosed, AreEnded}
 use Rattle.board.specs.ReportLine.{line_of}
 use Rattle.listener.specs.Commands.{TellsStop}

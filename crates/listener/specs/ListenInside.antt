@@ -1,7 +1,7 @@
 -- What the listener keeps on its way, of its front, its clock and its table, and how its turns end.
-use Rattle.board.specs.Book.{SeenBook}
-use Rattle.board.specs.Finds.{acceptable}
-use Rattle.board.specs.declared.faults.BoardFault.{BoardFault}
+use Rattle.board_book.specs.Book.{SeenBook}
+use Rattle.board_book.specs.Finds.{acceptable}
+use Rattle.board_book.specs.declared.faults.BoardFault.{BoardFault}
 use Rattle.conn_machine.specs.declared.event.Entry.{Entry}
 use Rattle.conn_machine.specs.States.{is_halted, is_over, is_serving}
 use Rattle.conn_machine.specs.declared.state.State.{State}

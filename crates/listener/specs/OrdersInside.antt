@@ -9,8 +9,9 @@ use Rattle.conn_machine.specs.declared.event.Commanded.TheVariants.{Graceful, Re
 use Rattle.conn_machine.specs.declared.event.Event.TheVariants as event
 use Rattle.conn_machine.specs.Table.{next}
 use Rattle.conn_state.specs.Known.{KnownOutside}
-use Rattle.board.specs.Book.{SeenBook}
-use Rattle.board.specs.Editions.{IsOfGeneration, edition_of, orders_in}
+use Rattle.board_book.specs.Book.{SeenBook}
+use Rattle.board_book.specs.Editions.{edition_of, orders_in}
+use Rattle.board.specs.Editions.{IsOfGeneration}
 use Rattle.worker_group.specs.Acts.{Acts}
 use Rattle.restart_control.specs.declared.plan.Plan.{Plan}
 use Rattle.restart_control.specs.declared.reload_fault.ReloadFault.{ReloadFault}

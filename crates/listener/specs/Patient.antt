@@ -10,7 +10,7 @@ use Rattle.conn_machine.specs.declared.state.State.{State}
 use Rattle.conn_machine.specs.Rows.{is_parked}
 use Rattle.conn_machine.specs.States.{is_signalled}
 use Rattle.mpm_base.specs.Clock.{AreEchoes}
-use Rattle.board.specs.Finds.{acceptable, next_deadline_of}
+use Rattle.board_book.specs.Finds.{acceptable, next_deadline_of}
 use Rattle.rounds.specs.Moments.{moment_for}
 use Rattle.rounds.specs.AtRest.{IsAtRest}
 use Rattle.rounds.specs.Timely.{AllAt}

@@ -5,7 +5,7 @@ use Rattle.conn_machine.specs.Runs.{after}
 use Rattle.conn_state.specs.Answered.{SeenEnded}
 use Rattle.conn_state.specs.Known.{KnownOutside}
 use Rattle.board.specs.Board.{SeenBoard}
-use Rattle.board.specs.Book.{SeenBook}
+use Rattle.board_book.specs.Book.{SeenBook}
 use Rattle.board.specs.Editions.{HasItsEdition}
 use Rattle.listener.specs.FirstNumbers.{folded_by, opened_by}
 use Rattle.listener.specs.Generations.{Opening, known_editions}

@@ -5,8 +5,8 @@ use Rattle.mpm_base.specs.Count.{greatest_count}
 use Rattle.mpm_base.specs.Front.{FrontTold, TellsOn}
 use Rattle.mpm_base.specs.declared.script_line.CommandWord.{CommandWord}
 use Rattle.mpm_base.specs.declared.script_line.CommandWord.TheVariants as word
-use Rattle.board.specs.Book.{SeenBook}
-use Rattle.board.specs.declared.faults.BoardFault.{BoardFault}
+use Rattle.board_book.specs.Book.{SeenBook}
+use Rattle.board_book.specs.declared.faults.BoardFault.{BoardFault}
 use Rattle.listener.specs.Commands.{asked_by, asks_to_end}
 use Rattle.listener.specs.Pace.{Brought, IsCutShort, IsUnsignalled, Share, brought, lines_between, made_from, made_of, ordered, taken}
 use Rattle.rounds.specs.declared.ends.End.{End}

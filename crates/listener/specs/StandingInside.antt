@@ -10,8 +10,8 @@ use Rattle.conn_machine.specs.States.{is_serving}
 use Rattle.conn_state.specs.Answered.{SeenEnded}
 use Rattle.conn_state.specs.Known.{KnownEdition, KnownOutside}
 use Rattle.board.specs.Board.{EndedOfOutside}
-use Rattle.board.specs.declared.faults.BoardFault.{BoardFault}
-use Rattle.board.specs.Book.{SeenBook}
+use Rattle.board_book.specs.declared.faults.BoardFault.{BoardFault}
+use Rattle.board_book.specs.Book.{SeenBook}
 use Rattle.listener.specs.Commands.{is_by_line, is_graceful_stop}
 use Rattle.listener.specs.FirstNumbers.{opened_by}
 use Rattle.listener.specs.Generations.{Opening, config_at, made_edition, renewed}

@@ -7,7 +7,7 @@ use Rattle.conn_machine.specs.Events.{count_events}
 use Rattle.conn_machine.specs.declared.event.Entry.{Entry}
 use Rattle.conn_machine.specs.declared.state.Going.TheVariants.{Serving}
 use Rattle.conn_state.specs.Known.{KnownOutside}
-use Rattle.board.specs.declared.faults.BoardFault.{BoardFault}
+use Rattle.board_book.specs.declared.faults.BoardFault.{BoardFault}
 use Rattle.board.specs.Board.{EndedOfOutside, SeenBoard}
 use Rattle.worker_group.specs.Service.{IsUp}
 use Rattle.rounds.specs.declared.ends.End.{End}

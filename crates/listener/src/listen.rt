@@ -11,9 +11,9 @@ ghost use Rattle.std.specs.Prelude.{◌≡◌, ◌<◌, [], ◌∷◌, ◌++◌,
 ghost use Rattle.mpm_base.specs.Count.{CountsWhere, next_count};
 ghost use Rattle.mpm_base.specs.Front.{TellsOn, Waits, after_hush, is_woken};
 ghost use Rattle.conn_state.specs.Known.{IsOfClient};
-ghost use Rattle.board.specs.Finds.{acceptable, next_deadline_of};
-ghost use Rattle.board.specs.Book.{row_in};
-ghost use Rattle.board.specs.Editions.{orders_in};
+ghost use Rattle.board_book.specs.Finds.{acceptable, next_deadline_of};
+ghost use Rattle.board_book.specs.Book.{row_in};
+ghost use Rattle.board_book.specs.Editions.{orders_in};
 ghost use Rattle.worker_group.specs.Service.{IsUp, LeavesRest, RefusalLasts};
 ghost use Rattle.listener.specs.ListenInside.{AnswersStop, AsksFor, Follows, HandsOut, HasNoneToHeed, IsArrival, IsInStep, IsKnownOfFront, ListensAsServed, OnlyReadsAndTakes, OnlyTakes, StaysWatching, TakesInTo, TellsAlike, TookAll};
 ghost use Rattle.rounds.specs.TableInside.{IsOpening, IsRestful, NoneDueLate, StandsInTime, asked_children};
@@ -51,7 +51,7 @@ use std::sync::{Arc, Wait};
 use worker_group::laws::passes_act_in_steps;
 
 /// What a wait of the front answered, and the moment behind it.
-#[derive(Clone, Copy, Debug, PartialEq, Eq)]
+#[derive(Clone, Copy)]
 pub struct Pause {
     /// What the wait answered.
     pub woke: Woke,

@@ -14,9 +14,9 @@ ghost use Rattle.mpm_base.specs.declared.script_line.CommandWord.TheVariants as 
 ghost use Rattle.conn_machine.specs.Shown.{totals_of};
 ghost use Rattle.conn_machine.specs.States.{is_serving};
 ghost use Rattle.conn_machine.specs.Table.{greatest_generation};
-ghost use Rattle.board.specs.Book.{row_in};
-ghost use Rattle.board.specs.Editions.{orders_in};
-ghost use Rattle.board.specs.Faults.{IsRefusedFor};
+ghost use Rattle.board_book.specs.Book.{row_in};
+ghost use Rattle.board_book.specs.Editions.{orders_in};
+ghost use Rattle.board_book.specs.Faults.{IsRefusedFor};
 ghost use Rattle.worker_group.specs.Service.{IsUp, RefusalLasts};
 ghost use Rattle.listener.specs.ListenInside.{Follows, HasNoneToHeed, HasOneToHeed, HasReadAll, IsInStep, OnlyReads, StaysWatching};
 ghost use Rattle.listener.specs.CountedInside.{CountsOn, CountsUntil};

@@ -9,7 +9,7 @@ use mpm_base::{Addr, Shape};
 use mpm_config::{Config, shape_of};
 
 /// The numbers of a run.
-#[derive(Clone, Copy, Debug, PartialEq, Eq)]
+#[derive(Clone, Copy)]
 pub struct RunNumbers {
     /// How many slots the table has, from 1 to 8,192.
     pub slots: u32,

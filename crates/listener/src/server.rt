@@ -48,7 +48,7 @@ pub struct ServedRun<L: Link> {
 }
 
 /// Why a server did not open.
-#[derive(Clone, Copy, Debug, PartialEq, Eq)]
+#[derive(Clone, Copy)]
 pub enum OpenFault {
     /// The front could not be bound.
     Bind,

@@ -11,7 +11,7 @@ use std::marker::Model;
 
 /// Names in the order in which they were added, as contracts see it. Where one stands first is found by a map, and so in a
 /// time that doesn't grow with their number.
-#[derive(Debug, Drop)]
+#[derive(Drop)]
 pub struct NamePlaces {
     places: HashMap<Vec<u8>, usize>,
     names: Vec<Octets>,

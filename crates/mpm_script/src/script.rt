@@ -18,7 +18,7 @@ use std::marker::Model;
 use thiserror::Error;
 
 /// A script, as it was read: a list of lines, as contracts see it.
-#[derive(Debug, Drop)]
+#[derive(Drop)]
 pub struct Script {
     items: Vec<ScriptLine>,
 }

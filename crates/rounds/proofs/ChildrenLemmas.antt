@@ -18,10 +18,10 @@ use Rattle.conn_machine.specs.declared.event.Event.{Event}
 use Rattle.conn_machine.specs.declared.event.Event.TheVariants as event
 use Rattle.conn_machine.specs.declared.folded.Folded.{Folded}
 use Rattle.conn_machine.specs.declared.state.State.{State}
-use Rattle.board.specs.Book.{SeenBook, entry_of}
+use Rattle.board_book.specs.Book.{SeenBook, entry_of}
 use Rattle.board.specs.Board.{SeenBoard}
 use Rattle.board.specs.Events.{with_recorded}
-use Rattle.board.specs.Finds.{startable}
+use Rattle.board_book.specs.Finds.{startable}
 use Rattle.rounds.specs.TableInside.{IsOpening, asked_children}
 use Rattle.rounds.specs.Started.{BeginsWithStarts, starts_of}
 use Rattle.rounds.proofs.ListenLemmas.{child-by, count-cons, is-startable}

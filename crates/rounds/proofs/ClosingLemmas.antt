@@ -12,9 +12,9 @@ use Rattle.conn_machine.specs.declared.state.State.{State}
 use Rattle.conn_machine.specs.Runs.{after}
 use Rattle.conn_machine.specs.Table.{next}
 use Rattle.conn_state.specs.Conn.{SeenConn}
-use Rattle.board.specs.declared.faults.BoardFault.{BoardFault}
-use Rattle.board.specs.Book.{SeenBook, book_with_entry, row_in, AddsOnly}
-use Rattle.board.specs.Faults.{IsRefusedFor}
+use Rattle.board_book.specs.declared.faults.BoardFault.{BoardFault}
+use Rattle.board_book.specs.Book.{SeenBook, book_with_entry, row_in, AddsOnly}
+use Rattle.board_book.specs.Faults.{IsRefusedFor}
 use Rattle.board.specs.Board.{SeenBoard}
 use Rattle.board.specs.Events.{with_recorded}
 use Rattle.worker_group.specs.declared.service.Exit.{Exit}

@@ -1,7 +1,7 @@
 -- That listening is stopped at the end, and that nothing is left to be done behind a graceful stop that is at its end.
 use Rattle.std.proofs.Common.{◌≡◌, true, [], None, Result, Ok, Err, refl}
-use Rattle.board.specs.declared.faults.BoardFault.{BoardFault}
-use Rattle.board.specs.Book.{SeenBook}
+use Rattle.board_book.specs.declared.faults.BoardFault.{BoardFault}
+use Rattle.board_book.specs.Book.{SeenBook}
 use Rattle.worker_group.specs.Acts.{ActsInSteps}
 use Rattle.rounds.specs.declared.ends.End.{End}
 use Rattle.rounds.specs.declared.ends.End.TheVariants as end

@@ -17,9 +17,9 @@ use Rattle.conn_machine.specs.Rows.{carried_count, is_lingering, is_parked, live
 use Rattle.conn_machine.specs.Runs.{after}
 use Rattle.conn_machine.specs.States.{child_of, is_overdue, is_signalled}
 use Rattle.conn_machine.specs.Table.{lingering_row, may_be_queued, next}
-use Rattle.board.specs.Book.{SeenBook}
+use Rattle.board_book.specs.Book.{SeenBook}
 use Rattle.board.specs.Board.{SeenBoard}
-use Rattle.board.specs.Finds.{FindsRow, is_due}
+use Rattle.board_book.specs.Finds.{FindsRow, is_due}
 use Rattle.worker_group.specs.declared.service.Exit.{Exit}
 use Rattle.worker_group.specs.declared.service.Exit.TheVariants as exit
 use Rattle.worker_group.specs.Acts.{Acts, ActsInSteps}

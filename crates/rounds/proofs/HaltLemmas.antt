@@ -8,9 +8,9 @@ use Rattle.conn_machine.specs.declared.state.Going.{Going}
 use Rattle.conn_machine.specs.declared.state.Going.TheVariants.{Serving, Ending, Halted}
 use Rattle.conn_machine.specs.Table.{may_command}
 use Rattle.conn_machine.specs.States.{is_halted, is_over}
-use Rattle.board.specs.declared.faults.BoardFault.{BoardFault}
+use Rattle.board_book.specs.declared.faults.BoardFault.{BoardFault}
 use Rattle.board.specs.Board.{SeenBoard}
-use Rattle.board.specs.Book.{SeenBook, row_in, AddsOnly}
+use Rattle.board_book.specs.Book.{SeenBook, row_in, AddsOnly}
 use Rattle.board.specs.Events.{with_recorded}
 use Rattle.worker_group.specs.Acts.{Acts, ActsInSteps}
 use Rattle.rounds.specs.declared.ends.End.{End}

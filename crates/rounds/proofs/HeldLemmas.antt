@@ -34,7 +34,7 @@ use Rattle.conn_state.specs.Turns.{LingersOn, after_linger, is_linger_late}
 use Rattle.board.specs.Backed.{BacksWait, waits_to_read}
 use Rattle.board.specs.BoardLaws.{WaitsAreBackedByCalls}
 use Rattle.board.specs.Fits.{Fits, FoundNoMore, IsOnItsWay, IsSettled, IsSettledFrom, IsTakenUp, LingersFor, NotesEnd, WaitsAs, WaitsForNext}
-use Rattle.board.specs.Finds.{cause_of, kind_of, waits_for}
+use Rattle.board_book.specs.Finds.{cause_of, kind_of, waits_for}
 use Rattle.worker_group.specs.InHand.{IsClosable, IsInHand}
 use Rattle.rounds.specs.ClosingInside.{IsLingeringFor, cause_of_late, tail_of}
 use Rattle.rounds.proofs.FoundLemmas.{ChangesInPlace, found-at, found-changed, found-fits, found-named, passes-found}

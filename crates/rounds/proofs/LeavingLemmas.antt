@@ -19,7 +19,7 @@ use Rattle.conn_machine.specs.Table.{direct_cause_fits, held_row, is_allowed, li
 use Rattle.conn_machine.specs.Sound.{IsSound, KindFits}
 use Rattle.conn_state.specs.Answered.{ShowsAtOnce}
 use Rattle.conn_state.specs.Conn.{SeenConn}
-use Rattle.board.specs.Finds.{cause_of, has_to_be_drained, is_let_go}
+use Rattle.board_book.specs.Finds.{cause_of, has_to_be_drained, is_let_go}
 use Rattle.board.specs.Fits.{NotesEnd}
 use Rattle.worker_group.specs.InHand.{IsClosable, IsInHand}
 use Rattle.rounds.proofs.FoundLemmas.{found-fits, lives, passes-found}

@@ -22,7 +22,7 @@ use Rattle.conn_machine.specs.Table.{closed_row, greatest_life, held_row, linger
 use Rattle.worker_group.specs.declared.service.Exit.{Exit}
 use Rattle.worker_group.specs.Service.{IsWayOut, left_events}
 use Rattle.rounds.specs.ClosingInside.{late_weight, parked_count, serving_count, signal_count, state_by}
-use Rattle.board.specs.Finds.{is_late}
+use Rattle.board_book.specs.Finds.{is_late}
 use Rattle.rounds.specs.TableInside.{NoneOverdue}
 use Rattle.rounds.proofs.FoundLemmas.{found-at, lives}
 use Rattle.rounds.proofs.ListenLemmas.{count-cons, count-less}

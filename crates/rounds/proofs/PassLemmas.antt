@@ -14,12 +14,12 @@ use Rattle.conn_machine.specs.Passes.{HasNoneInHand, OnlyServes, asking_count}
 use Rattle.conn_machine.specs.Sizes.{HasSizesOf}
 use Rattle.conn_machine.specs.Rows.{is_live, is_parked, is_unused, is_with_a_pass}
 use Rattle.conn_machine.specs.Runs.{Adds, after}
-use Rattle.board.specs.Book.{SeenBook}
+use Rattle.board_book.specs.Book.{SeenBook}
 use Rattle.board.specs.Board.{SeenBoard}
 use Rattle.worker_group.specs.Acts.{Acts, ActsInSteps, events_of}
 use Rattle.worker_group.specs.Service.{HasServed, LeavesRest, answer_events, left_events}
 use Rattle.rounds.specs.ClosedDown.{HasNoLive}
-use Rattle.board.specs.Finds.{FindsRow, is_due}
+use Rattle.board_book.specs.Finds.{FindsRow, is_due}
 use Rattle.rounds.specs.AtRest.{NoneDue}
 use Rattle.rounds.specs.TableInside.{NoneParked}
 use Rattle.rounds.specs.PartsInside.{AreServed, ServesSome}

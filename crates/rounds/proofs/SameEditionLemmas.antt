@@ -9,7 +9,7 @@ use Rattle.conn_machine.specs.Laws.{IsTakenFor}
 use Rattle.conn_machine.specs.Runs.{Run, after}
 use Rattle.conn_machine.specs.Table.{taken_reply}
 use Rattle.conn_state.specs.Known.{KnownOutside}
-use Rattle.board.specs.Book.{SeenBook, book_with_entry, entry_of}
+use Rattle.board_book.specs.Book.{SeenBook, book_with_entry, entry_of}
 use Rattle.board.specs.Editions.{IsOfGeneration}
 use Rattle.board.specs.Events.{IsTaken}
 

@@ -20,8 +20,8 @@ use Rattle.conn_machine.specs.Lists.{update}
 use Rattle.conn_machine.specs.Runs.{after}
 use Rattle.conn_machine.specs.States.{is_halted, is_serving}
 use Rattle.conn_machine.specs.Table.{child_passes, next}
-use Rattle.board.specs.Book.{SeenBook}
-use Rattle.board.specs.Finds.{startable}
+use Rattle.board_book.specs.Book.{SeenBook}
+use Rattle.board_book.specs.Finds.{startable}
 use Rattle.worker_group.specs.Acts.{Acts, ActsInSteps}
 use Rattle.rounds.specs.ClosingInside.{state_by}
 use Rattle.rounds.specs.PartsInside.{RetiresSome, StartsSome}

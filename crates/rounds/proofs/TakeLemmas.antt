@@ -14,9 +14,9 @@ use Rattle.conn_machine.specs.Children.{child_at}
 use Rattle.conn_machine.specs.States.{is_serving, pick_child}
 use Rattle.conn_machine.specs.Table.{is_allowed, next, is_vacant_at, picked_child, taken_row, life_at}
 use Rattle.conn_machine.specs.Runs.{Run, after}
-use Rattle.board.specs.Book.{SeenBook, book_with_entry}
+use Rattle.board_book.specs.Book.{SeenBook, book_with_entry}
 use Rattle.board.specs.Events.{IsTaken}
-use Rattle.board.specs.Finds.{acceptable}
+use Rattle.board_book.specs.Finds.{acceptable}
 use Rattle.rounds.specs.TableInside.{HasTaken}
 use Rattle.rounds.proofs.FoundLemmas.{ChangesInPlace, found-changed, passed}
 

@@ -9,7 +9,7 @@ use Rattle.conn_machine.specs.declared.state.State.{State}
 use Rattle.conn_machine.specs.Rows.{is_parked}
 use Rattle.conn_machine.specs.States.{is_overdue, is_signalled}
 use Rattle.conn_machine.specs.Table.{is_allowed, may_be_held}
-use Rattle.board.specs.Finds.{FindsRow, is_late}
+use Rattle.board_book.specs.Finds.{FindsRow, is_late}
 use Rattle.rounds.specs.TableInside.{NoneOverdue}
 use Rattle.rounds.proofs.FoundLemmas.{Lives, lives, passes-found}
 

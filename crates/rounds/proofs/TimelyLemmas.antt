@@ -21,10 +21,10 @@ use Rattle.conn_machine.specs.Runs.{after}
 use Rattle.conn_machine.specs.States.{is_halted, is_over, is_serving}
 use Rattle.conn_machine.specs.Table.{child_passes, may_retire, next}
 use Rattle.board.specs.Board.{SeenBoard}
-use Rattle.board.specs.Book.{AddsOnly, SeenBook, row_in}
+use Rattle.board_book.specs.Book.{AddsOnly, SeenBook, row_in}
 use Rattle.board.specs.Events.{IsAdded}
-use Rattle.board.specs.declared.faults.BoardFault.{BoardFault}
-use Rattle.board.specs.Finds.{startable}
+use Rattle.board_book.specs.declared.faults.BoardFault.{BoardFault}
+use Rattle.board_book.specs.Finds.{startable}
 use Rattle.worker_group.specs.declared.service.Exit.{Exit}
 use Rattle.worker_group.specs.declared.service.Exit.TheVariants as exit
 use Rattle.worker_group.specs.Acts.{Acts, ActsInSteps}

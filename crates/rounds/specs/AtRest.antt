@@ -3,7 +3,7 @@ use Rattle.std.specs.Prelude.{◌≡◌, ℕ, true, false, None, Some, slice_get
 use Rattle.conn_machine.specs.declared.row.Row.{Row}
 use Rattle.conn_machine.specs.declared.state.State.{State}
 use Rattle.conn_machine.specs.Table.{may_retire}
-use Rattle.board.specs.Finds.{has_to_be_drained, is_due, is_let_go, is_quiet, startable}
+use Rattle.board_book.specs.Finds.{has_to_be_drained, is_due, is_let_go, is_quiet, startable}
 
 -- ## Nothing left to be done
 

@@ -20,10 +20,10 @@ use Rattle.conn_state.specs.Answered.{MayLinger}
 use Rattle.conn_state.specs.Conn.{SeenConn, is_half_closed}
 use Rattle.conn_state.specs.declared.turn.LingerTurn.{LingerTurn}
 use Rattle.conn_state.specs.declared.turn.LingerTurn.TheVariants as left
-use Rattle.board.specs.declared.faults.BoardFault.{BoardFault}
-use Rattle.board.specs.declared.faults.BoardFault.TheVariants as fault
-use Rattle.board.specs.Book.{SeenBook}
-use Rattle.board.specs.Faults.{IsRefusedFor}
+use Rattle.board_book.specs.declared.faults.BoardFault.{BoardFault}
+use Rattle.board_book.specs.declared.faults.BoardFault.TheVariants as fault
+use Rattle.board_book.specs.Book.{SeenBook}
+use Rattle.board_book.specs.Faults.{IsRefusedFor}
 use Rattle.board.specs.Fits.{Fits}
 use Rattle.worker_group.specs.declared.service.Exit.{Exit}
 use Rattle.worker_group.specs.declared.service.Exit.TheVariants as exit

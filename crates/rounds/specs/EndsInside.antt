@@ -1,6 +1,6 @@
 -- Why the listener's turns end, and how the server stops behind them.
-use Rattle.board.specs.Book.{SeenBook}
-use Rattle.board.specs.declared.faults.BoardFault.{BoardFault}
+use Rattle.board_book.specs.Book.{SeenBook}
+use Rattle.board_book.specs.declared.faults.BoardFault.{BoardFault}
 use Rattle.conn_machine.specs.States.{is_halted, is_over}
 use Rattle.conn_machine.specs.declared.event.Why.{Why}
 use Rattle.conn_machine.specs.declared.state.Going.{Going}

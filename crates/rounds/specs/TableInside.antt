@@ -1,5 +1,5 @@
 -- What the parts of a round find in the table: what it opens with, what was taken, and what is left to be done.
-use Rattle.board.specs.Book.{SeenBook}
+use Rattle.board_book.specs.Book.{SeenBook}
 use Rattle.conn_machine.specs.Made.{IsOpened}
 use Rattle.conn_machine.specs.Rows.{is_held, is_lingering, is_parked, live_row}
 use Rattle.conn_machine.specs.States.{is_over, is_overdue, is_signalled}

@@ -1,7 +1,7 @@
 -- When it is time for an event: what holds of the state in which it is made.
 use Rattle.std.specs.Prelude.{◌≡◌, ◌&&◌, ◌||◌, nat_lt, not, Bool, true, false, List, [], ◌∷◌, Some, ⊤}
 use Rattle.std.specs.List.{list_any}
-use Rattle.board.specs.Finds.{startable}
+use Rattle.board_book.specs.Finds.{startable}
 use Rattle.conn_machine.specs.declared.event.Entry.{Entry}
 use Rattle.conn_machine.specs.declared.event.Event.{Event}
 use Rattle.conn_machine.specs.declared.event.Event.TheVariants as event

@@ -4,8 +4,8 @@ ghost use Rattle.std.specs.Prelude.{◌≡◌, ◌<◌, [], ◌∷◌, None, Som
 ghost use Rattle.conn_machine.specs.Rows.{lives_and};
 ghost use Rattle.conn_machine.specs.States.{is_halted};
 ghost use Rattle.conn_machine.specs.declared.event.Event.TheVariants as event;
-ghost use Rattle.board.specs.Finds.{is_waiting};
-ghost use Rattle.board.specs.Book.{row_in};
+ghost use Rattle.board_book.specs.Finds.{is_waiting};
+ghost use Rattle.board_book.specs.Book.{row_in};
 ghost use Rattle.worker_group.specs.Acts.{Acts};
 ghost use Rattle.worker_group.specs.Service.{IsUp, LeavesRest, RefusalLasts};
 ghost use Rattle.rounds.specs.ClosingInside.{IsHaltedWay, LetsGo, LetsOneGo, parked_count};

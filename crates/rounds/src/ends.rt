@@ -12,7 +12,7 @@ pub const LISTENER: u32 = 0;
 pub(crate) const SERVER: u32 = 1;
 
 /// Why the listener's turns end.
-#[derive(Clone, Copy, Debug, PartialEq, Eq)]
+#[derive(Clone, Copy, PartialEq, Eq)]
 pub enum End {
     /// Nothing more can come.
     Ended,
@@ -42,7 +42,7 @@ impl End {
 }
 
 /// What the next wait of the front is told.
-#[derive(Clone, Copy, Debug, PartialEq, Eq)]
+#[derive(Clone, Copy)]
 pub struct Rest {
     /// The least deadline of a connection that waits, or of a graceful stop.
     pub until: Option<Moment>,

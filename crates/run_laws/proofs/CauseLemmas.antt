@@ -19,7 +19,7 @@ use Rattle.conn_machine.specs.Folds.{causes_after}
 use Rattle.conn_machine.specs.Table.{next}
 use Rattle.conn_state.specs.Answered.{SeenEnded}
 use Rattle.board.specs.Board.{AreClosed, ClosesFirst}
-use Rattle.board.specs.Book.{SeenBook}
+use Rattle.board_book.specs.Book.{SeenBook}
 use Rattle.listener.specs.Listen.{HasFolded}
 use Rattle.listener.specs.declared.run_numbers.RunNumbers.{RunNumbers}
 use Rattle.run_laws.specs.Undisturbed.{ended_for}

@@ -1,6 +1,6 @@
 -- What a run answers that nothing disturbs: no call of the outside failed, it wasn't asked to stop, no connection was late, and memory was found.
 use Rattle.board.specs.Board.{SeenBoard}
-use Rattle.board.specs.Book.{SeenBook}
+use Rattle.board_book.specs.Book.{SeenBook}
 use Rattle.conn_machine.specs.Events.{count_events, is_close_for}
 use Rattle.conn_machine.specs.declared.event.Why.TheVariants as why
 use Rattle.conn_machine.specs.declared.state.Going.TheVariants.{Halted}

@@ -10,7 +10,7 @@ use run_report::ConfigRefusal;
 use std::alloc::Global;
 
 /// Why there is no configuration.
-#[derive(Clone, Copy, Debug, PartialEq, Eq)]
+#[derive(Clone, Copy)]
 pub enum NoConfig {
     /// There is no such file.
     Missing,

@@ -22,7 +22,7 @@ const CAUSES: [Cause; 9] = [
 ];
 
 /// What a report says.
-#[derive(Debug, Drop)]
+#[derive(Drop)]
 pub struct Tally {
     /// The newest generation.
     pub generation: u32,

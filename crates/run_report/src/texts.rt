@@ -6,7 +6,7 @@ use mpm_base::{NoMemory, Octets};
 use std::alloc::Global;
 
 /// Why a script is refused.
-#[derive(Clone, Copy, Debug, PartialEq, Eq)]
+#[derive(Clone, Copy)]
 pub enum ScriptRefusal {
     /// The line is none of a script, or the script is too large.
     BadLine,
@@ -17,7 +17,7 @@ pub enum ScriptRefusal {
 }
 
 /// Why a configuration is refused.
-#[derive(Clone, Copy, Debug, PartialEq, Eq)]
+#[derive(Clone, Copy)]
 pub enum ConfigRefusal {
     /// The bytes are no text.
     NotText,

@@ -5,7 +5,7 @@ use std::alloc::Global;
 use test_rows::{number_of, words};
 
 /// What is shown besides of a run that opened.
-#[derive(Clone, Copy, Debug, Default)]
+#[derive(Clone, Copy, Default)]
 pub struct View {
     /// The history.
     pub history: bool,

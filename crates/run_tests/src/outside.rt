@@ -66,7 +66,7 @@ impl ShutFront {
 }
 
 /// A bell that nobody hears.
-#[derive(Debug, Drop)]
+#[derive(Drop)]
 pub struct DeafBell;
 
 impl Bell for DeafBell {
@@ -157,7 +157,7 @@ impl Front for ShutFront {
 }
 
 /// A gate that is always open.
-#[derive(Clone, Copy, Debug)]
+#[derive(Clone, Copy)]
 pub struct OpenGate;
 
 impl Gate for OpenGate {

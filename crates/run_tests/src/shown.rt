@@ -170,7 +170,7 @@ fn show_history(sheet: &mut Sheet, history: &[Entry], commands: bool) {
 }
 
 /// What happened while the moment was the present one.
-#[derive(Clone, Copy, Debug, Default)]
+#[derive(Clone, Copy, Default)]
 struct Happened {
     /// The moment.
     moment: Moment,

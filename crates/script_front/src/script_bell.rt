@@ -4,7 +4,7 @@ use mpm_base::Bell;
 
 /// A bell of a script's front. To ring it does nothing: nobody rings until there are worker threads, and a wait whose `quiet`
 /// is false, which would last until it rings, answers at once.
-#[derive(Debug, Drop)]
+#[derive(Drop)]
 pub struct ScriptBell;
 
 impl Bell for ScriptBell {

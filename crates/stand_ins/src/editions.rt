@@ -16,7 +16,7 @@ use std::marker::Model;
 
 /// The files of a store, and those of its later editions, as contracts see it: the present ones, the steps by which the editions of
 /// a history come, and whole editions behind these.
-#[derive(Debug, Drop)]
+#[derive(Drop)]
 pub(crate) struct Editions {
     shelf: Shelf,
     coming: VecDeque<Step>,

@@ -7,7 +7,7 @@ use std::marker::Model;
 
 /// A file, as contracts see it, with all that is needed to put it among others: its name, which is UTF-8, that once more as the key
 /// of a map, and its bytes.
-#[derive(Debug, Drop)]
+#[derive(Drop)]
 pub(crate) struct Entry {
     pub(crate) key: Vec<u8>,
     pub(crate) name: Octets,

@@ -13,7 +13,7 @@ use std::marker::Model;
 
 /// A list of files, as contracts see it. Each is found by a map, and so in a time that doesn't grow with their number. Each name is
 /// UTF-8.
-#[derive(Debug, Drop)]
+#[derive(Drop)]
 pub struct Files {
     alloc: Global,
     shelf: Shelf,

@@ -11,7 +11,7 @@ use std::collections::VecDeque;
 use std::marker::Model;
 
 /// A step of a history.
-#[derive(Debug, Drop)]
+#[derive(Drop)]
 pub(crate) enum Step {
     /// The file of that name has these bytes from now on.
     Set(Entry),
@@ -23,7 +23,7 @@ pub(crate) enum Step {
 
 /// What became of a folder of files, which is empty at first: one list of its changes, and of where its editions end. So an edition
 /// takes no memory for what it shares with the one before it.
-#[derive(Debug, Drop)]
+#[derive(Drop)]
 pub struct History {
     alloc: Global,
     steps: VecDeque<Step>,

@@ -8,7 +8,7 @@ use mpm_base::{Got, Sent};
 use std::marker::Model;
 
 /// Counts of calls of a link that failed, that were not ready, and that found the end.
-#[derive(Debug, Drop)]
+#[derive(Drop)]
 pub(crate) struct LinkCounters {
     failures: u64,
     not_ready_reads: u64,

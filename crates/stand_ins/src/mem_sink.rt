@@ -10,7 +10,7 @@ use std::alloc::Global;
 use std::marker::Model;
 
 /// A sink that keeps what is written, and whose listed writes fail.
-#[derive(Debug, Drop)]
+#[derive(Drop)]
 pub struct MemSink {
     kept: Octets,
     calls: u64,
@@ -98,7 +98,7 @@ impl Sink for MemSink {
 }
 
 /// A sink that takes every piece whole, keeps none of it and tells nothing. No write of it fails.
-#[derive(Clone, Copy, Debug)]
+#[derive(Clone, Copy)]
 pub struct PlainSink;
 
 impl Sink for PlainSink {

@@ -13,7 +13,7 @@ use std::alloc::Global;
 use std::marker::Model;
 
 /// A folder of files, and its later editions, whose listed calls fail.
-#[derive(Debug, Drop)]
+#[derive(Drop)]
 pub struct MemStore {
     inner: PlainStore,
     made_calls: u64,

@@ -10,7 +10,7 @@ use std::marker::Model;
 
 /// A link whose client sent certain bytes, and which has room for all that is written to it. No call of it
 /// fails.
-#[derive(Debug, Drop)]
+#[derive(Drop)]
 pub struct PlainLink {
     coming: Octets,
     // How many bytes of `coming` reads gave, and how many of them before the first half-close.

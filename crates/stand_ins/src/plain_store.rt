@@ -14,7 +14,7 @@ use std::alloc::Global;
 use std::marker::Model;
 
 /// A folder of files, and its later editions. No call of it fails.
-#[derive(Debug, Drop)]
+#[derive(Drop)]
 pub struct PlainStore {
     editions: Editions,
     refused: u64,

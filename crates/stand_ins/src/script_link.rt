@@ -18,7 +18,7 @@ use std::sync::Arc;
 /// A link whose client sends certain bytes, and whose listed reads and writes fail. Either all has come and there is room
 /// for all that is written, or a front says how much has come, how much it may take, which of the listed calls are to fail
 /// by now, and whether the link was dropped, so that each call of it but its close fails.
-#[derive(Debug, Drop)]
+#[derive(Drop)]
 pub struct ScriptLink {
     inner: PlainLink,
     wire: Option<Arc<Wire>>,

@@ -14,7 +14,7 @@ use std::marker::Model;
 
 /// A list of files, and for how many further ones there is room, as contracts see it. A file that is removed leaves its place empty,
 /// and the map isn't told.
-#[derive(Debug, Drop)]
+#[derive(Drop)]
 pub(crate) struct Shelf {
     slots: Vec<Slot>,
     places: HashMap<Vec<u8>, usize>,

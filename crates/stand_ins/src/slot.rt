@@ -6,7 +6,7 @@ ghost use Rattle.stand_ins.specs.FilesInside.{has_name, is_listed};
 use mpm_base::Octets;
 
 /// A place among files: the name of the file that was put there, and its bytes, until it is removed.
-#[derive(Debug, Drop)]
+#[derive(Drop)]
 pub struct Slot {
     pub name: Octets,
     pub bytes: Option<Octets>,

@@ -8,7 +8,7 @@ use std::sync::atomic::{AtomicBool, AtomicU64, Ordering};
 /// far, whether the client sends no more, how many the link may take in all, how many lines by which a read or a write
 /// fails have happened, and whether the link was dropped, by the front; how many bytes its writes took, and whether it
 /// was closed, by the link.
-#[derive(Debug, Drop)]
+#[derive(Drop)]
 pub struct Wire {
     came: AtomicU64,
     ended: AtomicBool,

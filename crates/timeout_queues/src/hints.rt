@@ -3,7 +3,7 @@ use mpm_base::NoMemory;
 use std::alloc::Global;
 
 /// Of each slot the place behind which its name was last taken out.
-#[derive(Debug, Drop)]
+#[derive(Drop)]
 pub(crate) struct Hints {
     places: Vec<u32>,
 }

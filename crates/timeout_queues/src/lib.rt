@@ -40,7 +40,7 @@ const KINDS: u32 = 5;
 const LOOKS: u32 = 64;
 
 /// The timeout queues, as contracts see them: of each slot what is parked in it.
-#[derive(Debug, Drop)]
+#[derive(Drop)]
 pub struct Queues {
     slots: Vec<Option<Entry>>,
     // The places are the slots, and behind them the heads of the rings.
@@ -49,7 +49,7 @@ pub struct Queues {
     turns: Turns,
 }
 
-#[derive(Clone, Copy, Debug)]
+#[derive(Clone, Copy)]
 struct Entry {
     life: u32,
     kind: Kind,
@@ -57,7 +57,7 @@ struct Entry {
 }
 
 // A parked name with its deadline.
-#[derive(Clone, Copy, Debug)]
+#[derive(Clone, Copy)]
 struct Due {
     name: ConnName,
     deadline: Moment,

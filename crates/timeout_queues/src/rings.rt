@@ -6,7 +6,7 @@ use mpm_base::NoMemory;
 use std::alloc::Global;
 
 /// Of each place the one before it and the one behind it.
-#[derive(Debug, Drop)]
+#[derive(Drop)]
 pub(crate) struct Rings {
     pub(crate) before: Vec<u32>,
     pub(crate) behind: Vec<u32>,

@@ -12,7 +12,7 @@ use std::marker::Model;
 const RINGS: u32 = 128;
 
 /// Slots in rings, as contracts see them: of each slot the number of the ring in which it stands, or none.
-#[derive(Debug, Drop)]
+#[derive(Drop)]
 pub struct SlotRings {
     filed: Vec<Option<u32>>,
     // The places are the slots, and behind them the heads of the rings.

@@ -3,7 +3,7 @@ use mpm_base::NoMemory;
 use std::alloc::Global;
 
 /// Of each slot when it was put where it stands, counted over all slots.
-#[derive(Debug, Drop)]
+#[derive(Drop)]
 pub(crate) struct Turns {
     of: Vec<u64>,
     next: u64,

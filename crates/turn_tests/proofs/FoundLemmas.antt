@@ -28,13 +28,14 @@ use Rattle.table_rule.specs.declared.view.Origin.{Origin}
 use Rattle.table_rule.specs.declared.view.View.{View}
 use Rattle.table_rule.specs.Histories.{IsPermitted, threads_of}
 use Rattle.board_lock.specs.Passes.{TookTurn}
-use Rattle.board.specs.declared.faults.BoardFault.{BoardFault}
-use Rattle.board.specs.declared.faults.BoardFault.TheVariants as fault
+use Rattle.board_book.specs.declared.faults.BoardFault.{BoardFault}
+use Rattle.board_book.specs.declared.faults.BoardFault.TheVariants as fault
 use Rattle.board.specs.Backed.{BacksWait}
 use Rattle.board.specs.Board.{SeenBoard}
-use Rattle.board.specs.Book.{row_in}
-use Rattle.board.specs.Editions.{IsOfGeneration, UsedHaveEditions}
-use Rattle.board.specs.Finds.{is_due_of}
+use Rattle.board_book.specs.Book.{row_in}
+use Rattle.board_book.specs.Editions.{UsedHaveEditions}
+use Rattle.board.specs.Editions.{IsOfGeneration}
+use Rattle.board_book.specs.Finds.{is_due_of}
 use Rattle.board.specs.Ledger.{ledger_of}
 use Rattle.board.specs.WholeEditions.{IsLeftOf}
 use Rattle.worker_group.specs.declared.service.Exit.{Exit}

@@ -19,7 +19,7 @@ use Rattle.table_rule.specs.Ledgers.{EndsTurn, FoldsOn, KeepsOn, MayGiveBack}
 use Rattle.board_lock.specs.Passes.{GaveBack, HasNoTurn, TookTurn}
 use Rattle.board.specs.declared.board.Taken.{Taken}
 use Rattle.board.specs.Board.{SeenBoard, folded_board}
-use Rattle.board.specs.Book.{AddsOnly, SeenBook, entry_of}
+use Rattle.board_book.specs.Book.{AddsOnly, SeenBook, entry_of}
 use Rattle.board.specs.Events.{IsAdded, with_recorded}
 use Rattle.board.specs.Ledger.{ledger_of}
 use Rattle.board.specs.ReportLine.{line_of}

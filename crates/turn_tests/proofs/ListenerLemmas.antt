@@ -26,7 +26,7 @@ use Rattle.idle_workers.specs.Found.{MayCredit}
 use Rattle.board.specs.Backed.{AreBacked, BacksWait}
 use Rattle.board.specs.Board.{SeenBoard}
 use Rattle.board.specs.BoardLaws.{WaitsAreBackedByCalls}
-use Rattle.board.specs.Book.{SeenBook, entry_of}
+use Rattle.board_book.specs.Book.{SeenBook, entry_of}
 use Rattle.board.specs.Events.{IsTaken}
 use Rattle.board.specs.Fits.{IsOf}
 use Rattle.board.specs.Ledger.{ledger_of}

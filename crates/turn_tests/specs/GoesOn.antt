@@ -13,7 +13,7 @@ use Rattle.table_rule.specs.Histories.{Extends}
 use Rattle.table_rule.specs.Views.{IsIdle}
 use Rattle.board_lock.specs.Passes.{HasNoTurn, fresh_view}
 use Rattle.board.specs.Board.{SeenBoard}
-use Rattle.board.specs.Book.{AddsOnly, book_with_entry}
+use Rattle.board_book.specs.Book.{AddsOnly, book_with_entry}
 
 -- the pass made the event, and the connections that had ended stay, with perhaps further ones
 pub record MadeEvent (who : ℕ) (e : Event) (old new : SeenBoard) : Type 0 where

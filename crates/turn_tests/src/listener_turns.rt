@@ -3,7 +3,7 @@ ghost use Rattle.std.specs.Prelude.{◌≡◌, ◌<◌, true, None, Some, IfSome
 ghost use Rattle.mpm_base.specs.declared.conn.Kind.TheVariants.{Reading};
 ghost use Rattle.conn_machine.specs.Table.{is_allowed};
 ghost use Rattle.conn_machine.specs.declared.event.Event.TheVariants as event;
-ghost use Rattle.board.specs.Finds.{cause_of};
+ghost use Rattle.board_book.specs.Finds.{cause_of};
 ghost use Rattle.board.specs.Fits.{IsSettled};
 ghost use Rattle.turn_tests.specs.Books.{state_of};
 ghost use Rattle.turn_tests.specs.GoesOn.{IsListener, IsOfButWaits, IsUnparked};

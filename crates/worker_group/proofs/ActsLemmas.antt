@@ -8,7 +8,7 @@ use Rattle.conn_machine.specs.declared.event.Entry.{Entry}
 use Rattle.conn_machine.specs.declared.folded.Folded.{Folded}
 use Rattle.conn_machine.specs.declared.state.State.{State}
 use Rattle.conn_machine.specs.Runs.{is_of_pass, entries_of, AreEntriesOf, Adds}
-use Rattle.board.specs.Book.{SeenBook, book_with_entry, entry_of, row_in, AddsOnly}
+use Rattle.board_book.specs.Book.{SeenBook, book_with_entry, entry_of, row_in, AddsOnly}
 use Rattle.board.specs.Board.{SeenBoard}
 use Rattle.board.specs.Events.{with_recorded}
 use Rattle.worker_group.specs.Acts.{Acts, events_of}

@@ -23,8 +23,8 @@ use Rattle.conn_state.specs.declared.turn.LastTurn.TheVariants as last_turn
 use Rattle.conn_state.specs.Rest.{is_awaited}
 use Rattle.conn_state.specs.Conn.{SeenConn, TurnFits, IsConn, is_half_closed}
 use Rattle.conn_state.specs.Turns.{TakesNote}
-use Rattle.board.specs.Book.{SeenBook, row_in}
-use Rattle.board.specs.Events.{IsDecided}
+use Rattle.board_book.specs.Book.{SeenBook, row_in}
+use Rattle.board_book.specs.Decided.{IsDecided}
 use Rattle.worker_group.specs.Acts.{Acts}
 use Rattle.worker_group.specs.InHand.{IsClosable}
 use Rattle.worker_group.specs.InHandInside.{IsServed, answers_left, sends_left}

@@ -9,7 +9,7 @@ use Rattle.conn_state.specs.Reader.{SeenReader}
 use Rattle.conn_state.specs.Conn.{SeenConn}
 use Rattle.conn_state.specs.Known.{KnownOutside}
 use Rattle.conn_state.specs.Turns.{ReadsOn, ShutsOn, TakesNote, WritesOn}
-use Rattle.board.specs.Book.{SeenBook}
+use Rattle.board_book.specs.Book.{SeenBook}
 use Rattle.board.specs.Editions.{GenerationsKeepTheirEditions, IsOfGeneration}
 use Rattle.worker_group.specs.Acts.{Acts}
 

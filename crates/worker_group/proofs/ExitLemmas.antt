@@ -25,11 +25,11 @@ use Rattle.conn_state.specs.Reader.{keeps_none}
 use Rattle.conn_state.specs.Conn.{SeenConn}
 use Rattle.conn_state.specs.Answered.{SeenEnded, IsEndOf}
 use Rattle.conn_state.specs.Turns.{ReadsOn, WritesOn, after_reading, after_writing}
-use Rattle.board.specs.declared.faults.BoardFault.{BoardFault}
-use Rattle.board.specs.declared.faults.BoardFault.TheVariants as fault
-use Rattle.board.specs.Book.{SeenBook, book_with_entry}
+use Rattle.board_book.specs.declared.faults.BoardFault.{BoardFault}
+use Rattle.board_book.specs.declared.faults.BoardFault.TheVariants as fault
+use Rattle.board_book.specs.Book.{SeenBook, book_with_entry}
 use Rattle.board.specs.Board.{SeenBoard, Agrees, conn_at}
-use Rattle.board.specs.Faults.{IsRefusedFor}
+use Rattle.board_book.specs.Faults.{IsRefusedFor}
 use Rattle.board.specs.Fits.{IsClosing, NotesEnd}
 use Rattle.worker_group.specs.declared.service.Exit.{Exit}
 use Rattle.worker_group.specs.declared.service.Exit.TheVariants as exit

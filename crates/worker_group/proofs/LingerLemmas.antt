@@ -21,7 +21,7 @@ use Rattle.conn_state.specs.Conn.{SeenConn, is_half_closed, is_usable}
 use Rattle.conn_state.specs.Answered.{MayLinger, SentAll, SentLast, ShowsLingering, waits_on}
 use Rattle.conn_state.specs.Reader.{keeps_none}
 use Rattle.conn_state.specs.Turns.{ShutsOn}
-use Rattle.board.specs.Book.{SeenBook}
+use Rattle.board_book.specs.Book.{SeenBook}
 use Rattle.board.specs.Board.{SeenBoard}
 use Rattle.board.specs.Fits.{Fits}
 use Rattle.worker_group.specs.declared.service.Exit.{Exit}

@@ -32,7 +32,7 @@ use Rattle.conn_state.specs.Conn.{SeenConn, is_half_closed, is_usable, TurnFits,
 use Rattle.conn_state.specs.Answered.{ShowsAtOnce}
 use Rattle.conn_state.specs.Turns.{WritesOn, ReadsOn, after_writing, after_reading, is_more}
 use Rattle.conn_state.specs.Writing.{is_not_ready}
-use Rattle.board.specs.Finds.{cause_of}
+use Rattle.board_book.specs.Finds.{cause_of}
 use Rattle.board.specs.Fits.{Fits, FoundNoMore, WaitsAs, NotesEnd}
 use Rattle.worker_group.specs.InHand.{IsInHand, IsClosable}
 use Rattle.worker_group.specs.InHandInside.{IsServed}

@@ -16,7 +16,7 @@ use Rattle.conn_machine.specs.Table.{is_allowed, next, may_be_queued, queued_row
 use Rattle.conn_state.specs.declared.turn.LastLinger.TheVariants as linger
 use Rattle.conn_state.specs.Conn.{SeenConn, is_usable}
 use Rattle.board.specs.Fits.{WaitsAs, IsSettledFrom, IsTakenUp}
-use Rattle.board.specs.Book.{SeenBook}
+use Rattle.board_book.specs.Book.{SeenBook}
 use Rattle.board.specs.Board.{SeenBoard, conn_at}
 use Rattle.worker_group.specs.declared.service.Exit.{Exit}
 use Rattle.worker_group.specs.Acts.{Acts}

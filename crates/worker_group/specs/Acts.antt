@@ -5,7 +5,7 @@ use Rattle.mpm_base.specs.declared.conn.ConnName.{ConnName}
 use Rattle.conn_machine.specs.declared.event.Event.{Event}
 use Rattle.conn_machine.specs.declared.event.Entry.{Entry}
 use Rattle.conn_machine.specs.Runs.{entries_of}
-use Rattle.board.specs.Book.{SeenBook, book_with_entry, row_in, AddsOnly}
+use Rattle.board_book.specs.Book.{SeenBook, book_with_entry, row_in, AddsOnly}
 
 -- the events of the entries that the pass made, in order
 abbrev pub events_of : ℕ → List Entry → List Event

@@ -4,8 +4,8 @@ use Rattle.mpm_base.specs.declared.conn.Kind.{Kind}
 use Rattle.mpm_base.specs.declared.conn.Kind.TheVariants.{Reading, KeepAlive, Writing, Linger, ShortLinger}
 use Rattle.conn_state.specs.Conn.{SeenConn}
 use Rattle.board.specs.Backed.{BacksWait}
-use Rattle.board.specs.Book.{SeenBook}
-use Rattle.board.specs.Faults.{IsRefusedFor}
+use Rattle.board_book.specs.Book.{SeenBook}
+use Rattle.board_book.specs.Faults.{IsRefusedFor}
 use Rattle.board.specs.Fits.{WaitsAs}
 use Rattle.worker_group.specs.declared.service.Exit.{Exit}
 use Rattle.worker_group.specs.declared.service.Exit.TheVariants as exit

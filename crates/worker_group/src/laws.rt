@@ -8,7 +8,7 @@ ghost use Rattle.conn_machine.specs.declared.state.State.{State};
 ghost use Rattle.conn_state.specs.Answered.{ShowsAtOnce};
 ghost use Rattle.conn_state.specs.Conn.{SeenConn};
 ghost use Rattle.board.specs.Board.{SeenBoard};
-ghost use Rattle.board.specs.Book.{SeenBook};
+ghost use Rattle.board_book.specs.Book.{SeenBook};
 ghost use Rattle.board.specs.Fits.{NotesEnd};
 ghost use Rattle.worker_group.specs.Acts.{ActsInSteps};
 ghost use Rattle.worker_group.specs.InHand.{IsClosable, IsInHand};

@@ -12,9 +12,9 @@ ghost use Rattle.conn_state.specs.Answered.{MayLinger};
 ghost use Rattle.conn_state.specs.Conn.{is_half_closed, is_usable};
 ghost use Rattle.conn_state.specs.Turns.{ShutsOn};
 ghost use Rattle.board.specs.Backed.{BacksWait};
-ghost use Rattle.board.specs.Book.{book_with_entry, row_in};
+ghost use Rattle.board_book.specs.Book.{book_with_entry, row_in};
 ghost use Rattle.board.specs.Editions.{IsOfGeneration};
-ghost use Rattle.board.specs.Faults.{IsRefusedFor};
+ghost use Rattle.board_book.specs.Faults.{IsRefusedFor};
 ghost use Rattle.board.specs.Fits.{FoundNoMore, IsSettled};
 ghost use Rattle.worker_group.specs.Acts.{Acts};
 ghost use Rattle.worker_group.specs.InHand.{IsClosable, IsInHand};
@@ -30,7 +30,7 @@ use mpm_base::{Ask, Bell, Cause, ConnName, Gate, Kind, Link, NoMemory, Tail};
 use std::sync::Wait;
 
 /// How a worker leaves a connection.
-#[derive(Clone, Copy, Debug, PartialEq, Eq)]
+#[derive(Clone, Copy)]
 pub enum Exit {
     /// It waits for this.
     Park(Kind),

@@ -5,7 +5,7 @@ use Rattle.mpm_base.specs.declared.conn.Kind.{Kind}
 use Rattle.conn_machine.specs.declared.event.Event.TheVariants as event
 use Rattle.conn_state.specs.Conn.{SeenConn}
 use Rattle.table_rule.specs.declared.view.View.{View}
-use Rattle.board.specs.declared.faults.BoardFault.{BoardFault}
+use Rattle.board_book.specs.declared.faults.BoardFault.{BoardFault}
 use Rattle.worker_group.specs.declared.service.Exit.{Exit}
 use Rattle.worker_group.specs.declared.service.Exit.TheVariants as exit
 use Rattle.worker_group.specs.Service.{ExitsAfter, IsMadeSince, answer_events, left_events}

@@ -1,4 +1,5 @@
-use Rattle.board.proofs.EditionLemmas.{folded_edition, generation_carried, keeps_on, newest_edition, other_editions, unfolded_keeps}
+use Rattle.board_book.proofs.EditionLemmas.{folded_edition, keeps_on, newest_edition, other_editions, unfolded_keeps}
+use Rattle.board.proofs.CarriedLemmas.{generation_carried}
 use Rattle.board.proofs.laws.generations_keep_their_editions.Goals as goal
 
 pub returns : goal.returns

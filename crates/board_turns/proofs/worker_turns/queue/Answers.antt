@@ -2,7 +2,7 @@ use Rattle.std.proofs.Common.{None, ap, sym, subst, is_ok}
 use Rattle.conn_machine.specs.declared.event.Event.TheVariants as event
 use Rattle.conn_machine.specs.declared.state.State.{State}
 use Rattle.table_rule.specs.declared.view.View.{View}
-use Rattle.board.specs.Finds.{FindsRow, is_due_of}
+use Rattle.board_book.specs.Finds.{FindsRow, is_due_of}
 use Rattle.board_turns.proofs.FoundLemmas.{due_here, has_child, has_room, pass_as, queue_permitted, row_as}
 use Rattle.board_turns.proofs.GoesOnLemmas.{changed, made_added, may_change, may_stay}
 use Rattle.board_turns.proofs.ThenLemmas.{carried_then, nothing_state, permit_left, permit_still}

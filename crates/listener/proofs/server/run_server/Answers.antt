@@ -1,7 +1,7 @@
 use Rattle.std.proofs.Common.{Option, refl, ap, sym, subst, ◌∙◌, arith, rules}
 use Rattle.conn_state.specs.Known.{KnownOutside}
 use Rattle.board.specs.Board.{AreOfOutside, EndedOfOutside, SeenBoard}
-use Rattle.board.specs.Book.{SeenBook}
+use Rattle.board_book.specs.Book.{SeenBook}
 use Rattle.listener.specs.ListenInside.{clients_known}
 use Rattle.listener.specs.OrdersInside.{opening_by}
 use Rattle.listener.specs.Served.{whole_book}

@@ -5,11 +5,11 @@ use Rattle.conn_machine.specs.Rows.{live_row}
 use Rattle.conn_state.specs.Reader.{SeenReader}
 use Rattle.conn_machine.specs.Table.{held_row, next}
 use Rattle.conn_machine.specs.declared.event.Event.TheVariants as event
-use Rattle.board.specs.declared.faults.BoardFault.{BoardFault}
-use Rattle.board.specs.Book.{SeenBook}
+use Rattle.board_book.specs.declared.faults.BoardFault.{BoardFault}
+use Rattle.board_book.specs.Book.{SeenBook}
 use Rattle.board.specs.Board.{SeenBoard}
-use Rattle.board.specs.Faults.{IsRefusedFor}
-use Rattle.board.specs.Finds.{has_to_be_drained}
+use Rattle.board_book.specs.Faults.{IsRefusedFor}
+use Rattle.board_book.specs.Finds.{has_to_be_drained}
 use Rattle.worker_group.specs.declared.service.Exit.TheVariants as exit
 use Rattle.worker_group.specs.Acts.{Acts}
 use Rattle.conn_state.specs.declared.turn.LingerTurn.{LingerTurn}

@@ -5,10 +5,10 @@ use Rattle.mpm_base.specs.declared.conn.Tail.{Tail}
 use Rattle.mpm_base.specs.declared.conn.Tail.TheVariants as tail
 use Rattle.conn_machine.specs.declared.event.Event.TheVariants as event
 use Rattle.conn_machine.specs.States.{is_halted}
-use Rattle.board.specs.declared.faults.BoardFault.{BoardFault}
-use Rattle.board.specs.declared.faults.BoardFault.TheVariants as fault
-use Rattle.board.specs.Faults.{IsRefusedFor}
-use Rattle.board.specs.Book.{SeenBook, book_with_entry}
+use Rattle.board_book.specs.declared.faults.BoardFault.{BoardFault}
+use Rattle.board_book.specs.declared.faults.BoardFault.TheVariants as fault
+use Rattle.board_book.specs.Faults.{IsRefusedFor}
+use Rattle.board_book.specs.Book.{SeenBook, book_with_entry}
 use Rattle.worker_group.specs.Acts.{Acts}
 use Rattle.worker_group.specs.Service.{LeavesRest, RefusalLasts}
 use Rattle.rounds.specs.ClosingInside.{lingering_give_up_events}

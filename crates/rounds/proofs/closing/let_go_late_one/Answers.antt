@@ -5,7 +5,7 @@ use Rattle.mpm_base.specs.declared.conn.Tail.TheVariants as tail
 use Rattle.conn_machine.specs.Table.{is_allowed}
 use Rattle.conn_machine.specs.declared.event.Event.TheVariants as event
 use Rattle.conn_state.specs.Answered.{MayLinger}
-use Rattle.board.specs.Book.{SeenBook}
+use Rattle.board_book.specs.Book.{SeenBook}
 use Rattle.board.specs.Board.{SeenBoard}
 use Rattle.worker_group.specs.declared.service.Exit.TheVariants as exit
 use Rattle.worker_group.specs.Service.{IsWayOut}

@@ -2,8 +2,8 @@ use Rattle.std.proofs.Common.{None, Some, ap, subst, sym, ◌∙◌, refl}
 use Rattle.conn_machine.specs.declared.event.Event.TheVariants as event
 use Rattle.conn_state.specs.Conn.{SeenConn}
 use Rattle.board.specs.Board.{SeenBoard}
-use Rattle.board.specs.Faults.{IsRefusedFor}
-use Rattle.board.specs.Book.{row_in}
+use Rattle.board_book.specs.Faults.{IsRefusedFor}
+use Rattle.board_book.specs.Book.{row_in}
 use Rattle.board.specs.Editions.{IsOfGeneration}
 use Rattle.worker_group.specs.Acts.{Acts}
 use Rattle.worker_group.specs.Service.{LeavesRest}

@@ -2,7 +2,7 @@ use Rattle.std.proofs.Common.{None, Some, ap, inl, inr, refl, sym, ◌∙◌}
 use Rattle.mpm_base.specs.declared.conn.ConnName.{ConnName}
 use Rattle.mpm_base.specs.declared.conn.Cause.TheVariants as cause
 use Rattle.mpm_base.specs.declared.conn.Tail.TheVariants as tail
-use Rattle.board.specs.Book.{SeenBook}
+use Rattle.board_book.specs.Book.{SeenBook}
 use Rattle.board.specs.Board.{SeenBoard}
 use Rattle.worker_group.specs.declared.service.Exit.TheVariants as exit
 use Rattle.rounds.specs.ClosingInside.{IsHaltedWay}

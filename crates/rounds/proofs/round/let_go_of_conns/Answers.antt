@@ -1,5 +1,5 @@
 use Rattle.std.proofs.lemmas.Result.{on_ok_weaker}
-use Rattle.board.specs.declared.faults.BoardFault.{BoardFault}
+use Rattle.board_book.specs.declared.faults.BoardFault.{BoardFault}
 use Rattle.rounds.specs.ClosingInside.{DrainsSome, DrainsUntil}
 use Rattle.rounds.specs.PartsInside.{LetsGoUntil}
 use Rattle.rounds.proofs.ActLemmas.{if-err, lets-go-conns, lets-go-until}

@@ -1,6 +1,6 @@
 use Rattle.std.proofs.Common.{◌≡◌, ℕ, ◌<◌, [], None, true, refl, sym, subst, rules}
 use Rattle.board.specs.Board.{SeenBoard}
-use Rattle.board.specs.Faults.{IsRefusedFor}
+use Rattle.board_book.specs.Faults.{IsRefusedFor}
 use Rattle.worker_group.specs.Service.{LeavesRest}
 use Rattle.rounds.specs.PartsInside.{ServesSome, StaysTimely}
 use Rattle.rounds.specs.Timely.{is_staffed}

@@ -4,7 +4,7 @@ use Rattle.conn_machine.specs.Children.{is_empty}
 use Rattle.conn_machine.specs.declared.child.Child.{Child}
 use Rattle.std.proofs.lemmas.List.{take_more, take-append-drop}
 use Rattle.board.specs.Board.{SeenBoard}
-use Rattle.board.specs.Faults.{IsRefusedFor}
+use Rattle.board_book.specs.Faults.{IsRefusedFor}
 use Rattle.rounds.specs.PartsInside.{SignalsFirst, signal_events}
 use Rattle.rounds.proofs.ActLemmas.{acts-spelled, on-err, signals-begun, signals-more}
 use Rattle.rounds.proofs.round.signal_all.Goals as goal

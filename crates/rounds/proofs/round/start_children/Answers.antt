@@ -1,7 +1,7 @@
 use Rattle.std.proofs.Common.{None, length, ap, subst, sym, ◌∙◌, refl, rules}
 use Rattle.conn_machine.specs.declared.event.Event.TheVariants as event
 use Rattle.board.specs.Board.{SeenBoard}
-use Rattle.board.specs.Faults.{IsRefusedFor}
+use Rattle.board_book.specs.Faults.{IsRefusedFor}
 use Rattle.worker_group.specs.Service.{LeavesRest}
 use Rattle.rounds.specs.PartsInside.{StartsSome}
 use Rattle.rounds.specs.Timely.{is_staffed}

@@ -1,7 +1,7 @@
 use Rattle.std.proofs.Common.{ℕ, subst}
 use Rattle.conn_machine.specs.Passes.{HasNoneInHand}
 use Rattle.conn_machine.specs.Runs.{after}
-use Rattle.board.specs.Book.{row_in}
+use Rattle.board_book.specs.Book.{row_in}
 use Rattle.rounds.proofs.PassLemmas.{none-left}
 use Rattle.rounds.proofs.showing.show_none_live.Goals as goal
 

@@ -1,5 +1,5 @@
 use Rattle.turn_tests.proofs.LeavesLemmas.{gives_up_as}
-use Rattle.board.specs.declared.faults.BoardFault.TheVariants as fault
+use Rattle.board_book.specs.declared.faults.BoardFault.TheVariants as fault
 use Rattle.turn_tests.proofs.service.gives_up.Goals as goal
 
 pub closes-requires-clause-may : goal.closes-requires-clause-may

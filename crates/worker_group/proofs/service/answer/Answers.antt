@@ -3,7 +3,7 @@ use Rattle.mpm_base.specs.declared.conn.Ask.{Ask}
 use Rattle.mpm_base.specs.declared.conn.ConnName.{ConnName}
 use Rattle.conn_machine.specs.declared.event.Event.TheVariants as event
 use Rattle.conn_state.specs.Conn.{SeenConn}
-use Rattle.board.specs.Book.{SeenBook}
+use Rattle.board_book.specs.Book.{SeenBook}
 use Rattle.board.specs.Board.{SeenBoard}
 use Rattle.board.specs.Editions.{IsOfGeneration}
 use Rattle.worker_group.specs.Acts.{Acts}

@@ -5,7 +5,7 @@ use Rattle.conn_state.specs.Conn.{SeenConn}
 use Rattle.board.specs.Board.{SeenBoard}
 use Rattle.board.specs.Editions.{IsOfGeneration}
 use Rattle.board.specs.Fits.{IsSettled}
-use Rattle.board.specs.Book.{row_in}
+use Rattle.board_book.specs.Book.{row_in}
 use Rattle.worker_group.specs.Acts.{Acts}
 use Rattle.worker_group.specs.Service.{IsGivenUp, LeavesRest, give_up_events}
 use Rattle.worker_group.proofs.ActsLemmas.{acts_one}

@@ -2,7 +2,7 @@ use Rattle.std.proofs.Common.{◌≡◌, length, vec_capacity, subst, sym, ◌�
 use Rattle.conn_machine.specs.declared.event.Event.TheVariants as event
 use Rattle.board.specs.Board.{SeenBoard}
 use Rattle.board.specs.Layout.{conns_in}
-use Rattle.board.specs.Events.{IsDecided}
+use Rattle.board_book.specs.Decided.{IsDecided}
 use Rattle.board.specs.BoardInside.{AreParts}
 use Rattle.board.specs.BoardParts.{seen_board}
 use Rattle.board.proofs.BoardLemmas.{may_while, there_of}

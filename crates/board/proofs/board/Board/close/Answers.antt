@@ -5,8 +5,9 @@ use Rattle.conn_slots.specs.Slots.{item_of, without_item}
 use Rattle.conn_state.specs.Answered.{SeenEnded}
 use Rattle.conn_state.specs.Conn.{SeenConn}
 use Rattle.board.specs.Events.{with_recorded}
-use Rattle.board.specs.Book.{book_with_entry, row_in}
-use Rattle.board.specs.Editions.{IsOfGeneration, KeepsEditions}
+use Rattle.board_book.specs.Book.{book_with_entry, row_in}
+use Rattle.board_book.specs.Editions.{KeepsEditions}
+use Rattle.board.specs.Editions.{IsOfGeneration}
 use Rattle.board.specs.Fits.{IsClosing}
 use Rattle.board.specs.Board.{SeenBoard}
 use Rattle.board.specs.BoardInside.{AreParts, IsBoard}

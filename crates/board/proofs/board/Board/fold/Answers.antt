@@ -2,8 +2,8 @@ use Rattle.std.proofs.Common.{◌≡◌, map, vec_capacity, refl, arith}
 use Rattle.conn_machine.specs.Folds.{lines_after}
 use Rattle.board.specs.BoardInside.{AreParts}
 use Rattle.board.specs.BoardParts.{seen_board}
-use Rattle.board.specs.Book.{folded_book}
-use Rattle.board.specs.BookInside.{lines_then}
+use Rattle.board_book.specs.Book.{folded_book}
+use Rattle.board_book.specs.BookInside.{lines_then}
 use Rattle.board.specs.ReportLine.{line_of}
 use Rattle.board.proofs.ClosedLemmas.{board_folded}
 use Rattle.board.proofs.board.Board.fold.Goals as goal

@@ -3,9 +3,9 @@ use Rattle.conn_machine.specs.declared.event.Event.TheVariants as event
 use Rattle.conn_machine.specs.States.{is_signalled}
 use Rattle.conn_machine.specs.Table.{may_be_held}
 use Rattle.conn_state.specs.Conn.{SeenConn}
-use Rattle.board.specs.Book.{SeenBook}
+use Rattle.board_book.specs.Book.{SeenBook}
 use Rattle.board.specs.Editions.{IsOfGeneration}
-use Rattle.board.specs.Finds.{cause_of}
+use Rattle.board_book.specs.Finds.{cause_of}
 use Rattle.board.specs.Fits.{IsOnItsWay, IsTakenUp}
 use Rattle.board.specs.Board.{SeenBoard}
 use Rattle.board.specs.Layout.{conns_in}
@@ -14,7 +14,7 @@ use Rattle.board.specs.BoardParts.{seen_board}
 use Rattle.board.proofs.BoardLemmas.{may_inside, there_of}
 use Rattle.board.proofs.ClientLemmas.{clients_taken}
 use Rattle.board.proofs.ClosedLemmas.{board_on}
-use Rattle.board.proofs.EditionLemmas.{generation_carried}
+use Rattle.board.proofs.CarriedLemmas.{generation_carried}
 use Rattle.board.proofs.EventLemmas.{hold-there}
 use Rattle.board.proofs.HandLemmas.{given_is, hold-given, hold-unparked, hold-way}
 use Rattle.board.proofs.PassLemmas.{adds_inside}

@@ -2,7 +2,7 @@ use Rattle.std.proofs.Common.{◌≡◌, true, Some, is_some, length, slice_set,
 use Rattle.mpm_base.specs.declared.conn.ConnName.{ConnName}
 use Rattle.conn_machine.specs.Rows.{live_row}
 use Rattle.conn_machine.specs.Runs.{has_row}
-use Rattle.board.specs.Book.{row_in}
+use Rattle.board_book.specs.Book.{row_in}
 use Rattle.conn_machine.specs.Table.{is_allowed, next, lingering_row}
 use Rattle.conn_machine.specs.declared.event.Event.TheVariants as event
 use Rattle.conn_machine.specs.States.{is_signalled}

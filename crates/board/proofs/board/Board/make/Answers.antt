@@ -6,6 +6,6 @@ use Rattle.board.proofs.board.Board.make.Goals as goal
 pub invariant_of-result : goal.invariant_of-result
 invariant_of-result g c =
     rw c.in-Ok.ensures.ok
-    (board_first _ c.in_ok-book.book c.in_ok-make.field-0.slots c.new.result.items c.in_ok-make-2.field-0 c.args.slots (vec_capacity c.new.result)
+    (board_first _ c.in_ok-book.book c.in_ok-conns.conns.slots c.new.result.items c.in_ok-queues.queues c.args.slots (vec_capacity c.new.result)
     (c.in_ok-book.ensures.history) (ap (λ (s : State). s.rows) c.in_ok-book.ensures.state)
-    c.in_ok-make.ensures.unused (search rules) c.in_ok-make-2.ensures)
+    c.in_ok-conns.ensures.unused (search rules) c.in_ok-queues.ensures)

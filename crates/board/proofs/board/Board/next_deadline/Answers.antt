@@ -2,7 +2,7 @@ use Rattle.std.proofs.Common.{◌≡◌, ◌∙◌, subst, rules}
 use Rattle.board.specs.Board.{SeenBoard}
 use Rattle.board.specs.BoardInside.{AreParts}
 use Rattle.board.specs.BoardParts.{seen_board}
-use Rattle.board.specs.Finds.{next_deadline_of, waiting_deadlines}
+use Rattle.board_book.specs.Finds.{next_deadline_of, waiting_deadlines}
 use Rattle.board.proofs.QueueLemmas.{least_waiting}
 use Rattle.board.proofs.board.Board.next_deadline.Goals as goal
 

@@ -2,7 +2,7 @@ use Rattle.std.proofs.Common.{◌≡◌, IfSome, subst, rules}
 use Rattle.board.specs.Board.{SeenBoard}
 use Rattle.board.specs.BoardInside.{AreParts}
 use Rattle.board.specs.BoardParts.{seen_board}
-use Rattle.board.specs.Finds.{FindsRow, IsFirstDue, is_late}
+use Rattle.board_book.specs.Finds.{FindsRow, IsFirstDue, is_late}
 use Rattle.board.proofs.QueueLemmas.{overdue-finds, overdue-first}
 use Rattle.board.proofs.board.Board.overdue.Goals as goal
 

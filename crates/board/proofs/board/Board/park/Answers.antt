@@ -3,10 +3,10 @@ use Rattle.mpm_base.specs.declared.conn.Cause.{Cause}
 use Rattle.mpm_base.specs.declared.conn.ConnName.{ConnName}
 use Rattle.conn_machine.specs.Rows.{live_row}
 use Rattle.conn_machine.specs.Runs.{has_row}
-use Rattle.board.specs.Book.{row_in}
+use Rattle.board_book.specs.Book.{row_in}
 use Rattle.conn_machine.specs.Table.{is_allowed, next, may_wait, parked_row}
 use Rattle.conn_machine.specs.declared.event.Event.TheVariants as event
-use Rattle.board.specs.Finds.{cause_of}
+use Rattle.board_book.specs.Finds.{cause_of}
 use Rattle.board.specs.Board.{SeenBoard}
 use Rattle.board.specs.Editions.{IsOfGeneration}
 use Rattle.board.specs.Fits.{IsSettled}

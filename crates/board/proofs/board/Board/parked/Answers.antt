@@ -2,7 +2,7 @@ use Rattle.std.proofs.Common.{◌≡◌, subst, arith}
 use Rattle.board.specs.Board.{SeenBoard}
 use Rattle.board.specs.BoardInside.{AreParts}
 use Rattle.board.specs.BoardParts.{seen_board}
-use Rattle.board.specs.Finds.{FindsRow, is_waiting}
+use Rattle.board_book.specs.Finds.{FindsRow, is_waiting}
 use Rattle.board.proofs.FindLemmas.{waiting-finds}
 use Rattle.board.proofs.board.Board.parked.Goals as goal
 

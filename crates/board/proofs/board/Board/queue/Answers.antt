@@ -2,7 +2,7 @@ use Rattle.std.proofs.Common.{◌≡◌, None, length, slice_set, vec_capacity, 
 use Rattle.conn_machine.specs.declared.event.Event.TheVariants as event
 use Rattle.conn_machine.specs.Table.{may_be_queued}
 use Rattle.conn_state.specs.Conn.{SeenConn}
-use Rattle.board.specs.Book.{SeenBook}
+use Rattle.board_book.specs.Book.{SeenBook}
 use Rattle.board.specs.Editions.{IsOfGeneration}
 use Rattle.board.specs.Fits.{IsTakenUp}
 use Rattle.board.specs.Board.{SeenBoard}
@@ -12,7 +12,7 @@ use Rattle.board.specs.BoardParts.{seen_board}
 use Rattle.board.proofs.BoardLemmas.{may_while, there_of}
 use Rattle.board.proofs.ClientLemmas.{clients_taken}
 use Rattle.board.proofs.ClosedLemmas.{board_on}
-use Rattle.board.proofs.EditionLemmas.{generation_carried}
+use Rattle.board.proofs.CarriedLemmas.{generation_carried}
 use Rattle.board.proofs.EventLemmas.{queue-there}
 use Rattle.board.proofs.HandLemmas.{given_is, queue-given, queue-open, queue-unparked}
 use Rattle.board.proofs.PassLemmas.{adds_inside}

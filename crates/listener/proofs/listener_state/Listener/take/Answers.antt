@@ -7,11 +7,11 @@ use Rattle.mpm_base.specs.declared.conn.Kind.{Kind}
 use Rattle.mpm_base.specs.declared.conn.Kind.TheVariants.{Reading}
 use Rattle.conn_machine.specs.Rows.{live_row}
 use Rattle.conn_state.specs.Known.{IsOfClient}
-use Rattle.board.specs.declared.faults.BoardFault.{BoardFault}
+use Rattle.board_book.specs.declared.faults.BoardFault.{BoardFault}
 use Rattle.board.specs.Backed.{AreBacked}
 use Rattle.board.specs.Board.{SeenBoard}
-use Rattle.board.specs.Editions.{orders_in}
-use Rattle.board.specs.Faults.{IsRefusedFor}
+use Rattle.board_book.specs.Editions.{orders_in}
+use Rattle.board_book.specs.Faults.{IsRefusedFor}
 use Rattle.worker_group.specs.Acts.{Acts}
 use Rattle.listener.specs.ListenInside.{StaysWatching}
 use Rattle.rounds.specs.TableInside.{NoneDueLate}

@@ -1,5 +1,0 @@
-use Rattle.board.proofs.FiledLemmas.{drain_found}
-use Rattle.board.proofs.filed.FiledState.signalled_linger.Goals as goal
-
-pub returns : goal.returns
-returns c = drain_found c.args.self.now c.first_in.result c.first_in.ensures

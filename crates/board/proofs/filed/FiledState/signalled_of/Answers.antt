@@ -1,5 +1,0 @@
-use Rattle.board.proofs.FiledLemmas.{due_of_found}
-use Rattle.board.proofs.filed.FiledState.signalled_of.Goals as goal
-
-pub returns : goal.returns
-returns c = due_of_found c.args.self.now c.args.child c.first_in.result c.requires c.first_in.ensures

@@ -1,0 +1,10 @@
+pub mod AheadLemmas
+pub mod AlikeLemmas
+pub mod BookLemmas
+pub mod EditionLemmas
+pub mod FiledLemmas
+pub mod FindLemmas
+pub mod FoldedLemmas
+pub mod PassLemmas
+pub mod RoomLemmas
+pub mod SendLemmas

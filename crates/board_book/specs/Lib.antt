@@ -1,0 +1,11 @@
+pub mod AheadInside
+pub mod Book
+pub mod BookInside
+pub mod Decided
+pub mod Editions
+pub mod EditionsInside
+pub mod Faults
+pub mod FaultsInside
+pub mod FiledInside
+pub mod Finds
+pub mod RoomInside
