@@ -1,0 +1,6 @@
+mod ChildrenLemmas
+mod HeldLemmas
+mod ListenerLemmas
+mod LookLemmas
+mod ManyLemmas
+mod TakenLemmas

@@ -1,0 +1,23 @@
+use Rattle.std.proofs.Common.{ap, ◌∙◌}
+use Rattle.table_rule.specs.declared.view.View.{View}
+use Rattle.listener_turns.proofs.LookLemmas.{looks_idle}
+use Rattle.listener_turns.proofs.looks.is_idle.Goals as goal
+
+pub returns-clause-listener : goal.returns-clause-listener
+returns-clause-listener g c = record {
+  turnless = record {
+    hand = c.idle.ensures.hand ∙ c.requires.listener.turnless.hand;
+    turn = ap (λ (q : View). q.turn) c.idle.ensures.found.looked.0 ∙ c.requires.listener.turnless.turn;
+  };
+  number = ap (λ (q : View). q.who.number) c.idle.ensures.found.looked.0 ∙ c.requires.listener.number;
+}
+
+pub returns-clause-row : goal.returns-clause-row
+returns-clause-row g c = ap (λ (q : View). q.row) c.idle.ensures.found.looked.0
+
+pub returns-clause-credits : goal.returns-clause-credits
+returns-clause-credits g c = ap (λ (q : View). q.credits) c.idle.ensures.found.looked.0
+
+pub returns-clause-looks : goal.returns-clause-looks
+returns-clause-looks g c =
+    looks_idle c.quiet_tables_are_the_listeners.ensures c.args.child c.args.threads c.idle.result _ _ c.requires.listener.number c.idle.ensures.found
