@@ -141,7 +141,7 @@ impl SocketLink {
             self.place.give_way();
             return Sent::NotReady;
         }
-        match &self.socket {
+        match &mut self.socket {
             Some(socket) => write_pair_some(socket, &first[..front], &second[..most - front]),
             None => Sent::Failed,
         }
