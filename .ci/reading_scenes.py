@@ -1,6 +1,8 @@
 """The scenes of what follows the bytes that a read found: more bytes, an end or a reset, with them, right behind or long after, at each place
 of a request; and of what a connection keeps that waits with half a head, while others are read. .ci/sockets plays them."""
 
+import socket
+
 from edge_scenes import rests
 from real_server import ANSWER, GET, PAGE, connect, expect, refusal, request, response, scene, serving, until, where_compiled
 from refusing_scenes import serving_by
@@ -97,6 +99,22 @@ def what_comes_while_a_read_is_made_is_found():
             until("a server without a client", lambda: server.connections() == 0)
         server.stop()
         server.expect_report(*(line_of(*row) for row in rows))
+
+
+@scene
+def what_comes_behind_urgent_bytes_is_found():
+    with serving() as server, connect(server.port) as client:
+        for place in (1, 20, len(GET) - 1):
+            until("a server that has taken the client", lambda: server.connections() == 1)
+            with server.standing_still():
+                client.send(GET[:place])
+                # The system keeps it out of what is read.
+                client.stream.send(b"!", socket.MSG_OOB)
+                client.send(GET[place:])
+            expect(f"the response to a request with an urgent byte behind {place} bytes", client.reply(), ANSWER)
+        client.close()
+        server.stop()
+        server.expect_report("0 ClientDone Direct 200,200,200")
 
 
 @where_compiled(scene)

@@ -1,7 +1,7 @@
 //! Which links have emptied their sockets: what a front and its links tell each other, so that no link reads where nothing can stand.
 //! Why it is so stands in docs/DECISIONS.md: 85, What links, front and clock take of the system.
 ghost use Rattle.std.specs.Prelude.{◌≡◌};
-ghost use Rattle.socket_outside.specs.Emptied.{empties, says_end};
+ghost use Rattle.socket_outside.specs.Emptied.{empties, hides_more};
 
 use crate::room::make_marks;
 use mio::event::Event;
@@ -9,11 +9,12 @@ use mpm_base::{Got, NoMemory};
 use std::alloc::Global;
 use std::sync::atomic::{AtomicBool, Ordering};
 
-/// Whether the event says that the client sends no more, or that the connection failed.
-pub fn says_end(event: &Event) -> bool
-    ensures { result ≡ says_end event.now }
+/// Whether something may stand behind a read that was short, of which no further event tells: the event says that the client sends no
+/// more, that the connection failed, or that bytes are urgent, before which a read stops.
+pub fn hides_more(event: &Event) -> bool
+    ensures { result ≡ hides_more event.now }
 {
-    event.is_error() || event.is_read_closed() || event.is_write_closed()
+    event.is_error() || event.is_read_closed() || event.is_write_closed() || event.is_priority()
 }
 
 /// Whether a read into so much room, which answered this, left nothing behind: it was short of its room, or found nothing.
@@ -27,19 +28,20 @@ pub fn empties(got: Got, room: usize) -> bool
     }
 }
 
-/// Two marks for each slot: whether the link that is watched under it emptied its socket, and whether an event said its end.
+/// Two marks for each slot: whether the link that is watched under it emptied its socket, and whether an event said that more may be
+/// hidden behind a short read.
 ///
 /// The system tells of each thing that comes once, as it comes. So where a read left nothing behind, what comes later has an event of its
-/// own, and until that one there is nothing to be read. The end alone may stand behind bytes that came with it, of which no further
-/// event tells: behind an event that says it each read is made.
+/// own, and until that one there is nothing to be read. An end alone, and what comes behind urgent bytes, may stand behind a short read
+/// without a further event: once one said so each read is made.
 ///
-/// A link sets the first mark before it reads, and then takes it off unless it emptied its socket and no end was told; the front takes it
-/// off at each event of the slot, behind the second mark, which it sets where the event says the end. So an event that comes during a
-/// read is missed by neither.
+/// A link sets the first mark before it reads, and then takes it off unless it emptied its socket and nothing may be hidden; the front takes
+/// it off at each event of the slot, behind the second mark, which it sets where the event says so. So an event that comes during a read is
+/// missed by neither.
 #[derive(Drop)]
 pub(crate) struct EmptiedMarks {
     emptied: Vec<AtomicBool>,
-    ended: Vec<AtomicBool>,
+    hidden: Vec<AtomicBool>,
 }
 
 impl EmptiedMarks {
@@ -47,20 +49,20 @@ impl EmptiedMarks {
     pub(crate) fn make(alloc: Global, slots: u32) -> Result<EmptiedMarks, NoMemory> {
         Ok(EmptiedMarks {
             emptied: make_marks(alloc, slots)?,
-            ended: make_marks(alloc, slots)?,
+            hidden: make_marks(alloc, slots)?,
         })
     }
 
     /// Another link is watched under the slot from now on, of which nothing was told.
     pub(crate) fn begin(&self, slot: u32) {
-        set(&self.ended, slot, false);
+        set(&self.hidden, slot, false);
         set(&self.emptied, slot, false);
     }
 
-    /// There was an event of the slot, which says the end or doesn't.
-    pub(crate) fn hear(&self, slot: u32, ends: bool) {
-        if ends {
-            set(&self.ended, slot, true);
+    /// There was an event of the slot, behind which more may be hidden or not.
+    pub(crate) fn hear(&self, slot: u32, hides: bool) {
+        if hides {
+            set(&self.hidden, slot, true);
         }
         set(&self.emptied, slot, false);
     }
@@ -72,7 +74,7 @@ impl EmptiedMarks {
 
     /// The read is done, and left nothing behind, or may have.
     pub(crate) fn end_read(&self, slot: u32, empties: bool) {
-        if !empties || is_set(&self.ended, slot) {
+        if !empties || is_set(&self.hidden, slot) {
             set(&self.emptied, slot, false);
         }
     }

@@ -5,7 +5,7 @@ ghost use Rattle.mio.specs.Events.{items};
 ghost use Rattle.socket_outside.specs.Events.{is_room_alone, longest_wait, source_of_number};
 ghost use Rattle.socket_outside.specs.EventsInside.{AddsSlot, GivesSlots, has_slot, is_of_control, is_of_listener, source_of_event};
 
-use crate::emptied::says_end;
+use crate::emptied::hides_more;
 use crate::place::Marks;
 use mio::event::Event;
 use mio::{Events, Token};
@@ -112,7 +112,7 @@ fn note_event(event: &Event, marks: &Marks, ready: &mut Ready, noticed: &mut Not
         Source::Listener => noticed.arrivals = true,
         Source::Control => noticed.control = true,
         Source::Slot(slot) => {
-            marks.emptied.hear(slot, says_end(event));
+            marks.emptied.hear(slot, hides_more(event));
             if gives_slot(event, marks.room.lacks(slot)) {
                 give(ready, slot);
             }

@@ -37,7 +37,7 @@ pub use bell::SocketBell;
 pub use clock::{Start, SystemClock, clock_answer, moment_at, moment_behind, start_from};
 pub use command_lines::{Heard, Spoken, heard_in};
 pub use dial::{exchange, read_out, send_line};
-pub use emptied::{empties, says_end};
+pub use emptied::{empties, hides_more};
 pub use events::{Source, gives_slot, longest_wait, source_of};
 pub use front::SocketFront;
 pub use link::SocketLink;

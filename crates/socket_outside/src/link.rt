@@ -55,7 +55,7 @@ impl SocketLink {
                 .register(
                     socket,
                     Token(slot as usize),
-                    Interest::READABLE | Interest::WRITABLE,
+                    Interest::READABLE | Interest::WRITABLE | Interest::PRIORITY,
                 )
                 .is_ok(),
             None => false,
