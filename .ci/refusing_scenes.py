@@ -216,8 +216,11 @@ def responses_are_whole_where_the_system_moves_a_byte_at_a_time():
             getattr(system, name).most = 1
         # an answer is one write, and what that doesn't take is lost
         command(server, "graceful", b"g")
+        # a read of a connection takes all that is there, so here a byte comes at a time
+        system.recv.most = 0
         with connect(server.port) as client:
-            client.send(GET + request("GET", "/long.txt") + request("POST", "/", "Content-Length: 3") + b"abc" + GET)
+            for byte in GET + request("GET", "/long.txt") + request("POST", "/", "Content-Length: 3") + b"abc" + GET:
+                client.send(bytes([byte]))
             expect("the first", client.reply(), ANSWER)
             expect("the second", client.reply(), response("200 OK", "text/plain", files["long.txt"]))
             expect("the third", client.reply(), real_server.refusal("405 Method Not Allowed", "Allow: GET, HEAD, OPTIONS"))

@@ -133,18 +133,19 @@ class Forking:
 
 
 class Nginx(Forking):
-    name = "nginx"
-
-    def __init__(self, program, seconds):
+    def __init__(self, program, seconds, wide=False):
+        """It has one worker process and doesn't send files by `sendfile`; or, wide, as many as there are processors, and does."""
         self.program, self.seconds = program, seconds
+        self.name = "nginx, wide" if wide else "nginx"
+        self.workers, self.sendfile = ("auto", "on") if wide else ("1", "off")
 
     def begin(self, folder, port, _):
         temporary = "".join(f"{kind}_temp_path {kind};\n" for kind in ["client_body", "proxy", "fastcgi", "uwsgi", "scgi"])
         user = "user root;\n" if os.geteuid() == 0 else ""
         with open(f"{folder}/nginx.conf", "w") as file:
             file.write(
-                f"daemon off;\n{user}worker_processes 1;\npid nginx.pid;\nevents {{ worker_connections 12000; }}\n"
-                f"http {{\n{temporary}access_log off;\netag off;\nsendfile off;\ntcp_nodelay on;\n"
+                f"daemon off;\n{user}worker_processes {self.workers};\npid nginx.pid;\nevents {{ worker_connections 12000; }}\n"
+                f"http {{\n{temporary}access_log off;\netag off;\nsendfile {self.sendfile};\ntcp_nodelay on;\n"
                 "open_file_cache max=100 inactive=1h;\nopen_file_cache_valid 1h;\n"
                 f"keepalive_timeout {self.seconds};\nkeepalive_requests 1000000000;\nclient_header_timeout {self.seconds};\n"
                 "default_type text/html;\n"
@@ -190,13 +191,15 @@ class Apache(Forking):
         return bool(self.sign(running) - before)
 
 
-def servers(program, children, seconds):
+def servers(program, children, seconds, wide=False):
     """event_server as this program, where there is one, and the others, as far as they are installed: with room for so many children, and
-    so many seconds for connections that wait."""
+    so many seconds for connections that wait. nginx may be there a second time, with all processors."""
     there = [EventServer(program, children, seconds)] if program else []
     nginx = found("nginx")
     if nginx:
         there.append(Nginx(nginx, seconds))
+        if wide:
+            there.append(Nginx(nginx, seconds, wide=True))
     apache = found("apache2", "httpd")
     modules = next((folder for folder in MODULES if os.path.exists(f"{folder}/mod_mpm_event.so")), None)
     if apache and modules:

@@ -7,8 +7,24 @@ use mpm_base::{NoMemory, Note, Sequence};
 use std::alloc::Global;
 use std::marker::Model;
 
-/// For how many codes room is taken at once: so a connection with many of them has little room that it doesn't use.
+/// For how many codes room is taken at first: so a connection that waits behind a few of them has little room that it doesn't use.
+const FIRST_CODES: usize = 4;
+
+/// For how many codes room is taken at once behind these: so has one with many of them.
 const CODES_AT_ONCE: usize = 64;
+
+/// For how many codes room is to be taken where there are so many.
+fn room_behind(len: usize) -> usize {
+    if len == 0 {
+        FIRST_CODES
+    } else if len == FIRST_CODES {
+        CODES_AT_ONCE - FIRST_CODES
+    } else if len % CODES_AT_ONCE == 0 {
+        CODES_AT_ONCE
+    } else {
+        0
+    }
+}
 
 /// The responses of a connection so far, in order: a list of notes, as contracts see it. The program keeps the code of each, 2 bytes,
 /// and what the last one says: of a page nothing.
@@ -82,9 +98,7 @@ impl KeptNotes {
         ensures ok { OnOk result (self.new ≡ self.old ++ note.now ∷ []) }
         ensures err { OnErr result (self.new ≡ self.old) }
     {
-        if self.codes.len() % CODES_AT_ONCE == 0 {
-            self.codes.reserve_exact(CODES_AT_ONCE)?;
-        }
+        self.codes.reserve_exact(room_behind(self.codes.len()))?;
         self.codes.push(note.code)?;
         self.log = self.log.and(note, &());
         self.last = note.last;

@@ -1,11 +1,14 @@
 -- The values and the words of the fields of one name, field by field.
-use Rattle.std.proofs.Common.{◌≡◌, ℕ, ◌-◌, ◌<◌, Bool, true, false, cond, ◌||◌, List, [], ◌∷◌, ◌++◌, length, get_or, refl, sym, ap, ◌∙◌, arith}
-use Rattle.std.proofs.lemmas.List.{append-nil}
+use Rattle.std.proofs.Common.{◌≡◌, ℕ, ◌-◌, ◌<◌, Bool, true, false, cond, ◌||◌, List, [], ◌∷◌, ◌++◌, length, get_or, refl, sym, ap, ◌∙◌, subst, arith}
+use Rattle.std.specs.Char.{to_ascii_lowercase}
+use Rattle.std.proofs.lemmas.List.{append-nil, length-map}
 use Rattle.std.proofs.lemmas.List.Folds.{list_any-append}
 use Rattle.std.proofs.lemmas.Grind.{flat_map-append}
+use Rattle.std.proofs.lemmas.Slice.Eq.{bytes_eq-Decides}
 use Rattle.httparse.specs.declared.spans.Span.{Span}
 use Rattle.httparse.specs.Spans.{span_bytes, IsWithin}
 use Rattle.mpm_base.specs.LetterCase.{is_same_ignoring_case}
+use Rattle.http_read.specs.declared.request_fields.Values.{Values}
 use Rattle.http_read.specs.declared.request_fields.Values.TheVariants as values
 use Rattle.http_read.specs.FieldValues.{values_named, words_of, words_of_all, has_word, ends_in_word}
 use Rattle.http_read.specs.ValuesInside.{AreValues}
@@ -53,3 +56,16 @@ last_word_of_all (b ∷ bs) (found ∷ words) some =
 
 pub value_added : (head : List ℕ) (vs : List (List ℕ)) (span : Span) → AreValues head vs values.Absent → IsWithin (length head) span → AreValues head (vs ++ span_bytes head span ∷ []) (values.One span)
 value_added head vs span none within = (ap (λ l. l ++ span_bytes head span ∷ []) none, within)
+
+-- texts of different lengths are not the same, case ignored
+other_length : (text name : List ℕ) (same : Bool) → is_same_ignoring_case text name ≡ same → ¬ (length text ≡ length name) → same ≡ false
+other_length text name false is other = refl
+other_length text name true is other =
+    absurd (other (sym (length-map text to_ascii_lowercase) ∙ ap length ((bytes_eq-Decides _ _).0 is) ∙ length-map name to_ascii_lowercase))
+
+-- a field whose name has another length adds no value
+pub stays_as : (head name : List ℕ) (fields : List (List ℕ × List ℕ)) (f : List ℕ × List ℕ) (v : Values) (n m : ℕ)
+    → length f.0 ≡ n → length name ≡ m → ¬ (n ≡ m) → AreValues head (values_named name fields) v → AreValues head (values_named name (fields ++ f ∷ [])) v
+stays_as head name fields f v n m long named other are =
+    subst (λ vs. AreValues head vs v)
+    (sym (values_other name fields f (other_length f.0 name (is_same_ignoring_case f.0 name) refl (λ e. other (sym long ∙ e ∙ named))))) are

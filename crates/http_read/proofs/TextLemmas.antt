@@ -32,7 +32,7 @@ no_head_of_shorter most text headers parts only other head h =
 
 -- it found the head that the text is
 module _ (text : List ℕ) (headers : List HeaderSpan) (parts : RequestSpans) (most : ℕ) (long : Bool)
-    (found : IsRequestOf text headers parts) (whole : parts.len ≡ length text) (fits : parts.headers ≤ length headers) (room : length headers ≡ most) where
+    (found : IsRequestOf text headers parts) (whole : parts.len ≡ length text) (fits : parts.headers ≤ length headers) (room : length headers ≤ most) where
   found_head : IsHead most text found.0
   found_head =
       let fields = ap length found.1.fields in

@@ -1,25 +1,30 @@
 //! What a head of the grammar says, by the rules of RFC 9110 and RFC 9112, or the code by which it is refused.
-ghost use Rattle.std.specs.Prelude.{◌≡◌, length, All, codes};
-ghost use Rattle.httparse.specs.Spans.{IsHeaderWithin};
+ghost use Rattle.std.specs.Prelude.{◌≡◌, length, map, All, codes};
+ghost use Rattle.httparse.specs.Spans.{IsHeaderWithin, header_bytes};
 ghost use Rattle.http_read.specs.FieldValues.{words_of_all};
 ghost use Rattle.http_read.specs.HeadRules.{host_in, length_of, coded_body, transfer_body, sized_body, body_of, has_content, expects_of, asks_close, range_in};
-ghost use Rattle.http_read.specs.ValuesInside.{AreValues, IsHostAt, IsRangeAt, values_in};
+ghost use Rattle.http_read.specs.ValuesInside.{AreFound, AreValues, IsHostAt, IsRangeAt, values_in};
 
 use crate::authority::is_host_value;
 use crate::codes::{BAD_REQUEST, CONTENT_TOO_LARGE, EXPECTATION_FAILED, NOT_IMPLEMENTED};
 use crate::request::BodyKind;
-use crate::request_fields::{Values, fields_end_in_word, fields_have_word, values_of};
+use crate::request_fields::{Found, Values, fields_end_in_word, fields_have_word};
 use crate::sizes::GREATEST_BODY;
 use httparse::spans::{HeaderSpan, Span};
 use mpm_base::is_same_ignoring_case;
 
 /// Where the Host stands; an empty span where there is none.
-pub(crate) fn host_in(head: &[u8], minor: u8, headers: &[HeaderSpan]) -> Result<Span, u16>
-    requires { All (IsHeaderWithin (length head.now)) headers.now }
+pub(crate) fn host_in(
+    head: &[u8],
+    minor: u8,
+    _headers: &[HeaderSpan],
+    found: &Found,
+) -> Result<Span, u16>
+    requires { AreFound head.now (map (header_bytes head.now) _headers.now) found.now }
     ensures { IsHostAt head.now
-        (host_in minor (values_in head.now headers.now (codes "host"))) result }
+        (host_in minor (values_in head.now _headers.now (codes "host"))) result }
 {
-    match values_of(head, headers, b"host") {
+    match found.host {
         Values::Absent if minor == 1 => Err(BAD_REQUEST),
         Values::Absent => Ok(Span { start: 0, end: 0 }),
         Values::One(span) if is_host_value(span.of(head)) => Ok(span),
@@ -28,14 +33,19 @@ pub(crate) fn host_in(head: &[u8], minor: u8, headers: &[HeaderSpan]) -> Result<
 }
 
 /// The body of the request.
-pub(crate) fn body_of(head: &[u8], minor: u8, headers: &[HeaderSpan]) -> Result<BodyKind, u16>
-    requires { All (IsHeaderWithin (length head.now)) headers.now }
+pub(crate) fn body_of(
+    head: &[u8],
+    minor: u8,
+    headers: &[HeaderSpan],
+    found: &Found,
+) -> Result<BodyKind, u16>
+    requires within { All (IsHeaderWithin (length head.now)) headers.now }
+    requires found { AreFound head.now (map (header_bytes head.now) headers.now) found.now }
     ensures { result ≡ body_of minor (values_in head.now headers.now (codes "transfer-encoding"))
         (values_in head.now headers.now (codes "content-length")) }
 {
-    let codings = values_of(head, headers, b"transfer-encoding");
-    let lengths = values_of(head, headers, b"content-length");
-    match (codings, lengths) {
+    let codings = found.codings;
+    match (codings, found.lengths) {
         (Values::Absent, Values::Absent) => Ok(BodyKind::Nothing),
         (Values::Absent, Values::One(span)) => length_of(span.of(head)),
         (Values::Absent, Values::Several) => Err(BAD_REQUEST),
@@ -99,16 +109,17 @@ fn has_content(body: BodyKind) -> bool
 pub(crate) fn expects_of(
     head: &[u8],
     minor: u8,
-    headers: &[HeaderSpan],
+    _headers: &[HeaderSpan],
+    found: &Found,
     body: BodyKind,
 ) -> Result<bool, u16>
-    requires { All (IsHeaderWithin (length head.now)) headers.now }
-    ensures { result ≡ expects_of minor body (values_in head.now headers.now (codes "expect")) }
+    requires { AreFound head.now (map (header_bytes head.now) _headers.now) found.now }
+    ensures { result ≡ expects_of minor body (values_in head.now _headers.now (codes "expect")) }
 {
     if minor == 0 {
         return Ok(false);
     }
-    match values_of(head, headers, b"expect") {
+    match found.expect {
         Values::Absent => Ok(false),
         Values::One(span) if is_same_ignoring_case(span.of(head), b"100-continue") => Ok(
             has_content(body),
@@ -118,25 +129,26 @@ pub(crate) fn expects_of(
 }
 
 /// Whether the connection is to be closed after the response.
-pub(crate) fn asks_close(head: &[u8], minor: u8, headers: &[HeaderSpan]) -> bool
-    requires { All (IsHeaderWithin (length head.now)) headers.now }
+pub(crate) fn asks_close(head: &[u8], minor: u8, headers: &[HeaderSpan], found: &Found) -> bool
+    requires within { All (IsHeaderWithin (length head.now)) headers.now }
+    requires found { AreFound head.now (map (header_bytes head.now) headers.now) found.now }
     ensures { result
         ≡ asks_close minor (words_of_all (values_in head.now headers.now (codes "connection"))) }
 {
+    if let Values::Absent = found.connection {
+        return minor == 0;
+    }
     fields_have_word(head, headers, b"connection", b"close")
         || (minor == 0 && !fields_have_word(head, headers, b"connection", b"keep-alive"))
 }
 
 /// Where the Range stands, where one does and no If-Range.
-pub(crate) fn range_in(head: &[u8], headers: &[HeaderSpan]) -> Option<Span>
-    requires { All (IsHeaderWithin (length head.now)) headers.now }
-    ensures { IsRangeAt head.now (range_in (values_in head.now headers.now (codes "range"))
-        (values_in head.now headers.now (codes "if-range"))) result }
+pub(crate) fn range_in(_head: &[u8], _headers: &[HeaderSpan], found: &Found) -> Option<Span>
+    requires { AreFound _head.now (map (header_bytes _head.now) _headers.now) found.now }
+    ensures { IsRangeAt _head.now (range_in (values_in _head.now _headers.now (codes "range"))
+        (values_in _head.now _headers.now (codes "if-range"))) result }
 {
-    match (
-        values_of(head, headers, b"range"),
-        values_of(head, headers, b"if-range"),
-    ) {
+    match (found.range, found.if_range) {
         (Values::One(span), Values::Absent) => Some(span),
         _ => None,
     }

@@ -1,8 +1,8 @@
 //! The fields of a head, looked up by their names.
-ghost use Rattle.std.specs.Prelude.{◌≡◌, ◌<◌, ℕ, false, List, [], ◌∷◌, ◌++◌, length, All};
+ghost use Rattle.std.specs.Prelude.{◌≡◌, ◌<◌, ℕ, false, List, [], ◌∷◌, ◌++◌, length, map, All};
 ghost use Rattle.httparse.specs.Spans.{IsHeaderWithin, IsWithin, header_bytes, span_bytes};
 ghost use Rattle.http_read.specs.FieldValues.{values_named, words_of_all, has_word, ends_in_word};
-ghost use Rattle.http_read.specs.ValuesInside.{AreValues, values_in};
+ghost use Rattle.http_read.specs.ValuesInside.{AreFound, AreValues, values_in};
 ghost use Rattle.http_read.specs.WordsInside.{last_word_is};
 
 use crate::words::{value_ends_in_word, value_has_word};
@@ -20,14 +20,62 @@ pub(crate) enum Values {
     Several,
 }
 
-/// The values of the fields of that name.
-pub(crate) fn values_of(head: &[u8], headers: &[HeaderSpan], name: &[u8]) -> Values
-    requires { All (IsHeaderWithin (length head.now)) headers.now }
-    ensures { AreValues head.now (values_in head.now headers.now name.now) result }
+/// The values of the fields by which a head is judged.
+#[derive(Clone, Copy, Debug)]
+pub(crate) struct Found {
+    pub host: Values,
+    pub codings: Values,
+    pub lengths: Values,
+    pub expect: Values,
+    pub connection: Values,
+    pub range: Values,
+    pub if_range: Values,
+}
+
+/// The values of no field.
+fn none_found() -> Found
+    ensures { (head : List ℕ) → AreFound head [] result }
 {
-    let mut found = Values::Absent;
+    Found {
+        host: Values::Absent,
+        codings: Values::Absent,
+        lengths: Values::Absent,
+        expect: Values::Absent,
+        connection: Values::Absent,
+        range: Values::Absent,
+        if_range: Values::Absent,
+    }
+}
+
+/// The values of the fields by which a head is judged, by one walk over all fields.
+pub(crate) fn find_fields(head: &[u8], headers: &[HeaderSpan]) -> Found
+    requires { All (IsHeaderWithin (length head.now)) headers.now }
+    ensures { AreFound head.now (map (header_bytes head.now) headers.now) result }
+{
+    let mut found = none_found();
     for header in headers {
-        found = add_value(found, head, header, name);
+        found = add_field(found, head, header);
+    }
+    found
+}
+
+/// The values after one field more. No two of the names have the same length.
+fn add_field(found: Found, head: &[u8], header: &HeaderSpan) -> Found
+    requires { IsHeaderWithin (length head.now) header.now }
+    ensures { (fields : List (List ℕ × List ℕ))
+        → AreFound head.now fields found
+        → AreFound head.now (fields ++ header_bytes head.now header.now ∷ []) result }
+{
+    let mut found = found;
+    match header.name.of(head).len() {
+        4 => found.host = add_value(found.host, head, header, b"host"),
+        5 => found.range = add_value(found.range, head, header, b"range"),
+        6 => found.expect = add_value(found.expect, head, header, b"expect"),
+        8 => found.if_range = add_value(found.if_range, head, header, b"if-range"),
+        10 => found.connection = add_value(found.connection, head, header, b"connection"),
+        14 => found.lengths = add_value(found.lengths, head, header, b"content-length"),
+        17 => found.codings = add_value(found.codings, head, header, b"transfer-encoding"),
+        _ => (),
     }
     found
 }

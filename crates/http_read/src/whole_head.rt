@@ -1,5 +1,5 @@
 //! The head of a request whose end was found.
-ghost use Rattle.std.specs.Prelude.{◌<◌, length, map, slice_set, All};
+ghost use Rattle.std.specs.Prelude.{◌<◌, ◌≤◌, length, map, slice_set, All, IfSome};
 ghost use Rattle.httparse.specs.Spans.{IsHeaderWithin, IsWithin, header_bytes};
 ghost use Rattle.http_read.specs.TextsInside.{IsWithinText, ReadsText, TextIs, IsSaid};
 
@@ -8,10 +8,14 @@ use crate::head::HeadAnswer;
 use crate::head_reader::Noted;
 use crate::head_rules::{asks_close, body_of, expects_of, host_in, range_in};
 use crate::request::{Limits, Request};
+use crate::request_fields::find_fields;
 use crate::version::Version;
 use httparse::Status;
 use httparse::spans::{EMPTY_HEADER_SPAN, HeaderSpan, RequestSpans, parse_request};
 use std::alloc::Global;
+
+/// Up to so many fields a head is read with little room.
+const FEW_FIELDS: usize = 32;
 
 /// Up to so many fields need no memory while they are read.
 const USUAL_FIELDS: usize = 100;
@@ -42,17 +46,33 @@ fn read_later(alloc: Global, text: &[u8], limits: &Limits, long: bool, digit: us
     }
 }
 
-/// Reads a text that ends as a head does; `long` says whether one of its field lines is longer than its limit.
+/// Reads a text that ends as a head does; `long` says whether one of its field lines is longer than its limit. Where it isn't a head of
+/// few fields it is read once more, with all the room that it may have.
 fn read_text(alloc: Global, text: &[u8], limits: &Limits, long: bool) -> HeadAnswer
     ensures { TextIs limits.now.fields long text.now result }
 {
     let most = limits.fields as usize;
-    if most <= USUAL_FIELDS {
-        let mut spans = [EMPTY_HEADER_SPAN; USUAL_FIELDS];
-        parse_head(alloc, text, &mut spans[..most], long)
-    } else {
-        read_many(alloc, text, most, long)
+    match read_few(alloc, text, most, long) {
+        Some(answer) => answer,
+        None if most <= USUAL_FIELDS => read_usual(alloc, text, most, long),
+        None => read_many(alloc, text, most, long),
     }
+}
+
+/// Reads a head of few fields, and no other text.
+fn read_few(alloc: Global, text: &[u8], most: usize, long: bool) -> Option<HeadAnswer>
+    ensures { IfSome result (TextIs most long text.now) }
+{
+    let mut spans = [EMPTY_HEADER_SPAN; FEW_FIELDS];
+    parse_whole(alloc, text, &mut spans[..most.min(FEW_FIELDS)], most, long)
+}
+
+fn read_usual(alloc: Global, text: &[u8], most: usize, long: bool) -> HeadAnswer
+    requires { most ≤ 100 }
+    ensures { TextIs most long text.now result }
+{
+    let mut spans = [EMPTY_HEADER_SPAN; USUAL_FIELDS];
+    parse_head(alloc, text, &mut spans[..most], long)
 }
 
 fn read_many(alloc: Global, text: &[u8], most: usize, long: bool) -> HeadAnswer
@@ -61,6 +81,31 @@ fn read_many(alloc: Global, text: &[u8], most: usize, long: bool) -> HeadAnswer
     match vec![in alloc; EMPTY_HEADER_SPAN; most] {
         Ok(mut spans) => parse_head(alloc, text, &mut spans, long),
         Err(_) => HeadAnswer::NoMemory,
+    }
+}
+
+/// Reads a head that the text is, with room for as many fields as there are spans, where it may have `most`; None where it is none that
+/// fits these.
+fn parse_whole(
+    alloc: Global,
+    text: &[u8],
+    spans: &mut [HeaderSpan],
+    most: usize,
+    long: bool,
+) -> Option<HeadAnswer>
+    requires { length spans.old ≤ most }
+    ensures { IfSome result (TextIs most long text.now) }
+{
+    match parse_request(text, spans) {
+        Ok(Status::Complete(parts)) => {
+            if parts.len == text.len() {
+                let fields = &spans[..parts.headers];
+                Some(judge(alloc, text, &parts, fields, long))
+            } else {
+                None
+            }
+        }
+        _ => None,
     }
 }
 
@@ -97,15 +142,16 @@ fn judge(
     if long {
         return HeadAnswer::Refused(BAD_REQUEST);
     }
-    let host = match host_in(head, parts.version, headers) {
+    let found = find_fields(head, headers);
+    let host = match host_in(head, parts.version, headers, &found) {
         Ok(host) => host,
         Err(code) => return HeadAnswer::Refused(code),
     };
-    let body = match body_of(head, parts.version, headers) {
+    let body = match body_of(head, parts.version, headers, &found) {
         Ok(body) => body,
         Err(code) => return HeadAnswer::Refused(code),
     };
-    let expects = match expects_of(head, parts.version, headers, body) {
+    let expects = match expects_of(head, parts.version, headers, &found, body) {
         Ok(expects) => expects,
         Err(code) => return HeadAnswer::Refused(code),
     };
@@ -116,9 +162,9 @@ fn judge(
                 method: parts.method,
                 target: parts.path,
                 host,
-                range: range_in(head, headers),
+                range: range_in(head, headers, &found),
                 minor: parts.version,
-                asked_close: asks_close(head, parts.version, headers),
+                asked_close: asks_close(head, parts.version, headers, &found),
                 expects,
                 body,
             },

@@ -5,6 +5,7 @@ pub mod AskingInside
 pub mod CommandLines
 pub mod CommandLinesInside
 pub mod Dialling
+pub mod Emptied
 pub mod Events
 pub mod EventsInside
 pub mod GivingWay

@@ -136,10 +136,17 @@ pub fn write_some<S: Write>(socket: &mut S, piece: &[u8]) -> Sent
     Sent::Failed
 }
 
-/// Writes from the front of the one piece followed by the other. A write that is interrupted is asked again, and fails at last.
-pub(crate) fn write_pair_some(socket: &TcpStream, first: &[u8], second: &[u8]) -> Sent
+/// Writes from the front of the one piece followed by the other, and names an empty one to nobody. A write that is interrupted is asked
+/// again, and fails at last.
+pub(crate) fn write_pair_some(socket: &mut TcpStream, first: &[u8], second: &[u8]) -> Sent
     ensures { FitsPiece result (length (first.now ++ second.now)) }
 {
+    if first.is_empty() {
+        return write_some(socket, second);
+    }
+    if second.is_empty() {
+        return write_some(socket, first);
+    }
     for _ in 0..CALLS {
         if let Some(sent) = write_pair_once(socket, first, second) {
             return sent;

@@ -5,7 +5,8 @@ ghost use Rattle.mio.specs.Events.{items};
 ghost use Rattle.socket_outside.specs.Events.{is_room_alone, longest_wait, source_of_number};
 ghost use Rattle.socket_outside.specs.EventsInside.{AddsSlot, GivesSlots, has_slot, is_of_control, is_of_listener, source_of_event};
 
-use crate::room::RoomMarks;
+use crate::emptied::hides_more;
+use crate::place::Marks;
 use mio::event::Event;
 use mio::{Events, Token};
 use mpm_base::{Moment, Ready};
@@ -95,8 +96,8 @@ pub(crate) struct Noticed {
     pub(crate) control: bool,
 }
 
-/// Gives the slot of the event where it calls for it or its link may lack room, and notes what else it tells.
-fn note_event(event: &Event, marks: &RoomMarks, ready: &mut Ready, noticed: &mut Noticed)
+/// Gives the slot of the event where it calls for it or its link may lack room, tells its link of it, and notes what else it tells.
+fn note_event(event: &Event, marks: &Marks, ready: &mut Ready, noticed: &mut Noticed)
     requires distinct { IsDistinct (λ a b. a == b) ready.old }
     requires room { length ready.old < 256 }
     ensures distinct { IsDistinct (λ a b. a == b) ready.new }
@@ -111,7 +112,8 @@ fn note_event(event: &Event, marks: &RoomMarks, ready: &mut Ready, noticed: &mut
         Source::Listener => noticed.arrivals = true,
         Source::Control => noticed.control = true,
         Source::Slot(slot) => {
-            if gives_slot(event, marks.lacks(slot)) {
+            marks.emptied.hear(slot, hides_more(event));
+            if gives_slot(event, marks.room.lacks(slot)) {
                 give(ready, slot);
             }
         }
@@ -119,8 +121,8 @@ fn note_event(event: &Event, marks: &RoomMarks, ready: &mut Ready, noticed: &mut
     }
 }
 
-/// Gives the slots of the events, and says what else they tell.
-pub(crate) fn give_slots(events: &Events, marks: &RoomMarks, ready: &mut Ready) -> Noticed
+/// Gives the slots of the events, tells their links of them, and says what else they tell.
+pub(crate) fn give_slots(events: &Events, marks: &Marks, ready: &mut Ready) -> Noticed
     requires empty { ready.old ≡ [] }
     requires few { length (items events.now) ≤ 256 }
     ensures slots { GivesSlots (items events.now) ready.new }

@@ -8,6 +8,7 @@ ghost use Rattle.socket_outside.specs.GivingWay.{GivesWay, TakesWay, count_of_se
 use crate::allowance::Allowance;
 use crate::answers::{lacks_room, read_some, shut_for, write_pair_some, write_some};
 use crate::counters::LinkCounters;
+use crate::emptied::empties;
 use crate::place::{LinkPlace, Marks};
 use mio::net::TcpStream;
 use mio::{Interest, Registry, Token};
@@ -20,6 +21,9 @@ use std::sync::Arc;
 /// It gives way to others: since the last wait of its front it gives at most 16,384 bytes by reads and takes at most 1,048,576 by
 /// writes. What is asked of it beyond that it puts off: it answers NotReady, as it does where the system does, and the next wait gives its
 /// slot.
+///
+/// Where a read was short of its room nothing more stands there, and until the system tells of something that came the next one answers
+/// NotReady, which is counted, without a call of it.
 #[derive(Drop)]
 pub struct SocketLink {
     socket: Option<TcpStream>,
@@ -51,7 +55,7 @@ impl SocketLink {
                 .register(
                     socket,
                     Token(slot as usize),
-                    Interest::READABLE | Interest::WRITABLE,
+                    Interest::READABLE | Interest::WRITABLE | Interest::PRIORITY,
                 )
                 .is_ok(),
             None => false,
@@ -73,7 +77,8 @@ impl SocketLink {
     }
 
     #[tactic(auto, using(crate::proofs::GivingLemmas::fits_buffer, crate::proofs::GivingLemmas::got_count))]
-    /// Reads into the front of the buffer, as far as the link may give since the last wait. Where it may give no more it gives way.
+    /// Reads into the front of the buffer, as far as the link may give since the last wait. Where nothing can stand there nothing is
+    /// read, and where it may give no more it gives way.
     fn give(&mut self, buffer: &mut [u8]) -> Got
         ensures fits { FitsBuffer result (length buffer.new) }
         ensures closed { self.old.socket ≡ None → result ≡ Got.Failed }
@@ -82,14 +87,20 @@ impl SocketLink {
         ensures counts { self.new.counters ≡ self.old.counters }
     {
         let most = self.allowance.may_give(buffer.len());
+        if self.socket.is_some() && self.place.has_emptied() {
+            return Got::NotReady;
+        }
         if most == 0 && self.socket.is_some() {
             self.place.give_way();
             return Got::NotReady;
         }
-        match &mut self.socket {
+        self.place.begin_read();
+        let got = match &mut self.socket {
             Some(socket) => read_some(socket, &mut buffer[..most]),
             None => Got::Failed,
-        }
+        };
+        self.place.end_read(empties(got, most));
+        got
     }
 
     #[tactic(auto, using(crate::proofs::GivingLemmas::fits_piece, crate::proofs::GivingLemmas::sent_count))]
@@ -130,7 +141,7 @@ impl SocketLink {
             self.place.give_way();
             return Sent::NotReady;
         }
-        match &self.socket {
+        match &mut self.socket {
             Some(socket) => write_pair_some(socket, &first[..front], &second[..most - front]),
             None => Sent::Failed,
         }

@@ -1,17 +1,19 @@
 //! What a front and its links share, and what a link has of it.
 ghost use Rattle.std.specs.Prelude.{◌≡◌, false};
 
+use crate::emptied::EmptiedMarks;
 use crate::giving_way::GivenWay;
 use crate::room::RoomMarks;
 use mpm_base::NoMemory;
 use std::alloc::Global;
 use std::sync::Arc;
 
-/// What a front and its links share: which links may lack room, and which gave way.
+/// What a front and its links share: which links may lack room, which gave way, and which emptied their sockets.
 #[derive(Drop)]
 pub(crate) struct Marks {
     pub(crate) room: RoomMarks,
     pub(crate) way: GivenWay,
+    pub(crate) emptied: EmptiedMarks,
 }
 
 impl Marks {
@@ -20,6 +22,7 @@ impl Marks {
         Ok(Marks {
             room: RoomMarks::make(alloc, slots)?,
             way: GivenWay::make(alloc, slots)?,
+            emptied: EmptiedMarks::make(alloc, slots)?,
         })
     }
 }
@@ -50,6 +53,7 @@ impl LinkPlace {
     {
         self.slot = Some(slot);
         self.marks.room.set(slot, self.lacks);
+        self.marks.emptied.begin(slot);
     }
 
     /// The link isn't watched any more, and its slot may become another one's.
@@ -79,6 +83,27 @@ impl LinkPlace {
     pub(crate) fn give_way(&self) {
         if let Some(slot) = self.slot {
             self.marks.way.note(slot);
+        }
+    }
+    /// Whether the link emptied its socket, and nothing was told of it since: then there is nothing to be read.
+    pub(crate) fn has_emptied(&self) -> bool {
+        match self.slot {
+            Some(slot) => self.marks.emptied.has_emptied(slot),
+            None => false,
+        }
+    }
+
+    /// The link reads.
+    pub(crate) fn begin_read(&self) {
+        if let Some(slot) = self.slot {
+            self.marks.emptied.begin_read(slot);
+        }
+    }
+
+    /// The read is done, and left nothing behind, or may have.
+    pub(crate) fn end_read(&self, empties: bool) {
+        if let Some(slot) = self.slot {
+            self.marks.emptied.end_read(slot, empties);
         }
     }
 }

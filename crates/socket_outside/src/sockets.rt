@@ -263,7 +263,7 @@ impl Sockets {
         if woke != Some(true) {
             return woke;
         }
-        let noticed = give_slots(&self.events, &self.marks.room, ready);
+        let noticed = give_slots(&self.events, &self.marks, ready);
         self.turn = self.marks.way.give(self.turn, ready);
         if self.events.iter().as_slice().len() == MOST_EVENTS {
             fill_up(ready);

@@ -3,13 +3,15 @@ use Rattle.std.specs.Prelude.{map}
 use Rattle.std.proofs.lemmas.List.{take_more, map-append}
 use Rattle.httparse.specs.declared.spans.HeaderSpan.{HeaderSpan}
 use Rattle.httparse.specs.Spans.{header_bytes}
-use Rattle.http_read.specs.FieldValues.{values_named}
-use Rattle.http_read.specs.ValuesInside.{AreValues}
-use Rattle.http_read.proofs.request_fields.values_of.Goals as goal
+use Rattle.http_read.specs.ValuesInside.{AreFound}
+use Rattle.http_read.proofs.request_fields.find_fields.Goals as goal
 
 -- what stands past the end of the headers, where a default is asked for
 none : HeaderSpan
 none = record { name = record { start = 0; end = 0 }; value = record { start = 0; end = 0 } }
+
+pub loop-header-init : goal.loop-header-init
+loop-header-init c = c.none_found-found.ensures c.args.head.now
 
 pub loop-header-preserved : goal.loop-header-preserved
 unfolding none
@@ -18,5 +20,5 @@ loop-header-preserved c =
     let headers = c.args.headers.now in
     let i = c.loop-header.header-index in
     let more = ap (map (header_bytes head)) (take_more headers i none c.loop-header-test.true) ∙ map-append (header_bytes head) (take i headers) (get_or headers i none ∷ []) in
-    subst (λ fields. AreValues head (values_named c.args.name.now fields) c.add_value-found.result) (sym more)
-    (c.add_value-found.ensures (map (header_bytes head) (take i headers)) c.loop-header.invariant)
+    subst (λ fields. AreFound head fields c.add_field-found.result) (sym more)
+    (c.add_field-found.ensures (map (header_bytes head) (take i headers)) c.loop-header.invariant)
