@@ -29,8 +29,8 @@ use Rattle.table_rule.specs.Views.{credited_view}
 use Rattle.board_lock.specs.Passes.{GaveBack, TookTurn}
 use Rattle.idle_workers.specs.Found.{GivesCredit, MayCredit}
 use Rattle.board.specs.Board.{SeenBoard}
-use Rattle.board.specs.Book.{SeenBook}
-use Rattle.board.specs.Finds.{startable}
+use Rattle.board_book.specs.Book.{SeenBook}
+use Rattle.board_book.specs.Finds.{startable}
 use Rattle.board.specs.Ledger.{ledger_of}
 use Rattle.board_turns.specs.GoesOnInside.{MadeEvent}
 use Rattle.board_turns.specs.Rests.{TurnsRestOn}

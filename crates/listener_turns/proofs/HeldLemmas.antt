@@ -25,12 +25,12 @@ use Rattle.conn_state.specs.Known.{KnownOutside}
 use Rattle.table_rule.specs.declared.view.View.{View}
 use Rattle.table_rule.specs.declared.view.Who.{Who}
 use Rattle.board_lock.specs.Passes.{GaveBack, TookTurn}
-use Rattle.board.specs.declared.faults.BoardFault.{BoardFault}
+use Rattle.board_book.specs.declared.faults.BoardFault.{BoardFault}
 use Rattle.board.specs.Board.{SeenBoard}
-use Rattle.board.specs.Book.{AddsOnly, SeenBook}
+use Rattle.board_book.specs.Book.{AddsOnly, SeenBook}
 use Rattle.board.specs.Editions.{IsOfGeneration}
 use Rattle.board.specs.Events.{IsAdded}
-use Rattle.board.specs.Finds.{FindsRow, cause_of, kind_of, waits_for}
+use Rattle.board_book.specs.Finds.{FindsRow, cause_of, kind_of, waits_for}
 use Rattle.board.specs.Fits.{Fits, IsSettled, IsSettledFrom, IsTakenUp}
 use Rattle.board.specs.Ledger.{ledger_of}
 use Rattle.worker_group.proofs.AnswerLemmas.{live_row-update}

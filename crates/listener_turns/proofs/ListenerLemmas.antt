@@ -36,7 +36,8 @@ use Rattle.table_rule.specs.declared.view.View.{View}
 use Rattle.table_rule.specs.declared.view.Who.{Who}
 use Rattle.board_lock.specs.Passes.{GaveBack, TookTurn}
 use Rattle.board.specs.Board.{SeenBoard}
-use Rattle.board.specs.Editions.{IsOfGeneration, UsedHaveEditions}
+use Rattle.board_book.specs.Editions.{UsedHaveEditions}
+use Rattle.board.specs.Editions.{IsOfGeneration}
 use Rattle.board.specs.Fits.{IsSettled}
 use Rattle.board.specs.Ledger.{ledger_of}
 use Rattle.worker_group.specs.InHand.{IsClosable}

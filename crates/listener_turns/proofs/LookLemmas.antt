@@ -19,7 +19,7 @@ use Rattle.table_rule.specs.Ledgers.{IsSplit}
 use Rattle.board_lock.specs.Passes.{GaveBack, TookTurn}
 use Rattle.idle_workers.specs.Found.{FoundIdle}
 use Rattle.board.specs.Board.{SeenBoard, folded_board}
-use Rattle.board.specs.Finds.{FindsRow, is_quiet, is_waiting}
+use Rattle.board_book.specs.Finds.{FindsRow, is_quiet, is_waiting}
 use Rattle.board.specs.Ledger.{ledger_of}
 use Rattle.worker_group.proofs.ServeLemmas.{alive}
 use Rattle.worker_group.proofs.StartLemmas.{lives}

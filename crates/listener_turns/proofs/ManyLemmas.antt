@@ -22,11 +22,11 @@ use Rattle.table_rule.specs.declared.view.View.{View}
 use Rattle.table_rule.specs.Histories.{ArePermitted, IsPermitted}
 use Rattle.table_rule.specs.Ledgers.{MayGiveBack}
 use Rattle.board_lock.specs.Passes.{GaveBack, TookTurn}
-use Rattle.board.specs.declared.faults.BoardFault.{BoardFault}
-use Rattle.board.specs.declared.faults.BoardFault.TheVariants as fault
+use Rattle.board_book.specs.declared.faults.BoardFault.{BoardFault}
+use Rattle.board_book.specs.declared.faults.BoardFault.TheVariants as fault
 use Rattle.board.specs.Board.{SeenBoard}
-use Rattle.board.specs.Book.{SeenBook}
-use Rattle.board.specs.Faults.{IsRefusedFor}
+use Rattle.board_book.specs.Book.{SeenBook}
+use Rattle.board_book.specs.Faults.{IsRefusedFor}
 use Rattle.board.specs.Ledger.{ledger_of}
 use Rattle.board.specs.ReportLine.{line_of}
 use Rattle.board_turns.specs.Books.{book_of, state_of}

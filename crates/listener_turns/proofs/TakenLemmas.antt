@@ -20,12 +20,12 @@ use Rattle.conn_machine.specs.States.{is_serving, pick_child}
 use Rattle.conn_machine.specs.Table.{is_allowed, is_vacant_at, life_at, next, picked_child, taken_reply, taken_row}
 use Rattle.table_rule.specs.declared.view.View.{View}
 use Rattle.board_lock.specs.Passes.{GaveBack, TookTurn}
-use Rattle.board.specs.declared.faults.AcceptFault.{AcceptFault}
-use Rattle.board.specs.declared.faults.AcceptFault.TheVariants as fault
+use Rattle.board_book.specs.declared.faults.AcceptFault.{AcceptFault}
+use Rattle.board_book.specs.declared.faults.AcceptFault.TheVariants as fault
 use Rattle.board.specs.Board.{SeenBoard}
-use Rattle.board.specs.Book.{SeenBook, book_with_entry, entry_of}
+use Rattle.board_book.specs.Book.{SeenBook, book_with_entry, entry_of}
 use Rattle.board.specs.Events.{IsTaken}
-use Rattle.board.specs.Faults.{IsNotTakenFor}
+use Rattle.board_book.specs.Faults.{IsNotTakenFor}
 use Rattle.board.specs.Ledger.{ledger_of}
 use Rattle.worker_group.proofs.AnswerLemmas.{live_row-update}
 use Rattle.board_turns.specs.Books.{book_of, state_of}

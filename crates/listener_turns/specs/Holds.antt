@@ -20,7 +20,7 @@ use Rattle.conn_state.specs.Known.{KnownOutside}
 use Rattle.table_rule.specs.declared.view.View.{View}
 use Rattle.board.specs.Backed.{BacksWait}
 use Rattle.board.specs.Editions.{IsOfGeneration}
-use Rattle.board.specs.Finds.{cause_of, has_to_be_drained, is_late, is_let_go, is_waiting}
+use Rattle.board_book.specs.Finds.{cause_of, has_to_be_drained, is_late, is_let_go, is_waiting}
 use Rattle.board.specs.Fits.{Fits, FoundNoMore, IsOf, IsSettled}
 use Rattle.board_turns.specs.Books.{book_of, state_of}
 use Rattle.board_turns.specs.Turns.{HadTurn, state_found}

@@ -13,7 +13,7 @@ use Rattle.conn_machine.specs.Runs.{first_row}
 use Rattle.conn_machine.specs.Table.{may_retire}
 use Rattle.table_rule.specs.declared.view.View.{View}
 use Rattle.idle_workers.specs.Found.{FoundIdle}
-use Rattle.board.specs.Finds.{FindsRetirable, acceptable, has_to_be_drained, is_due, is_let_go, is_quiet, next_deadline_of, startable}
+use Rattle.board_book.specs.Finds.{FindsRetirable, acceptable, has_to_be_drained, is_due, is_let_go, is_quiet, next_deadline_of, startable}
 use Rattle.board_turns.specs.Books.{state_of}
 use Rattle.listener_turns.specs.declared.looks.Look.{Look}
 

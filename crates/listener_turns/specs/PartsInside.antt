@@ -11,7 +11,7 @@ use Rattle.conn_machine.specs.Table.{held_row}
 use Rattle.conn_state.specs.Conn.{SeenConn}
 use Rattle.table_rule.specs.Histories.{Extends}
 use Rattle.board.specs.Board.{SeenBoard}
-use Rattle.board.specs.Book.{AddsOnly}
+use Rattle.board_book.specs.Book.{AddsOnly}
 use Rattle.board.specs.Fits.{Fits, IsSettled}
 
 -- the pass made these events, in this order, and nothing was folded; the connections that had ended stay, with perhaps further ones

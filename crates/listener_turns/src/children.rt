@@ -4,8 +4,8 @@ ghost use Rattle.std.specs.Prelude.{◌≡◌, ◌<◌, List, [], ◌∷◌, map
 ghost use Rattle.conn_machine.specs.Table.{is_allowed, may_retire};
 ghost use Rattle.conn_machine.specs.declared.event.Entry.{Entry};
 ghost use Rattle.conn_machine.specs.declared.event.Event.TheVariants as event;
-ghost use Rattle.board.specs.Faults.{IsRefusedFor};
-ghost use Rattle.board.specs.Finds.{startable};
+ghost use Rattle.board_book.specs.Faults.{IsRefusedFor};
+ghost use Rattle.board_book.specs.Finds.{startable};
 ghost use Rattle.board_turns.specs.Books.{book_of, state_of};
 ghost use Rattle.board_turns.specs.Turns.{HadATurn, HadTurn, IsListener, state_found};
 ghost use Rattle.listener_turns.specs.Children.{AreStarted};

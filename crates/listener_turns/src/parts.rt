@@ -5,7 +5,7 @@ ghost use Rattle.conn_machine.specs.States.{is_halted};
 ghost use Rattle.conn_machine.specs.Table.{is_allowed};
 ghost use Rattle.conn_machine.specs.declared.event.Commanded.TheVariants.{Stop};
 ghost use Rattle.conn_machine.specs.declared.event.Event.TheVariants as event;
-ghost use Rattle.board.specs.Faults.{IsRefusedFor};
+ghost use Rattle.board_book.specs.Faults.{IsRefusedFor};
 ghost use Rattle.board_turns.specs.Books.{book_of, state_of};
 ghost use Rattle.board_turns.specs.Turns.{HadATurn, IsListener};
 ghost use Rattle.listener_turns.specs.Folds.{FoldsWhereDue};

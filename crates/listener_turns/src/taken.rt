@@ -4,7 +4,7 @@ ghost use Rattle.std.specs.Prelude.{◌≡◌, List, [], ◌∷◌, None, IfErr,
 ghost use Rattle.conn_machine.specs.declared.event.Entry.{Entry};
 ghost use Rattle.conn_machine.specs.declared.event.Event.TheVariants as event;
 ghost use Rattle.board.specs.Events.{IsTaken};
-ghost use Rattle.board.specs.Faults.{IsNotTakenFor};
+ghost use Rattle.board_book.specs.Faults.{IsNotTakenFor};
 ghost use Rattle.board_turns.specs.Books.{book_of, state_of};
 ghost use Rattle.board_turns.specs.Turns.{HadATurn, HadTurn, IsListener, state_found};
 ghost use Rattle.listener_turns.specs.Holds.{HasTaken};

@@ -1,7 +1,7 @@
 use Rattle.std.proofs.Common.{ap, sym, ◌∙◌, is_ok}
 use Rattle.conn_machine.specs.declared.event.Event.TheVariants as event
 use Rattle.table_rule.specs.declared.view.View.{View}
-use Rattle.board.specs.Finds.{startable}
+use Rattle.board_book.specs.Finds.{startable}
 use Rattle.board_turns.proofs.FoundLemmas.{pass_as, same_state}
 use Rattle.board_turns.proofs.GoesOnLemmas.{changed, made_added, may_change, may_stay}
 use Rattle.board_turns.proofs.ThenLemmas.{listener_then, nothing_row, nothing_row_as, nothing_state, row_then}

@@ -1,6 +1,6 @@
 use Rattle.std.proofs.Common.{map, ap, sym, ◌∙◌}
 use Rattle.conn_machine.specs.declared.event.Event.TheVariants as event
-use Rattle.board.specs.Finds.{startable}
+use Rattle.board_book.specs.Finds.{startable}
 use Rattle.board_turns.proofs.FoundLemmas.{pass_as}
 use Rattle.board_turns.proofs.ThenLemmas.{listener_then}
 use Rattle.listener_turns.proofs.ChildrenLemmas.{started_turn}

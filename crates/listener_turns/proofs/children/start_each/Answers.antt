@@ -1,7 +1,7 @@
 use Rattle.std.proofs.Common.{ap, sym, subst, rules, ◌∙◌}
 use Rattle.conn_machine.specs.declared.event.Event.TheVariants as event
 use Rattle.board.specs.Board.{SeenBoard}
-use Rattle.board.specs.Faults.{IsRefusedFor}
+use Rattle.board_book.specs.Faults.{IsRefusedFor}
 use Rattle.board_turns.proofs.GoesOnLemmas.{made_added}
 use Rattle.listener_turns.proofs.ChildrenLemmas.{HasStarted, fewer_gone, may_start_child, starts_more, starts_none}
 use Rattle.listener_turns.proofs.children.start_each.Goals as goal

@@ -2,7 +2,7 @@ use Rattle.std.proofs.Common.{None, ap, sym, subst, ◌∙◌}
 use Rattle.conn_machine.specs.declared.event.Event.TheVariants as event
 use Rattle.conn_machine.specs.declared.state.State.{State}
 use Rattle.table_rule.specs.declared.view.View.{View}
-use Rattle.board.specs.Finds.{FindsRow}
+use Rattle.board_book.specs.Finds.{FindsRow}
 use Rattle.board_turns.specs.Books.{state_of}
 use Rattle.board_turns.proofs.FoundLemmas.{pass_as, row_as}
 use Rattle.board_turns.proofs.GoesOnLemmas.{may_leave, may_stay}
