@@ -21,7 +21,7 @@ pub(crate) enum Values {
 }
 
 /// The values of the fields by which a head is judged.
-#[derive(Clone, Copy, Debug)]
+#[derive(Clone, Copy)]
 pub(crate) struct Found {
     pub host: Values,
     pub codings: Values,
