@@ -41,12 +41,14 @@ pub fn make_move(alloc: Global, board: &mut TestBoard, step: Move) -> bool
     }
 }
 
-/// Something may have come for the slot.
+/// Something may have come for the slot, of which that isn't known yet.
 fn signal(board: &mut TestBoard, slot: u32) -> bool
     requires { 0 < board.old.book.passes }
     ensures { Changed result board.old board.new }
 {
-    may_make(board, &Event::Ready(slot)) && board.ready(0, slot).is_ok()
+    !board.state().signals.get(slot)
+        && may_make(board, &Event::Ready(slot))
+        && board.ready(0, slot).is_ok()
 }
 
 /// The child starts.
