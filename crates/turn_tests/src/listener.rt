@@ -82,10 +82,17 @@ pub fn listens<R: Wait, M: Room>(rt: &R, listener: Listener<'_, M>) -> Option<Fd
         mut pusher,
         plan,
     } = listener;
-    if goes_round(rt, &mut front, &mut pusher, plan) && end_all(rt, &mut pusher, plan.workers) {
-        return Some(pusher.seat);
+    if !goes_round(rt, &mut front, &mut pusher, plan) || !end_all(rt, &mut pusher, plan.workers) {
+        return None;
     }
-    None
+    let Pusher {
+        hands: _,
+        queue: _,
+        seat,
+        looks: _looks,
+        wakes: _,
+    } = pusher;
+    Some(seat)
 }
 
 /// Takes connections, signals them, and hands them to workers, until all are gone: whether all could be done.

@@ -150,13 +150,15 @@ fn admit_one<M: Room>(
 }
 
 /// Lays the carriers down.
-fn lay_down<M: Room>(perch: &Perch<'_, TestBoard>, looks: &mut Looks, spare: Vec<Spare<M>>)
+fn lay_down<M: Room>(perch: &Perch<'_, TestBoard>, looks: &mut Looks, mut spare: Vec<Spare<M>>)
     requires perched { perch.now.shared.now.table.shared.table_id ≡ M.table }
     requires looks { AreOf perch.now.places looks.old }
     ensures looks { AreOf perch.now.places looks.new }
 {
-    for next in spare {
-        let Spare { carrier, of: _ } = next;
+    for _ in 0..spare.len() {
+        let Some(Spare { carrier, of: _ }) = spare.pop() else {
+            return;
+        };
         let _ = perch.give(looks, carrier);
     }
 }
@@ -214,10 +216,8 @@ pub fn play_named<M: Room + Send + Sync, R: Threads + Wait + Sync>(
 {
     let mut perch = Perch::make(alloc, shared, CARRIERS)?;
     let mut looks = perch.looks(alloc, plan.workers.min(63) + 2)?;
-    let (spare, Some(zero)) = admit_all::<M>(alloc, &mut perch, &mut looks, passes)? else {
-        return Ok(None);
-    };
-    let Some(mut mine) = next_looks(&perch, &mut looks) else {
+    let (spare, zero) = admit_all::<M>(alloc, &mut perch, &mut looks, passes)?;
+    let (Some(zero), Some(mut mine)) = (zero, next_looks(&perch, &mut looks)) else {
         return Ok(None);
     };
     lay_down(&perch, &mut mine, spare);
