@@ -34,7 +34,7 @@ mod replay;
 mod stage;
 mod tally;
 
-use crew::{serve_all, show_same, show_served};
+use crew::{Served, serve_all, show_same, show_served};
 use listener::Plan;
 use mpm_base::NoMemory;
 use std::alloc::Global;
@@ -131,6 +131,18 @@ fn show_service<R: Threads + Wait + Sync>(
         );
     }
     Ok(())
+}
+
+/// Shows what came of the plan, and of one thread.
+fn show_both(sheet: &mut Sheet, plan: Plan, by_one: &Served, by_all: &Served) {
+    show_served(sheet, by_all);
+    show_same(sheet, by_all, by_one);
+    if plan.wakes_once {
+        println!(sheet;
+            "no more wakes than items => {}",
+            by_all.tally.wakes_are_few()
+        );
+    }
 }
 
 /// Shows what comes of so many services of clients that wait.

@@ -60,8 +60,34 @@ enum Newcomer<M: Room> {
     Carries(Spare<M>),
 }
 
+/// All passes, the last one first.
+fn all_passes<M: Room>(
+    alloc: Global,
+    shared: &Shared<TestBoard>,
+    passes: &mut Vec<Pass<TestBoard>>,
+) -> Result<Vec<Newcomer<M>>, NoMemory>
+    requires lock { shared.now.table.shared.table_id ≡ M.table }
+    requires own { (p : ℕ) (pass : _)
+        → slice_get passes.old.items p ≡ Some pass
+        → pass.seat.table_id ≡ shared.now.table.shared.table_id }
+    requires fresh { (p : ℕ) (pass : _)
+        → slice_get passes.old.items p ≡ Some pass
+        → IsFresh pass.seat.me }
+{
+    let mut made = Vec::new(alloc);
+    for _ in 0..passes.len() {
+        let Some(next) = last_pass::<M>(shared, passes) else {
+            return Ok(made);
+        };
+        if made.push(next).is_err() {
+            return Err(NoMemory);
+        }
+    }
+    Ok(made)
+}
+
 /// The last of the passes.
-fn newcomer<M: Room>(
+fn last_pass<M: Room>(
     shared: &Shared<TestBoard>,
     passes: &mut Vec<Pass<TestBoard>>,
 ) -> Option<Newcomer<M>>
@@ -92,40 +118,31 @@ fn newcomer<M: Room>(
     }))
 }
 
-/// Makes the places of all carriers: the carriers, and pass 0.
+/// Makes the places of all carriers: the carriers.
 fn admit_all<M: Room>(
     alloc: Global,
     perch: &mut Perch<'_, TestBoard>,
     looks: &mut Vec<Looks>,
-    passes: &mut Vec<Pass<TestBoard>>,
-) -> Result<(Vec<Spare<M>>, Option<Zero<M>>), NoMemory>
+    mut others: Vec<Newcomer<M>>,
+) -> Result<Vec<Spare<M>>, NoMemory>
     requires perched { perch.old.shared.now.table.shared.table_id ≡ M.table }
     requires looks { AllAreOf perch.old.places looks.old.items }
-    requires own { (p : ℕ) (pass : _)
-        → slice_get passes.old.items p ≡ Some pass
-        → pass.seat.table_id ≡ perch.old.shared.now.table.shared.table_id }
-    requires fresh { (p : ℕ) (pass : _)
-        → slice_get passes.old.items p ≡ Some pass
-        → IsFresh pass.seat.me }
     ensures perched { perch.new.shared.now.table.shared.table_id ≡ M.table }
     ensures looks { AllAreOf perch.new.places looks.new.items }
 {
     let mut spare = Vec::new(alloc);
-    for _ in 0..CARRIERS + 1 {
-        match newcomer::<M>(perch.shared, passes) {
-            Some(Newcomer::Carries(next)) => {
-                let Some(carrier) = admit_one(perch, looks, next) else {
-                    return Ok((spare, None));
-                };
-                if spare.push(carrier).is_err() {
-                    return Err(NoMemory);
-                }
-            }
-            Some(Newcomer::Listens(zero)) => return Ok((spare, Some(zero))),
-            None => return Ok((spare, None)),
+    for _ in 0..others.len() {
+        let Some(Newcomer::Carries(next)) = others.pop() else {
+            return Ok(spare);
+        };
+        let Some(carrier) = admit_one(perch, looks, next) else {
+            return Ok(spare);
+        };
+        if spare.push(carrier).is_err() {
+            return Err(NoMemory);
         }
     }
-    Ok((spare, None))
+    Ok(spare)
 }
 
 /// Makes the place of the next carrier: the carrier.
@@ -214,10 +231,14 @@ pub fn play_named<M: Room + Send + Sync, R: Threads + Wait + Sync>(
         → slice_get passes.old.items p ≡ Some pass
         → IsFresh pass.seat.me }
 {
+    let mut all = all_passes::<M>(alloc, shared, passes)?;
+    let Some(Newcomer::Listens(zero)) = all.pop() else {
+        return Ok(None);
+    };
     let mut perch = Perch::make(alloc, shared, CARRIERS)?;
     let mut looks = perch.looks(alloc, plan.workers.min(63) + 2)?;
-    let (spare, zero) = admit_all::<M>(alloc, &mut perch, &mut looks, passes)?;
-    let (Some(zero), Some(mut mine)) = (zero, next_looks(&perch, &mut looks)) else {
+    let spare = admit_all(alloc, &mut perch, &mut looks, all)?;
+    let Some(mut mine) = next_looks(&perch, &mut looks) else {
         return Ok(None);
     };
     lay_down(&perch, &mut mine, spare);
