@@ -1,4 +1,6 @@
 //! A listener and workers on threads, over one board, and what comes of it.
+ghost use Rattle.std.specs.Prelude.{◌≡◌};
+
 use crate::clients::empty_site;
 use crate::listener::Plan;
 use crate::opening::{CARRIERS, CHILDREN, TestBoard, last_of, opened};
