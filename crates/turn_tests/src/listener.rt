@@ -24,7 +24,7 @@ use std::thread;
 use worker_threads::{Wakes, serve_one};
 
 /// How a service goes.
-#[derive(Clone, Copy, Debug, PartialEq, Eq)]
+#[derive(Clone, Copy)]
 pub struct Plan {
     /// How many connections are taken in all, and at once.
     pub connections: u32,

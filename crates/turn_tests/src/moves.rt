@@ -8,7 +8,7 @@ use conn_machine::{BoxedShape, Commanded, Event, may};
 use std::alloc::Global;
 
 /// What pass 0 may do without a connection.
-#[derive(Clone, Copy, Debug, PartialEq, Eq)]
+#[derive(Clone, Copy)]
 pub enum Move {
     /// Something may have come for the slot.
     Signal(u32),

@@ -23,7 +23,7 @@ use std::thread::{self, Threads};
 use worker_threads::{Hands, Rest, Wakes};
 
 /// How the players ended.
-#[derive(Clone, Copy, Debug, PartialEq, Eq)]
+#[derive(Clone, Copy)]
 pub struct Played {
     /// How many of them ended as they have to, by the seats that came back.
     pub seats: usize,

@@ -9,7 +9,7 @@ use std::thread;
 const LOOKS: u32 = 20_000_000;
 
 /// What the links of a test do besides what their clients do.
-#[derive(Clone, Copy, Debug, PartialEq, Eq)]
+#[derive(Clone, Copy)]
 pub struct Habits {
     /// Some look whether the listener gets a turn while they are called.
     pub look: bool,
