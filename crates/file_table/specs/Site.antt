@@ -1,6 +1,6 @@
 -- A site: the files under the roots of its hosts, root by root, and what each host has of them. A root of several hosts stands in it once.
 -- Why it is so stands in docs/DECISIONS.md: 117, One list of files for all hosts.
-use Rattle.std.specs.Prelude.{◌≡◌, ℕ, ◌+◌, ◌||◌, nat_lt, Bool, List, [], ◌∷◌, ◌++◌, length, map, take, drop, position, slice_get, Option, Some, None, if◌then◌else◌, unwrap_or, ⊤}
+use Rattle.std.specs.Prelude.{◌≡◌, ℕ, ◌+◌, ◌<◌, ◌^◌, ◌||◌, nat_lt, All, IsUtf8, Bool, List, [], ◌∷◌, ◌++◌, length, map, take, drop, position, slice_get, Option, Some, None, if◌then◌else◌, unwrap_or, ⊤}
 use Rattle.std.specs.List.{list_any}
 use Rattle.std.specs.List.Sorted.{IsPermutation}
 use Rattle.std.specs.Option.{option_and_then}
@@ -24,6 +24,18 @@ pub record SeenSite : Type 0 where
   pub hosts : List SeenHost
   pub status : Bool
   pub files : List File
+
+-- ## What a site is made of
+
+-- there is a host, no more than can be numbered, and each root is UTF-8
+pub record IsLoadable (order : SiteOrder) : Type 0 where
+  pub some : 0 < length order.hosts
+  pub most : length order.hosts < 2 ^ 32
+  pub roots : All (λ (host : HostOrder). IsUtf8 host.root) order.hosts
+
+-- one host without a name, which has these
+abbrev pub one_host : List ℕ → List ℕ → Bool → SiteOrder
+one_host root index status = record { hosts = record { names = []; root = root; index = index } ∷ []; status = status }
 
 -- ## The files under a root
 
@@ -115,10 +127,6 @@ abbrev pub folder_at : SeenSite → ℕ → SeenFolder
 folder_at site host = record { index = (host_at site host).index; files = files_of_part site.files (host_at site host).part }
 
 -- ## Limits
-
--- a site has at most 64 hosts
-abbrev pub most_hosts : ℕ
-most_hosts = 64
 
 -- a site has at most 65,536 files
 abbrev pub most_files : ℕ

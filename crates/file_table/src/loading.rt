@@ -1,11 +1,11 @@
 //! Takes the files of a site from a store, root by root.
 //! Why it is so stands in docs/DECISIONS.md: 117, One list of files for all hosts.
-ghost use Rattle.std.specs.Prelude.{◌≡◌, ◌<◌, ◌≤◌, map, length, position, All, IsUtf8, IfOk, IfErr, IfSome};
+ghost use Rattle.std.specs.Prelude.{◌≡◌, ◌<◌, ◌≤◌, ◌^◌, map, length, position, All, IsUtf8, IfOk, IfErr, IfSome};
 ghost use Rattle.std.specs.List.{list_any};
 ghost use Rattle.std.specs.Str.{bytes_eq};
 ghost use Rattle.file_table.specs.Load.{IsWithinLimits, LeavesStore, MayLoad, MayNotLoad};
 ghost use Rattle.file_table.specs.LoadInside.{AddsRoot, HasReadRoots, MayNotReadRoot};
-ghost use Rattle.file_table.specs.Site.{host_of, most_bytes_together, most_files, most_hosts, part_of_root, roots_of};
+ghost use Rattle.file_table.specs.Site.{IsLoadable, host_of, most_bytes_together, most_files, part_of_root, roots_of};
 ghost use Rattle.file_table.specs.SiteInside.{IsPartOf};
 
 use crate::load_fault::LoadFault;
@@ -164,7 +164,7 @@ fn site_of(
     files: Vec<File>,
 ) -> Result<Site, NoMemory>
     requires some { 0 < length order.now.hosts }
-    requires most { length order.now.hosts ≤ most_hosts }
+    requires most { length order.now.hosts < 2 ^ 32 }
     requires parts { All (IsPartOf files.items) parts.now }
     requires few { length files.items ≤ most_files }
     ensures { IfOk result (λ site. site ≡ record {
@@ -185,9 +185,7 @@ fn site_of(
 /// 16,777,216 bytes or with which they are more than 67,108,864; the first root with which something is so decides; NoMemory where
 /// memory lacks.
 pub fn load<D: Store>(alloc: Global, store: &mut D, order: &SiteOrder) -> Result<Site, LoadFault>
-    requires some { 0 < length order.now.hosts }
-    requires most { length order.now.hosts ≤ most_hosts }
-    requires roots { All (λ host. IsUtf8 host.root) order.now.hosts }
+    requires { IsLoadable order.now }
     ensures store { LeavesStore (D.seen store.old) (D.seen store.new) result }
     ensures limits { IfOk result IsWithinLimits }
     ensures site { IfSome (D.seen store.old).told (λ t. MayLoad order.now t.files result) }

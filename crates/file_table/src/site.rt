@@ -1,7 +1,7 @@
 //! The files of a site, and what each host has of them.
-ghost use Rattle.std.specs.Prelude.{◌≡◌, ◌+◌, ◌<◌, ◌≤◌, ◌∷◌, length, Some, IfOk, slice_get, option_map};
+ghost use Rattle.std.specs.Prelude.{◌≡◌, ◌+◌, ◌<◌, ◌≤◌, ◌^◌, ◌∷◌, length, Some, IfOk, slice_get, option_map};
 ghost use Rattle.file_table.specs.Order.{IsInOrder};
-ghost use Rattle.file_table.specs.Site.{folder_at, host_at, most_files, most_hosts};
+ghost use Rattle.file_table.specs.Site.{folder_at, host_at, most_files};
 ghost use Rattle.file_table.specs.SiteInside.{AreHosts};
 
 use crate::part::Part;
@@ -158,12 +158,12 @@ impl Site {
     }
 }
 
-/// The names of each host, in order. There is a host, and there are no more than a site may have.
+/// The names of each host, in order. There is a host.
 pub fn hosts(site: &Site) -> &Sequence<Names>
     ensures names { result.now ≡ site.now.names }
     ensures same { length site.now.names ≡ length site.now.hosts }
     ensures some { 0 < length site.now.hosts }
-    ensures most { length site.now.hosts ≤ most_hosts }
+    ensures most { length site.now.hosts < 2 ^ 32 }
 {
     &site.names
 }

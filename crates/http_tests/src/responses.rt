@@ -14,19 +14,6 @@ use stand_ins::{Calls, Files, MemStore};
 use std::alloc::Global;
 use test_rows::{Marks, Sheet, number_of, text_of, words};
 
-/// A site of the folder `htdocs`, whose index is `index.html`, with the status page or without.
-fn htdocs(alloc: Global, status: bool) -> Result<SiteOrder, NoMemory>
-    ensures { IfOk result (λ order. IsUtf8 order.root × IsUtf8 order.index) }
-{
-    let root = Octets::of(alloc, "htdocs".as_bytes())?;
-    let index = Octets::of(alloc, "index.html".as_bytes())?;
-    Ok(SiteOrder {
-        root,
-        index,
-        status,
-    })
-}
-
 /// A site of an index, ten digits, an empty file and a folder, with the status page or without.
 pub fn digits_site(alloc: Global, status: bool) -> Result<Site, LoadFault> {
     let mut files = Files::make(alloc);
@@ -51,7 +38,7 @@ pub fn large_site(alloc: Global, bytes: &[u8]) -> Result<Site, LoadFault> {
 
 /// A site of these files, with the status page or without.
 fn site_with(alloc: Global, files: Files, status: bool) -> Result<Site, LoadFault> {
-    let order = htdocs(alloc, status)?;
+    let order = SiteOrder::one_host(alloc, "htdocs", "index.html", status)?;
     let mut store = MemStore::make(alloc, files, Calls::make(alloc));
     load(alloc, &mut store, &order)
 }

@@ -4,10 +4,6 @@ use Rattle.std.specs.List.{list_all, list_any}
 use Rattle.std.specs.Char.{is_ascii_digit}
 use Rattle.mpm_base.specs.LetterCase.{is_same_ignoring_case}
 
--- a server has at most 64 hosts
-abbrev pub most_hosts : ℕ
-most_hosts = 64
-
 -- a port behind a host: a colon (58), and digits or nothing
 abbrev pub is_port : List ℕ → Bool
 is_port text = slice_index text 0 == 58 && list_all is_ascii_digit (drop 1 text)

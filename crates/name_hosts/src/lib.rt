@@ -4,11 +4,11 @@
 //! are exact (`specs/Host.antt`), and neither takes memory.
 #![tactic(auto)]
 
-ghost use Rattle.std.specs.Prelude.{◌≡◌, ◌<◌, ◌≤◌, length, position};
+ghost use Rattle.std.specs.Prelude.{◌≡◌, ◌<◌, ◌^◌, length, position};
 ghost use Rattle.std.specs.Char.{is_ascii_digit};
 ghost use Rattle.std.specs.List.{list_all};
 ghost use Rattle.name_hosts.specs.Host as spec;
-ghost use Rattle.name_hosts.specs.Host.{has_name, most_hosts};
+ghost use Rattle.name_hosts.specs.Host.{has_name};
 
 use mpm_base::{Octets, Sequence, is_same_ignoring_case};
 
@@ -78,7 +78,7 @@ fn place_of_host(hosts: &HostList, host: &[u8]) -> Option<usize>
 /// letters; the first host of all where none has it.
 pub fn choose(hosts: &HostList, value: &[u8]) -> u32
     requires some { 0 < length hosts.now }
-    requires few { length hosts.now ≤ most_hosts }
+    requires few { length hosts.now < 2 ^ 32 }
     ensures which { result ≡ spec.choose hosts.now value.now }
     ensures there { result < length hosts.now }
 {

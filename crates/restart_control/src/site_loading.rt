@@ -5,8 +5,8 @@ ghost use Rattle.restart_control.specs.Reload.{order_of};
 ghost use Rattle.restart_control.specs.ReloadInside.{fault_for};
 
 use crate::reload_fault::ReloadFault;
-use file_table::{LoadFault, Site, SiteOrder, load};
-use mpm_base::{NoMemory, Octets, Store};
+use file_table::{HostOrder, HostOrders, LoadFault, Site, SiteOrder, load};
+use mpm_base::{Names, NoMemory, Octets, Store};
 use mpm_config::Config;
 use std::alloc::Global;
 
@@ -31,21 +31,26 @@ fn site_order(alloc: Global, config: &Config) -> Result<SiteOrder, NoMemory>
 {
     let root = Octets::of(alloc, config.root.as_slice())?;
     let index = Octets::of(alloc, config.index.as_slice())?;
-    Ok(SiteOrder {
+    let mut hosts = HostOrders::make(alloc);
+    hosts.push(HostOrder {
+        names: Names::make(alloc),
         root,
         index,
+    })?;
+    Ok(SiteOrder {
+        hosts,
         status: config.status,
     })
 }
 
-/// The fault of a restart for that of its site, whose folder is that root.
+/// The fault of a restart for that of its site, where the DocumentRoot is that root.
 pub(crate) fn fault_for(fault: LoadFault, root: Octets) -> ReloadFault
     ensures { result ≡ fault_for fault root }
 {
     match fault {
         LoadFault::StoreFault => ReloadFault::StoreFault,
         LoadFault::NoMemory => ReloadFault::NoMemory,
-        LoadFault::TooMany => ReloadFault::Load(LoadFault::TooMany, root),
+        LoadFault::TooMany(named) => ReloadFault::Load(LoadFault::TooMany(named), root),
         LoadFault::TooLarge(name, size) => {
             ReloadFault::Load(LoadFault::TooLarge(name, size), root)
         }
