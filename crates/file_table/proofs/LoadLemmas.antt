@@ -17,10 +17,10 @@ use Rattle.mpm_base.specs.declared.store.File.{File}
 use Rattle.mpm_base.specs.Store.{StoreTold, lies_under, names_under}
 use Rattle.file_table.specs.declared.load_fault.LoadFault.{LoadFault}
 use Rattle.file_table.specs.declared.load_fault.LoadFault.TheVariants as fault
-use Rattle.std.specs.Prelude.{Ok, Err}
+use Rattle.std.specs.Prelude.{Err, Result, MatchResult}
 use Rattle.file_table.specs.Order.{IsInOrder}
 use Rattle.file_table.specs.Site.{AreUnder, file_within, first_too_large, is_too_large, most_bytes_together, most_files, name_within, size_of}
-use Rattle.file_table.specs.LoadInside.{AreCounted, HasReadFiles, IsTooLargeUnder, MayListFiles, MayNotRead, MayNotReadRoot, MayReadNext}
+use Rattle.file_table.specs.LoadInside.{HasReadFiles, IsTooLargeUnder, MayListFiles, MayNotRead, MayNotReadRoot, MayReadNext}
 
 -- ---- the names under a root
 
@@ -244,9 +244,12 @@ unlisted None root count before e m = tt
 unlisted (Some t) root count before e m = not_listed root t.files count before e m
 
 -- what was read of a root whose names were listed
-pub read_of_listed : (P : StoreTold → Type 0) (told told' : Option StoreTold) (root : List ℕ) (count : ℕ) (listed : List (List ℕ)) → told' ≡ told
-    → count + length listed ≤ most_files → IfSome told (λ t. listed ≡ names_under root t.files)
-    → IfSome told' (λ t. (count : ℕ) → count + length listed ≤ most_files → listed ≡ names_under root t.files → P t) → IfSome told P
-read_of_listed P None told' root count listed e few known h = tt
-read_of_listed P (Some t) told' root count listed e few known h =
-    (subst (λ o. IfSome o (λ t. (count : ℕ) → count + length listed ≤ most_files → listed ≡ names_under root t.files → P t)) e h) count few known
+pub read_of_listed : {X : Type 0} (files_of : X → List File) (answer : Result X LoadFault) (told told' : Option StoreTold) (root : List ℕ) (count before : ℕ) (listed : List (List ℕ))
+    → told' ≡ told → count + length listed ≤ most_files → IfSome told (λ t. listed ≡ names_under root t.files)
+    → IfSome told' (λ t. (count : ℕ) → count + length listed ≤ most_files → listed ≡ names_under root t.files
+    → MatchResult answer (λ read. AreUnder root t.files (files_of read)) (MayNotReadRoot root t.files count before))
+    → IfSome told (λ t. MatchResult answer (λ read. AreUnder root t.files (files_of read)) (MayNotReadRoot root t.files count before))
+read_of_listed files_of answer None told' root count before listed e few known h = tt
+read_of_listed files_of answer (Some t) told' root count before listed e few known h =
+    (subst (λ o. IfSome o (λ t. (count : ℕ) → count + length listed ≤ most_files → listed ≡ names_under root t.files
+    → MatchResult answer (λ read. AreUnder root t.files (files_of read)) (MayNotReadRoot root t.files count before))) e h) count few known

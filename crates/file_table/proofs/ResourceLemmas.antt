@@ -50,9 +50,9 @@ further_place name index h = grind (arith, nat_tests)
 -- what the segments of a folder's path stand for
 pub folder_named : (folder : SeenFolder) (path name : List ℕ) → has_dot_segment path ≡ false → names_folder path ≡ true → name ≡ name_of_segments (segments path)
     → file_or (place_of_file (further_name name folder.index) folder.files) found.Missing ≡ resource_of_decoded folder path
-folder_named folder path name dots folder e =
+folder_named folder path name dots ends e =
     let whole = further_segment (segments path) folder.index (all_segments (slice_split is_slash path)) in
-    rw (dots, folder) (ap (λ n. file_or (place_of_file n folder.files) found.Missing) (ap (λ n. further_name n folder.index) e ∙ sym whole))
+    rw (dots, ends) (ap (λ n. file_or (place_of_file n folder.files) found.Missing) (ap (λ n. further_name n folder.index) e ∙ sym whole))
 
 position_within : (name : List ℕ) (files : List File) (i : ℕ) → place_of_file name files ≡ Some i → i < length files
 position_within name files i e =

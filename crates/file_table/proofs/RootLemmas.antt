@@ -1,25 +1,72 @@
 -- The roots of hosts, the files that were read root by root, and the site that they make.
-use Rattle.std.proofs.Common.{◌≡◌, ℕ, ◌+◌, ◌<◌, ◌≤◌, Bool, true, false, List, [], ◌∷◌, ◌++◌, length, map, take, drop, get_or, Option, Some, None, refl, sym, ap, ◌∙◌, subst, arith, append_assoc}
-use Rattle.std.specs.List.{All}
+use Rattle.std.proofs.Common.{◌≡◌, ℕ, ◌+◌, ◌<◌, ◌≤◌, ◌^◌, ◌||◌, nat_lt, cond, not, Bool, true, false, List, [], ◌∷◌, ◌++◌, length, map, take, drop, get_or, IsUtf8, Option, Some, None, refl, sym, ap, ◌∙◌, subst, arith, append_assoc}
+use Rattle.std.specs.List.{All, list_any, position_or_len}
 use Rattle.std.specs.Option.{IfSome}
 use Rattle.std.specs.Prelude.{Ok, Err, slice_get, position, unwrap_or}
 use Rattle.std.specs.Option.{option_and_then}
 use Rattle.std.specs.Str.{bytes_eq}
-use Rattle.std.proofs.lemmas.List.{append-nil, drop_more, length-append, take-append-drop, take_at, drop_at}
+use Rattle.std.proofs.lemmas.List.{append-nil, drop_more, get_or_past, take_more, length-append, length-map, at_drop_more, take-append-drop, take_at, drop_at}
 use Rattle.std.proofs.lemmas.List.Elements.{All-cons, All-head, All-tail, All-nil, All-push, All-map}
-use Rattle.std.proofs.lemmas.Option.{slice_get_within, get_or_from_slice_get}
+use Rattle.std.proofs.lemmas.Option.{slice_get_within, get_or_from_slice_get, unwrap_or-slice_get}
 use Rattle.mpm_base.specs.declared.store.File.{File}
-use Rattle.mpm_base.specs.Store.{StoreTold, names_under}
+use Rattle.mpm_base.specs.Store.{StoreTold}
 use Rattle.file_table.specs.declared.load_fault.LoadFault.{LoadFault}
 use Rattle.file_table.specs.declared.load_fault.LoadFault.TheVariants as fault
 use Rattle.file_table.specs.declared.part.Part.{Part}
 use Rattle.file_table.specs.declared.site_order.HostOrder.{HostOrder}
 use Rattle.file_table.specs.declared.site_order.SiteOrder.{SiteOrder}
 use Rattle.file_table.specs.Order.{IsInOrder}
-use Rattle.file_table.specs.Site.{AreUnder, AreUnderEach, IsSiteOf, SeenHost, SeenSite, all_files, files_of_part, first_too_large, host_of, most_files, part_of_root, parts_from, roots_of}
-use Rattle.file_table.specs.SiteInside.{IsPartOf}
+use Rattle.file_table.specs.Site.{AreUnder, AreUnderEach, IsSiteOf, SeenHost, SeenSite, all_files, files_of_part, first_too_large, host_of, most_files, part_of_root, parts_from, roots_of, with_roots}
+use Rattle.file_table.specs.SiteInside.{AreHosts, IsPartOf}
 use Rattle.file_table.specs.Load.{AreTooMany, ComesTo, IsTooLargeFile, MayLoad, MayNotLoad}
 use Rattle.file_table.specs.LoadInside.{AddsRoot, HasReadRoots, IsReadingRoots, IsTooLargeUnder, MayNotReadRoot}
+
+-- ---- the roots of hosts
+
+pub any_mapped : {X Y : Type 0} (f : X → Y) (p : Y → Bool) (xs : List X) → list_any (λ x. p (f x)) xs ≡ list_any p (map f xs)
+any_mapped f p [] = refl
+any_mapped f p (x ∷ xs) = ap (λ b. p (f x) || b) (any_mapped f p xs)
+
+place_mapped : {X Y : Type 0} (f : X → Y) (p : Y → Bool) (xs : List X) → position_or_len (λ x. p (f x)) xs ≡ position_or_len p (map f xs)
+place_mapped f p [] = refl
+place_mapped f p (x ∷ xs) = ap (λ n. cond (not (p (f x))) (1 + n) 0) (place_mapped f p xs)
+
+pub position_mapped : {X Y : Type 0} (f : X → Y) (p : Y → Bool) (xs : List X) → position (λ x. p (f x)) xs ≡ position p (map f xs)
+position_mapped f p xs =
+    ap (λ n. cond (nat_lt n (length xs)) (Some n) None) (place_mapped f p xs)
+    ∙ ap (λ n. cond (nat_lt (position_or_len p (map f xs)) n) (Some (position_or_len p (map f xs))) None) (sym (length-map xs f))
+
+-- what part_of_root answers, by the place of the root
+pub part_there : (roots : List (List ℕ)) (parts : List Part) (root : List ℕ) (place : ℕ) → position (bytes_eq root) roots ≡ Some place
+    → get_or parts place (record { first = 0; count = 0 }) ≡ part_of_root roots parts root
+part_there roots parts root place e =
+    sym (ap (λ o. unwrap_or (option_and_then (λ i. slice_get parts i) o) (record { first = 0; count = 0 })) e ∙ unwrap_or-slice_get parts place (record { first = 0; count = 0 }))
+
+pub part_past : (roots : List (List ℕ)) (parts : List Part) (root : List ℕ) (place : ℕ) → length parts ≤ place → position (bytes_eq root) roots ≡ Some place
+    → record { first = 0; count = 0 } ≡ part_of_root roots parts root
+part_past roots parts root place past e = sym (get_or_past parts place (record { first = 0; count = 0 }) past) ∙ part_there roots parts root place e
+
+pub part_none : (roots : List (List ℕ)) (parts : List Part) (root : List ℕ) → position (bytes_eq root) roots ≡ None
+    → record { first = 0; count = 0 } ≡ part_of_root roots parts root
+part_none roots parts root e = sym (ap (λ o. unwrap_or (option_and_then (λ i. slice_get parts i) o) (record { first = 0; count = 0 })) e)
+
+-- a host whose root is there, and one whose root isn't
+module _ (roots : List (List ℕ)) (hosts : List HostOrder) (i : ℕ) (host : HostOrder) (root : List ℕ) (within : i < length hosts) (is : host ≡ get_or hosts i host)
+    (is_root : root ≡ host.root) where
+  one_more_host : with_roots roots (drop i hosts) ≡ with_roots (cond (list_any (bytes_eq root) roots) roots (roots ++ root ∷ [])) (drop (i + 1) hosts)
+  one_more_host =
+      at_drop_more (with_roots roots) hosts i host within ∙ ap (λ (h : HostOrder). with_roots roots (h ∷ drop (i + 1) hosts)) (sym is)
+      ∙ ap (λ r. with_roots (cond (list_any (bytes_eq r) roots) roots (roots ++ r ∷ [])) (drop (i + 1) hosts)) (sym is_root)
+
+  pub root_there : list_any (bytes_eq root) roots ≡ true → with_roots roots (drop (i + 1) hosts) ≡ with_roots roots (drop i hosts)
+  root_there there = sym (one_more_host ∙ ap (λ b. with_roots (cond b roots (roots ++ root ∷ [])) (drop (i + 1) hosts)) there)
+
+  pub root_new : list_any (bytes_eq root) roots ≡ false → with_roots (roots ++ root ∷ []) (drop (i + 1) hosts) ≡ with_roots roots (drop i hosts)
+  root_new new = sym (one_more_host ∙ ap (λ b. with_roots (cond b roots (roots ++ root ∷ [])) (drop (i + 1) hosts)) new)
+
+  -- it is a text where the roots of all hosts are
+  pub root_text : All (λ (h : HostOrder). IsUtf8 h.root) hosts → IsUtf8 root
+  root_text all = subst IsUtf8 (sym is_root) (subst (λ (h : HostOrder). IsUtf8 h.root) (sym is) (all i host within))
 
 -- ---- lists of files
 
@@ -65,7 +112,8 @@ one_more_root told told' roots root files files' parts parts' sum sum' same h ad
   in_order = All-push IsInOrder h.lists adds.more h.in_order adds.read.in_order;
   are = adds.files_are ∙ ap (λ l. l ++ adds.more) h.are ∙ sym (all_push h.lists adds.more);
   parts_are = adds.parts_are ∙ ap (λ l. l ++ record { first = length files; count = length adds.more } ∷ []) h.parts_are
-      ∙ ap (λ n. parts_from 0 h.lists ++ record { first = n; count = length adds.more } ∷ []) (ap length h.are) ∙ sym (parts_push 0 h.lists adds.more);
+      ∙ ap (λ n. parts_from 0 h.lists ++ record { first = n; count = length adds.more } ∷ []) (behind_none (length files) (length (all_files h.lists)) (ap length h.are))
+      ∙ sym (parts_push 0 h.lists adds.more);
   few = subst (λ l. length l ≤ most_files) (sym adds.files_are) (omega (arith, length-append files adds.more, adds.read.few));
   counted = record {
     judged = λ rest. ap (λ l. first_too_large 0 (l ++ rest)) adds.files_are ∙ ap (first_too_large 0) (append_assoc files adds.more rest)
@@ -74,10 +122,21 @@ one_more_root told told' roots root files files' parts parts' sum sum' same h ad
   };
   known = more_known told h.known (subst (λ o. IfSome o (λ t. AreUnder root t.files adds.more)) same adds.known);
 } where
+  behind_none : (m n : ℕ) → m ≡ n → m ≡ 0 + n
+  behind_none m n e = omega (arith, e)
+
   more_known : (told : Option StoreTold) → IfSome told (λ t. AreUnderEach t.files roots h.lists) → IfSome told (λ t. AreUnder root t.files adds.more)
       → IfSome told (λ t. AreUnderEach t.files (roots ++ root ∷ []) (h.lists ++ adds.more ∷ []))
   more_known None each under = tt
   more_known (Some t) each under = each_push t.files roots h.lists root adds.more each under
+
+-- the same along the roots
+pub next_read : (told told' : Option StoreTold) (roots : List (List ℕ)) (i : ℕ) (root : List ℕ) (files files' : List File) (parts parts' : List Part) (sum sum' : ℕ)
+    → i < length roots → root ≡ get_or roots i [] → told' ≡ told → IsReadingRoots told (take i roots) files parts sum
+    → AddsRoot told' root files files' parts parts' sum sum' → IsReadingRoots told (take (i + 1) roots) files' parts' sum'
+next_read told told' roots i root files files' parts parts' sum sum' within is_root same h adds =
+    subst (λ l. IsReadingRoots told l files' parts' sum') (sym (take_more roots i [] within ∙ ap (λ r. take i roots ++ r ∷ []) (sym is_root)))
+    (one_more_root told told' (take i roots) root files files' parts parts' sum sum' same h adds)
 
 pub all_read : (told : Option StoreTold) (roots : List (List ℕ)) (files : List File) (parts : List Part) (sum : ℕ) → IsReadingRoots told roots files parts sum
     → HasReadRoots told roots files parts
@@ -175,7 +234,26 @@ pub host_parts : (files : List File) (roots : List (List ℕ)) (parts : List Par
 host_parts files roots parts hosts all =
     All-map (λ (host : SeenHost). IsPartOf files host.part) (host_of roots parts) hosts (λ k d lt. root_part files roots parts (get_or hosts k d).root all)
 
+pub parts_read : (told : Option StoreTold) (roots : List (List ℕ)) (files : List File) (parts : List Part) → HasReadRoots told roots files parts
+    → All (IsPartOf files) parts
+parts_read told roots files parts h =
+    subst (λ p. All (IsPartOf files) p) (sym h.parts_are) (subst (λ l. All (IsPartOf l) (parts_from 0 h.lists)) (sym h.are) (parts_stand [] h.lists h.in_order))
+
 -- ---- the site
+
+pub are_hosts : (orders : List HostOrder) (roots : List (List ℕ)) (parts : List Part) (names : List (List (List ℕ))) (hosts : List SeenHost) (files : List File)
+    → 0 < length orders → length orders < 2 ^ 32 → length files ≤ most_files → All (IsPartOf files) parts → names ≡ map (λ (h : HostOrder). h.names) orders
+    → hosts ≡ map (host_of roots parts) orders → AreHosts names hosts files
+are_hosts orders roots parts names hosts files some most few all e f =
+    let named : length names ≡ length orders = ap length e ∙ length-map orders (λ (h : HostOrder). h.names) in
+    let hosted : length hosts ≡ length orders = ap length f ∙ length-map orders (host_of roots parts) in
+    record {
+      some = omega (arith, some, hosted);
+      most = subst (λ n. n < 2 ^ 32) (sym hosted) most;
+      named = named ∙ sym hosted;
+      parts = subst (λ l. All (λ (host : SeenHost). IsPartOf files host.part) l) (sym f) (host_parts files roots parts orders all);
+      few = few;
+    }
 
 pub is_site : (order : SiteOrder) (roots : List (List ℕ)) (told : Option StoreTold) (files : List File) (parts : List Part) (site : SeenSite) → roots ≡ roots_of order.hosts
     → HasReadRoots told roots files parts

@@ -18,7 +18,7 @@ use std::alloc::Global;
 
 /// Whether the root is one of these.
 fn has_root(roots: &[&[u8]], root: &[u8]) -> bool
-    ensures { result ≡ list_any (bytes_eq root.now) (map (λ r. r.now) roots.now) }
+    ensures { result ≡ list_any (λ r. bytes_eq root.now r.now) roots.now }
 {
     roots.iter().any(|other| root == *other)
 }
@@ -99,7 +99,7 @@ fn read_roots<D: Store>(
 
 /// The place of the root among these.
 fn place_of_root(roots: &[&[u8]], root: &[u8]) -> Option<usize>
-    ensures { result ≡ position (bytes_eq root.now) (map (λ r. r.now) roots.now) }
+    ensures { result ≡ position (λ r. bytes_eq root.now r.now) roots.now }
 {
     roots.iter().position(|other| root == *other)
 }

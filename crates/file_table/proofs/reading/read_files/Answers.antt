@@ -1,4 +1,4 @@
-use Rattle.std.proofs.Common.{◌≡◌, [], true, is_ok, map, refl, sym, ap, ◌∙◌, arith}
+use Rattle.std.proofs.Common.{◌≡◌, [], true, is_ok, map, refl, sym, ◌∙◌, arith}
 use Rattle.std.proofs.lemmas.List.{get_or-map, length-map}
 use Rattle.file_table.proofs.LoadLemmas.{nothing_read, one_more_read, none_read}
 use Rattle.file_table.proofs.reading.read_files.Goals as goal

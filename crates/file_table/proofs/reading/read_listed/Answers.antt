@@ -35,8 +35,8 @@ returns-in-Ok-clause-known g c =
     (sorted_mapped (λ n. n.now) (slice_cmp nat_cmp) c.in_ok-sorted.sorted.items c.in_ok-sorted.ensures.in_order))
     (rw (← c.as_slice.ensures.value) c.in-Ok.ensures.known)
 
-pub returns-in-Err-clause-known : goal.returns-in-Err-clause-known
-returns-in-Err-clause-known g c =
+pub returns-clause-known : goal.returns-clause-known
+returns-clause-known g c =
     listed_not c.args.root.now c.args.names.now (map (λ n. n.now) c.in_ok-sorted.sorted.items) c.in_ok-sorted.ensures.names (g.D.Store.seen c.args.store.now).told
     c.args.before c.in-Err.fault (sorted_mapped (λ n. n.now) (slice_cmp nat_cmp) c.in_ok-sorted.sorted.items c.in_ok-sorted.ensures.in_order)
     (rw (← c.as_slice.ensures.value) c.in-Err.ensures.known)
