@@ -1,5 +1,5 @@
 //! Hosts by example: which of them a name chooses, and what paths name for each.
-ghost use Rattle.std.specs.Prelude.{◌≡◌, IfOk};
+ghost use Rattle.std.specs.Prelude.{IfOk, IsUtf8};
 ghost use Rattle.file_table.specs.Site.{IsLoadable};
 
 use crate::loads::{named, show_load};
@@ -53,7 +53,9 @@ fn show_choice(sheet: &mut Sheet, hosts: &HostList, value: &[u8]) {
 }
 
 /// A host without a name that has the root and the index in the row.
-fn order_in(alloc: Global, row: &str) -> Result<HostOrder, NoMemory> {
+fn order_in(alloc: Global, row: &str) -> Result<HostOrder, NoMemory>
+    ensures { IfOk result (λ order. IsUtf8 order.root) }
+{
     let (root, index) = row.split_once(' ').unwrap_or((row, ""));
     Ok(HostOrder {
         names: Names::make(alloc),
@@ -62,11 +64,34 @@ fn order_in(alloc: Global, row: &str) -> Result<HostOrder, NoMemory> {
     })
 }
 
-/// Shows what paths name for hosts of these roots and indexes.
+/// A site of three hosts, which have the roots and indexes of these rows.
+fn three_hosts(alloc: Global, first: &str, second: &str, third: &str) -> Result<SiteOrder, NoMemory>
+    ensures { IfOk result IsLoadable }
+{
+    let mut hosts = HostOrders::make(alloc);
+    hosts.push(order_in(alloc, first)?)?;
+    hosts.push(order_in(alloc, second)?)?;
+    hosts.push(order_in(alloc, third)?)?;
+    Ok(SiteOrder {
+        hosts,
+        status: true,
+    })
+}
+
+/// The site of files of these names, each of which has its name as its bytes, for three hosts, whose roots and indexes stand in the row.
+fn site_in(alloc: Global, row: &str, names: &str) -> Result<Site, LoadFault> {
+    let (first, rest) = row.split_once('|').unwrap_or((row, ""));
+    let (second, third) = rest.split_once('|').unwrap_or((rest, ""));
+    let order = three_hosts(alloc, first, second, third)?;
+    let mut store = MemStore::make(alloc, named(alloc, names)?, Calls::make(alloc));
+    load(alloc, &mut store, &order)
+}
+
+/// Shows what paths name for three hosts, whose roots and indexes stand in the first row.
 pub fn show_host_paths(sheet: &mut Sheet, alloc: Global, rows: &str) -> Result<(), NoMemory> {
-    let (hosts, rest) = rows.split_once("--\n").unwrap_or((rows, ""));
+    let (row, rest) = rows.split_once('\n').unwrap_or((rows, ""));
     let (names, paths) = rest.split_once("--\n").unwrap_or((rest, ""));
-    let answer = site_in(alloc, hosts, names);
+    let answer = site_in(alloc, row, names);
     show_load(sheet, &answer);
     match answer {
         Ok(site) => show_all_found(sheet, alloc, &site, paths),

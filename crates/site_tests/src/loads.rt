@@ -1,5 +1,5 @@
 //! Sites by example: how they are loaded.
-ghost use Rattle.std.specs.Prelude.{None, IfOk, IsUtf8};
+ghost use Rattle.std.specs.Prelude.{None};
 
 use file_table::{LoadFault, Site, SiteOrder, load};
 use mpm_base::{Names, NoMemory, Octets, Store, StoreFault};
@@ -46,7 +46,7 @@ pub fn failing(alloc: Global, number: &str) -> Result<Calls, NoMemory> {
 }
 
 /// Shows how many files the site has, or why there is none.
-fn show_load(sheet: &mut Sheet, answer: &Result<Site, LoadFault>) {
+pub fn show_load(sheet: &mut Sheet, answer: &Result<Site, LoadFault>) {
     match answer {
         Ok(site) => println!(sheet; "{} files", site.files().len()),
         Err(LoadFault::TooLarge(name, size)) => {
