@@ -1,5 +1,5 @@
 //! The clients of the boards, and the site from which they are served.
-ghost use Rattle.std.specs.Prelude.{◌≡◌, IfOk, IsUtf8};
+ghost use Rattle.std.specs.Prelude.{◌≡◌, IfOk};
 ghost use Rattle.conn_state.specs.Conn.{IsFresh};
 
 use file_table::{LoadFault, Site, SiteOrder, load};

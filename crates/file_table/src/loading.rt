@@ -53,8 +53,8 @@ fn add_root<D: Store>(
     requires few { length files.old.items ≤ most_files }
     requires bounded { before ≤ most_bytes_together }
     ensures store { LeavesStore (D.seen store.old) (D.seen store.new) result }
-    ensures added { IfOk result (AddsRoot (D.seen store.old).told root.now files.old.items files.new.items
-        parts.old.items parts.new.items before) }
+    ensures added { IfOk result (AddsRoot (D.seen store.old).told root.now files.old.items
+        files.new.items parts.old.items parts.new.items before) }
     ensures refused { IfSome (D.seen store.old).told (λ t.
         IfErr result (MayNotReadRoot root.now t.files (length files.old.items) before)) }
 {
