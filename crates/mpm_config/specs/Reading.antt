@@ -159,19 +159,19 @@ pub record ConfigAndWarnings : Type 0 where
   pub config : Configuration
   pub warnings : List Notice
 
--- a host by its section and the settings of the whole text: what it lacks is that outside of such sections
-abbrev pub host_conf : Settings → HostSettings → HostConf
-host_conf s h = record { names = h.name ++ h.aliases; root = unwrap_or h.root s.root; index = unwrap_or h.index s.index }
+-- a host by its section; what it lacks is that outside of such sections, of the whole text
+abbrev pub host_conf_by : List ℕ → List ℕ → HostSettings → HostConf
+host_conf_by root index h = record { names = h.name ++ h.aliases; root = unwrap_or h.root root; index = unwrap_or h.index index }
 
 -- the hosts by these sections; without one there is one host, the outer one
-abbrev pub host_confs : Settings → List HostSettings → List HostConf
-host_confs s [] = record { names = s.name; root = s.root; index = s.index } ∷ []
-host_confs s (h ∷ hs) = map (host_conf s) (h ∷ hs)
+abbrev pub confs_by : List (List ℕ) → List ℕ → List ℕ → List HostSettings → List HostConf
+confs_by name root index [] = record { names = name; root = root; index = index } ∷ []
+confs_by name root index (h ∷ hs) = map (host_conf_by root index) (h ∷ hs)
 
 -- the configuration of the settings of a whole text
 abbrev pub configuration_of : Settings → ConfigAndWarnings
 configuration_of s = record {
-  config = record { written = s.numbers; current = after_corrections s.numbers; listen = s.listen; control = s.control; root = s.root; index = s.index; status = s.status; hosts = host_confs s s.hosts };
+  config = record { written = s.numbers; current = after_corrections s.numbers; listen = s.listen; control = s.control; root = s.root; index = s.index; status = s.status; hosts = confs_by s.name s.root s.index s.hosts };
   warnings = notices s.numbers;
 }
 

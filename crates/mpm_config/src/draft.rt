@@ -1,7 +1,7 @@
 //! The settings of a text as it is read.
 ghost use Rattle.std.specs.Prelude.{◌≡◌, ◌==◌, ◌<◌, if◌then◌else◌, ◌∷◌, [], ◌++◌, length, map, unwrap_or, IfOk, OnOk};
 ghost use Rattle.mpm_config.specs.Config.{most_hosts};
-ghost use Rattle.mpm_config.specs.Reading.{configuration_of, host_conf, host_confs, ConfigAndWarnings};
+ghost use Rattle.mpm_config.specs.Reading.{configuration_of, confs_by, host_conf_by, ConfigAndWarnings};
 ghost use Rattle.mpm_config.specs.SettingInside.{IsSettable};
 ghost use Rattle.mpm_config.specs.Settings.{initial_settings, with_setting};
 
@@ -126,7 +126,13 @@ impl Draft {
             name,
             hosts,
         } = self;
-        let hosts = confs_of(alloc, hosts, name, root.as_slice(), index.as_slice())?;
+        let hosts = confs_of(
+            alloc,
+            hosts.as_slice(),
+            name,
+            root.as_slice(),
+            index.as_slice(),
+        )?;
         let warnings = warnings_of(alloc, &numbers)?;
         let config = Config {
             written: numbers,
@@ -142,28 +148,48 @@ impl Draft {
     }
 }
 
+/// The one host where there is no section.
+fn outer_conf(alloc: Global, names: Names, root: &[u8], index: &[u8]) -> Result<HostConf, NoMemory>
+    ensures { IfOk result (λ conf. conf
+        ≡ record { names = names; root = root.now; index = index.now }) }
+{
+    let root = Octets::of(alloc, root)?;
+    let index = Octets::of(alloc, index)?;
+    Ok(HostConf { names, root, index })
+}
+
+/// The hosts of these sections.
+fn section_confs(
+    alloc: Global,
+    hosts: &[HostDraft],
+    root: &[u8],
+    index: &[u8],
+) -> Result<HostConfs, NoMemory>
+    ensures { IfOk result (λ confs. confs ≡ map (host_conf_by root.now index.now) hosts.now) }
+{
+    let mut confs = HostConfs::make(alloc);
+    for host in hosts {
+        let conf = host.conf(alloc, root, index)?;
+        confs.push(conf)?;
+    }
+    Ok(confs)
+}
+
 /// The hosts of these sections; without one the outer one.
 fn confs_of(
     alloc: Global,
-    hosts: Vec<HostDraft>,
+    hosts: &[HostDraft],
     name: Names,
     root: &[u8],
     index: &[u8],
 ) -> Result<HostConfs, NoMemory>
-    ensures { IfOk result (λ confs. confs
-        ≡ (if length hosts.items == 0 then record { names = name; root = root.now; index = index.now } ∷ []
-        else map (λ h. record { names = h.name ++ h.aliases; root = unwrap_or h.root root.now; index = unwrap_or h.index index.now }) hosts.items)) }
+    ensures { IfOk result (λ confs. confs ≡ confs_by name root.now index.now hosts.now) }
 {
+    if !hosts.is_empty() {
+        return section_confs(alloc, hosts, root, index);
+    }
     let mut confs = HostConfs::make(alloc);
-    if hosts.is_empty() {
-        confs.push(HostConf {
-            names: name,
-            root: Octets::of(alloc, root)?,
-            index: Octets::of(alloc, index)?,
-        })?;
-    }
-    for host in hosts {
-        confs.push(host.conf(alloc, root, index)?)?;
-    }
+    let outer = outer_conf(alloc, name, root, index)?;
+    confs.push(outer)?;
     Ok(confs)
 }

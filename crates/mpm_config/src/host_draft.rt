@@ -85,37 +85,38 @@ impl HostDraft {
     }
 
     /// The host of the settings; what it lacks is the outer root or index.
-    pub fn conf(self, alloc: Global, root: &[u8], index: &[u8]) -> Result<HostConf, NoMemory>
+    pub fn conf(&self, alloc: Global, root: &[u8], index: &[u8]) -> Result<HostConf, NoMemory>
         ensures { IfOk result (λ conf. conf ≡ record {
-          names = self.name ++ self.aliases;
-          root = unwrap_or self.root root.now;
-          index = unwrap_or self.index index.now;
+          names = self.now.name ++ self.now.aliases;
+          root = unwrap_or self.now.root root.now;
+          index = unwrap_or self.now.index index.now;
         }) }
     {
-        let HostDraft {
-            name,
-            aliases,
-            root: own_root,
-            index: own_index,
-        } = self;
-        let mut names = name;
-        for alias in aliases.as_slice() {
-            names.push(Octets::of(alloc, alias.as_slice())?)?;
-        }
-        Ok(HostConf {
-            names,
-            root: or_outer(alloc, own_root, root)?,
-            index: or_outer(alloc, own_index, index)?,
-        })
+        let mut names = Names::make(alloc);
+        add_names(alloc, &mut names, &self.name)?;
+        add_names(alloc, &mut names, &self.aliases)?;
+        let root = Octets::of(alloc, or_outer(&self.root, root))?;
+        let index = Octets::of(alloc, or_outer(&self.index, index))?;
+        Ok(HostConf { names, root, index })
     }
 }
 
-/// What was set, or else a copy of the outer value.
-fn or_outer(alloc: Global, own: Option<Octets>, outer: &[u8]) -> Result<Octets, NoMemory>
-    ensures { IfOk result (λ value. value ≡ unwrap_or own outer.now) }
+/// Puts copies of the names behind the others.
+fn add_names(alloc: Global, names: &mut Names, more: &Names) -> Result<(), NoMemory>
+    ensures { OnOk result (names.new ≡ names.old ++ more.now) }
+{
+    for name in more.as_slice() {
+        names.push(Octets::of(alloc, name.as_slice())?)?;
+    }
+    Ok(())
+}
+
+/// What was set, or else the outer value.
+fn or_outer<'a>(own: &'a Option<Octets>, outer: &'a [u8]) -> &'a [u8]
+    ensures { result.now ≡ unwrap_or own.now outer.now }
 {
     match own {
-        Some(own) => Ok(own),
-        None => Octets::of(alloc, outer),
+        Some(own) => own.as_slice(),
+        None => outer,
     }
 }

@@ -46,10 +46,13 @@ pub struct Reader {
 
 impl Model for Reader {
     ghost use Rattle.mpm_config.specs.Reading.{Progress};
+    ghost use Rattle.mpm_config.specs.ReadingInside.{MayAddHost};
 
     ghost Value = { Progress };
 
     ghost view = { λ r. record { settings = r.draft; host = r.host; sections = r.sections.items } };
+
+    ghost invariant = { λ r. MayAddHost r.draft r.host };
 }
 
 impl Reader {
