@@ -62,6 +62,7 @@ conf_answer_for conf.NoMemory = memory_answer
 -- that of the folder
 abbrev pub name_for : LoadFault → List ℕ → List ℕ
 name_for (load.TooLarge name size) root = name
+name_for (load.TooMany name) root = name
 name_for other root = root
 
 -- a restart made no plan, for the fault

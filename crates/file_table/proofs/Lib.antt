@@ -2,3 +2,4 @@ pub mod LoadLemmas
 pub mod OrderLemmas
 pub mod PathLemmas
 pub mod ResourceLemmas
+pub mod RootLemmas

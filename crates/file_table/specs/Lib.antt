@@ -6,3 +6,4 @@ pub mod Path
 pub mod PathInside
 pub mod Resource
 pub mod Site
+pub mod SiteInside

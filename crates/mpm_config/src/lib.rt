@@ -14,6 +14,9 @@ mod directive;
 mod draft;
 mod fault;
 mod form;
+mod host_conf;
+mod host_draft;
+mod host_name;
 mod laws;
 mod line;
 mod numbers;
@@ -28,6 +31,7 @@ mod word;
 pub use config::{Config, carry_limits, shape_of};
 pub use correction::warning_text;
 pub use fault::ConfFault;
+pub use host_conf::{HostConf, HostConfs};
 pub use laws::{
     corrected_numbers_are_in_bounds, first_refusal_decides, later_settings_replace,
     skipped_lines_set_nothing,

@@ -2,8 +2,8 @@ use Rattle.std.proofs.Common.{sym, ◌∙◌}
 use Rattle.std.proofs.lemmas.List.{map_push}
 use Rattle.mpm_base.specs.Store.{lies_under}
 use Rattle.file_table.proofs.LoadLemmas.{one_kept, one_left}
-use Rattle.file_table.proofs.loading.names_within.Goals as goal
-use Rattle.file_table.proofs.loading.names_within.Goals.{then-begins_with+in_ok-push, else-begins_with}
+use Rattle.file_table.proofs.reading.names_within.Goals as goal
+use Rattle.file_table.proofs.reading.names_within.Goals.{then-begins_with+in_ok-push, else-begins_with}
 
 pub loop-place-preserved : goal.loop-place-preserved
 loop-place-preserved c =

@@ -1,5 +1,5 @@
 use Rattle.std.proofs.lemmas.List.Sorted.{IsPermutation-map}
-use Rattle.file_table.proofs.loading.sorted_names.Goals as goal
+use Rattle.file_table.proofs.reading.sorted_names.Goals as goal
 
 pub returns-clause-names : goal.returns-clause-names
 returns-clause-names c =

@@ -1,13 +1,12 @@
-use Rattle.std.proofs.Common.{◌≡◌, [], true, is_ok, map, refl, sym, ap, ◌∙◌, arith}
-use Rattle.std.proofs.lemmas.List.{append-nil, get_or-map, length-map}
-use Rattle.file_table.specs.Site.{first_too_large}
+use Rattle.std.proofs.Common.{◌≡◌, [], true, is_ok, map, refl, sym, ◌∙◌, arith}
+use Rattle.std.proofs.lemmas.List.{get_or-map, length-map}
 use Rattle.file_table.proofs.LoadLemmas.{nothing_read, one_more_read, none_read}
-use Rattle.file_table.proofs.loading.read_files.Goals as goal
+use Rattle.file_table.proofs.reading.read_files.Goals as goal
 
 pub loop-name-init : goal.loop-name-init
 loop-name-init g c = record {
   store = record { told = refl; faults = omega arith; refusals = omega arith };
-  read = rw c.new-files.ensures.items (nothing_read c.args.root.now (g.D.Store.seen c.args.store.now).told);
+  read = rw c.new-files.ensures.items (nothing_read c.args.root.now (g.D.Store.seen c.args.store.now).told c.args.before c.requires.bounded);
 }
 
 pub loop-name-preserved : goal.loop-name-preserved
@@ -21,7 +20,7 @@ loop-name-preserved g c =
       };
       read =
           rw (c.push.ensures.items, ok, c.len.ensures)
-          (one_more_read c.args.root.now (map (λ name. name.now) c.args.names.now) c.loop-name.name-index _ (rw length-map c.loop-name-test.true)
+          (one_more_read c.args.root.now (map (λ name. name.now) c.args.names.now) c.args.before c.loop-name.name-index _ (rw length-map c.loop-name-test.true)
           (sym (get_or-map (λ name. name.now) c.args.names.now c.loop-name.name-index _ [] c.loop-name-test.true))
           (g.D.Store.seen c.args.store.now).told (g.D.Store.seen c.loop-name.store).told c.loop-name.files.items c.loop-name.sum c.in-Ok.file c.loop-name.invariant.store.told c.loop-name.invariant.read
           c.in-Ok.ensures.file.0 c.in-Ok.ensures.file.1 c.in-Ok.ensures.known);
@@ -29,11 +28,7 @@ loop-name-preserved g c =
 
 pub returns-in-Err-clause-known : goal.returns-in-Err-clause-known
 returns-in-Err-clause-known g c =
-    none_read c.args.root.now (map (λ name. name.now) c.args.names.now) c.loop-name.name-index _ (rw length-map c.loop-name-test.true)
+    none_read c.args.root.now (map (λ name. name.now) c.args.names.now) c.args.before c.loop-name.name-index _ (rw length-map c.loop-name-test.true)
     (sym (get_or-map (λ name. name.now) c.args.names.now c.loop-name.name-index _ [] c.loop-name-test.true))
     (g.D.Store.seen c.args.store.now).told (g.D.Store.seen c.loop-name.store).told c.loop-name.files.items c.loop-name.sum c.in-Err.fault c.loop-name.invariant.store.told c.loop-name.invariant.read
     (c.requires.under c.loop-name.name-index _ c.loop-name-test.true) c.in-Err.ensures.known
-
-pub returns-clause-small : goal.returns-clause-small
-returns-clause-small g c =
-    ap (first_too_large 0) (sym (append-nil c.loop-name.files.items)) ∙ c.loop-name.invariant.read.judged []

@@ -1,0 +1,115 @@
+//! Hosts by example: which of them a name chooses, and what paths name for each.
+ghost use Rattle.std.specs.Prelude.{IfOk, IsUtf8};
+ghost use Rattle.file_table.specs.Site.{IsLoadable};
+
+use crate::loads::{named, show_load};
+use crate::paths::show_found_for;
+use file_table::{HostOrder, HostOrders, LoadFault, Site, SiteOrder, load};
+use mpm_base::{Names, NoMemory, Octets};
+use name_hosts::{HostList, choose, host_part};
+use stand_ins::{Calls, MemStore};
+use std::alloc::Global;
+use test_rows::{Sheet, number_of};
+
+/// The names in a row, each behind a space; none where it is `-`.
+fn names_in(alloc: Global, row: &str) -> Result<Names, NoMemory> {
+    let mut names = Names::make(alloc);
+    for name in row.split(' ') {
+        if name != "-" {
+            names.push(Octets::of(alloc, name.as_bytes())?)?;
+        }
+    }
+    Ok(names)
+}
+
+/// Hosts with these names, one in a row.
+fn hosts_in(alloc: Global, rows: &str) -> Result<HostList, NoMemory> {
+    let mut hosts = HostList::make(alloc);
+    for row in rows.lines() {
+        hosts.push(names_in(alloc, row)?)?;
+    }
+    Ok(hosts)
+}
+
+/// Shows of each value what it is without its port, and which host it chooses.
+pub fn show_choices(sheet: &mut Sheet, alloc: Global, rows: &str) -> Result<(), NoMemory> {
+    let (hosts, values) = rows.split_once("--\n").unwrap_or((rows, ""));
+    let hosts = hosts_in(alloc, hosts)?;
+    for value in values.lines() {
+        print!(sheet; "{value} => ");
+        show_choice(sheet, &hosts, value.as_bytes());
+    }
+    Ok(())
+}
+
+/// Shows what the value is without its port, and which host it chooses.
+fn show_choice(sheet: &mut Sheet, hosts: &HostList, value: &[u8]) {
+    sheet.text(host_part(value));
+    if hosts.is_empty() || hosts.len() > 65_536 {
+        sheet.print("\n");
+    } else {
+        println!(sheet; " {}", choose(hosts, value));
+    }
+}
+
+/// A host without a name that has the root and the index in the row.
+fn order_in(alloc: Global, row: &str) -> Result<HostOrder, NoMemory>
+    ensures { IfOk result (λ order. IsUtf8 order.root) }
+{
+    let (root, index) = row.split_once(' ').unwrap_or((row, ""));
+    Ok(HostOrder {
+        names: Names::make(alloc),
+        root: Octets::of(alloc, root.as_bytes())?,
+        index: Octets::of(alloc, index.as_bytes())?,
+    })
+}
+
+/// A site of three hosts, which have the roots and indexes of these rows.
+fn three_hosts(alloc: Global, first: &str, second: &str, third: &str) -> Result<SiteOrder, NoMemory>
+    ensures { IfOk result IsLoadable }
+{
+    let mut hosts = HostOrders::make(alloc);
+    hosts.push(order_in(alloc, first)?)?;
+    hosts.push(order_in(alloc, second)?)?;
+    hosts.push(order_in(alloc, third)?)?;
+    Ok(SiteOrder {
+        hosts,
+        status: true,
+    })
+}
+
+/// The site of files of these names, each of which has its name as its bytes, for three hosts, whose roots and indexes stand in the row.
+fn site_in(alloc: Global, row: &str, names: &str) -> Result<Site, LoadFault> {
+    let (first, rest) = row.split_once('|').unwrap_or((row, ""));
+    let (second, third) = rest.split_once('|').unwrap_or((rest, ""));
+    let order = three_hosts(alloc, first, second, third)?;
+    let mut store = MemStore::make(alloc, named(alloc, names)?, Calls::make(alloc));
+    load(alloc, &mut store, &order)
+}
+
+/// Shows what paths name for three hosts, whose roots and indexes stand in the first row.
+pub fn show_host_paths(sheet: &mut Sheet, alloc: Global, rows: &str) -> Result<(), NoMemory> {
+    let (row, rest) = rows.split_once('\n').unwrap_or((rows, ""));
+    let (names, paths) = rest.split_once("--\n").unwrap_or((rest, ""));
+    let answer = site_in(alloc, row, names);
+    show_load(sheet, &answer);
+    match answer {
+        Ok(site) => show_all_found(sheet, alloc, &site, paths),
+        Err(_) => Ok(()),
+    }
+}
+
+/// Shows what each path names for the host whose number stands before it.
+fn show_all_found(
+    sheet: &mut Sheet,
+    alloc: Global,
+    site: &Site,
+    paths: &str,
+) -> Result<(), NoMemory> {
+    for row in paths.lines() {
+        let (host, path) = row.split_once(' ').unwrap_or((row, ""));
+        print!(sheet; "{row} => ");
+        show_found_for(sheet, alloc, site, number_of(host) as u32, path)?;
+    }
+    Ok(())
+}
