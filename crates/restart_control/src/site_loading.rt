@@ -1,24 +1,24 @@
 //! Loads the site that a configuration makes of a store.
-ghost use Rattle.std.specs.Prelude.{◌≡◌, IfOk, IfSome};
+ghost use Rattle.std.specs.Prelude.{◌≡◌, map, IfOk, IfSome};
 ghost use Rattle.file_table.specs.Load.{IsWithinLimits, LeavesStore, MayLoad};
+ghost use Rattle.file_table.specs.Site.{IsLoadable};
 ghost use Rattle.restart_control.specs.Reload.{host_order, order_of};
 ghost use Rattle.restart_control.specs.ReloadInside.{fault_for};
 
 use crate::reload_fault::ReloadFault;
 use file_table::{HostOrder, HostOrders, LoadFault, Site, SiteOrder, load};
 use mpm_base::{Names, NoMemory, Octets, Store};
-use mpm_config::{Config, HostConf};
+use mpm_config::{Config, HostConf, HostConfs};
 use std::alloc::Global;
 
-/// The site of the files under the configuration's DocumentRoot, with the status page where ServerStatus says so. TooMany or TooLarge
-/// where they are more, or larger, than a site takes, StoreFault where a call of the store failed, NoMemory where memory lacks.
+/// The site of the files under the roots of the configuration's hosts, with the status page where ServerStatus says so. TooMany or
+/// TooLarge where they are more, or larger, than a site takes, StoreFault where a call of the store failed, NoMemory where memory lacks.
 pub fn load_site<D: Store>(alloc: Global, store: &mut D, config: &Config) -> Result<Site, LoadFault>
     ensures leaves { LeavesStore (D.seen store.old) (D.seen store.new) result }
     ensures site { IfSome (D.seen store.old).told (λ t.
         MayLoad (order_of config.entry.now) t.files result) }
     ensures limits { IfOk result IsWithinLimits }
 {
-    config.show();
     let Ok(order) = site_order(alloc, config) else {
         return Err(LoadFault::NoMemory);
     };
@@ -47,18 +47,36 @@ fn host_order(alloc: Global, host: &HostConf) -> Result<HostOrder, NoMemory>
     })
 }
 
+/// What is wanted of each of the hosts.
+fn host_orders(alloc: Global, confs: &HostConfs) -> Result<HostOrders, NoMemory>
+    ensures { IfOk result (λ orders. orders ≡ map host_order confs.now) }
+{
+    let mut orders = HostOrders::make(alloc);
+    for conf in confs.as_slice() {
+        let order = host_order(alloc, conf)?;
+        orders.push(order)?;
+    }
+    Ok(orders)
+}
+
 /// What a site is made of by the configuration.
-fn site_order(alloc: Global, config: &Config) -> Result<SiteOrder, NoMemory>
+fn order_of(alloc: Global, config: &Config) -> Result<SiteOrder, NoMemory>
     ensures { IfOk result (λ order. order ≡ order_of config.entry.now) }
 {
-    let mut hosts = HostOrders::make(alloc);
-    for host in config.hosts.as_slice() {
-        hosts.push(host_order(alloc, host)?)?;
-    }
+    let hosts = host_orders(alloc, &config.hosts)?;
     Ok(SiteOrder {
         hosts,
         status: config.status,
     })
+}
+
+/// The same, which can be loaded.
+fn site_order(alloc: Global, config: &Config) -> Result<SiteOrder, NoMemory>
+    ensures order { IfOk result (λ order. order ≡ order_of config.entry.now) }
+    ensures loadable { IfOk result IsLoadable }
+{
+    config.show();
+    order_of(alloc, config)
 }
 
 /// The fault of a restart for that of its site, where the DocumentRoot is that root.
