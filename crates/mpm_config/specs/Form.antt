@@ -67,10 +67,11 @@ section_closing (w ∷ ws) kind = ClosingWithWord
 abbrev pub arguments : List ℕ → List Word
 arguments text = words (drop (position_or_len is_blank text) text)
 
--- the form of an opening, and of a closing behind its slash
+-- the form of an opening
 abbrev pub opening_of : List ℕ → Form
 opening_of text = option_map_or (section_opening (arguments text)) (kind_of (before_first is_blank text)) OtherSection
 
+-- the form of a closing, by what stands behind its slash
 abbrev pub closing_of : List ℕ → Form
 closing_of text = option_map_or (section_closing (arguments text)) (kind_of (before_first is_blank text)) OtherSection
 
