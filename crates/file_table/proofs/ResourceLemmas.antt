@@ -1,7 +1,7 @@
 -- The extension of a name, from its end, and what a path names, from its segments.
-use Rattle.std.proofs.Common.{◌≡◌, ℕ, ◌+◌, ◌<◌, zero, suc, Bool, true, false, not, ◌||◌, cond, ltb, List, [], ◌∷◌, ◌++◌, length, drop, get_or, Option, Some, None, refl, sym, ap, ◌∙◌, subst, arith, if◌then◌else◌}
+use Rattle.std.proofs.Common.{◌≡◌, ℕ, ◌+◌, ◌<◌, zero, suc, Bool, true, false, not, ◌||◌, cond, ltb, List, [], ◌∷◌, ◌++◌, length, length-drop, drop, get_or, Option, Some, None, refl, sym, ap, ◌∙◌, subst, arith, if◌then◌else◌}
 use Rattle.std.proofs.lemmas.Bool.Decides.{nat_tests}
-use Rattle.std.proofs.lemmas.List.{append-nil, at_drop_more, nil_from_length}
+use Rattle.std.proofs.lemmas.List.{append-nil, at_drop_more, length-take, nil_from_length}
 use Rattle.mpm_base.specs.declared.store.File.{File}
 use Rattle.file_table.specs.declared.found.Found.{Found}
 use Rattle.file_table.specs.declared.found.Found.TheVariants as found
@@ -13,8 +13,8 @@ use Rattle.std.proofs.lemmas.Option.{cond_some}
 use borrow.Author.Tests.{ltb-true}
 use Rattle.file_table.specs.Path.{has_dot_segment, has_escaped_slash, has_nul, has_whole_escapes, is_slash, name_of_segments, names_folder, segments}
 use Rattle.file_table.specs.PathInside.{further_name}
-use Rattle.file_table.specs.Resource.{IsFoundIn, file_or, folder_path, has_files_under, place_of_file, resource_in, resource_of_decoded, resource_of_folder, resource_of_name}
-use Rattle.file_table.specs.Site.{SeenFolder}
+use Rattle.file_table.specs.Resource.{IsFoundFor, IsFoundIn, file_or, folder_path, has_files_under, place_of_file, placed_behind, resource_in, resource_of, resource_of_decoded, resource_of_folder, resource_of_name}
+use Rattle.file_table.specs.Site.{SeenFolder, SeenSite, folder_at, host_at}
 use Rattle.file_table.proofs.PathLemmas.{all_segments, further_segment}
 
 -- an extension of the end of a name is that of the name
@@ -94,3 +94,18 @@ path_in folder path =
 -- a file that a path names is one of the folder
 pub found_in : (folder : SeenFolder) (path : List ℕ) (answer : Found) → answer ≡ resource_in folder path → IsFoundIn folder answer
 found_in folder path answer e = subst (IsFoundIn folder) (sym e) (path_in folder path)
+
+-- among all files of the site it is one that the host has
+placed_for : (site : SeenSite) (host : ℕ) (answer : Found) → IsFoundIn (folder_at site host) answer
+    → IsFoundFor site host (placed_behind (host_at site host).part.first answer)
+placed_for site host (found.File place) within =
+    let part = (host_at site host).part in
+    let own = length-take part.count (drop part.first site.files) in
+    let rest = length-drop part.first site.files in
+    (omega arith, omega (arith, within, own), omega (arith, within, own, rest))
+placed_for site host (found.Redirect path) within = tt
+placed_for site host found.Missing within = tt
+placed_for site host found.BadPath within = tt
+
+pub named_for : (site : SeenSite) (host : ℕ) (path : List ℕ) → IsFoundFor site host (resource_of site host path)
+named_for site host path = placed_for site host (resource_in (folder_at site host) path) (path_in (folder_at site host) path)

@@ -5,7 +5,7 @@ ghost use Rattle.std.specs.Str.{bytes_eq};
 ghost use Rattle.file_table.specs.Resource.{IsFoundFor};
 ghost use Rattle.http_core.specs.ServedInside.{IsPlaceOf};
 ghost use Rattle.http_core.specs.Ask as spec;
-ghost use Rattle.http_core.specs.Ask.{IsServedOf};
+ghost use Rattle.http_core.specs.Ask.{IsServedFor, IsServedOf};
 ghost use Rattle.http_core.specs.RangeInside.{HasSmallBound, IsPartWithin};
 ghost use Rattle.http_core.specs.Served.{is_disallowed, is_get, is_head, is_options, chosen_host, options_of, range_for, served_range, resource_at, resource_of_target, served_at, served_of, served_to, size_at};
 
@@ -208,11 +208,14 @@ fn served_to(alloc: Global, site: &Site, request: &Request) -> Result<Served, No
     }
 }
 
-/// What a request asks for, and the plan of its response. NoMemory where memory lacks for its path.
+/// What a request asks for, and the plan of its response: a file that is served is one that the host has which the request is for.
+/// NoMemory where memory lacks for its path.
 pub fn ask_of(alloc: Global, site: &Site, request: &Request) -> Result<(Ask, Plan), NoMemory>
     ensures ask { IfOk result (λ asked. asked.0 ≡ spec.ask_for site.now request.now) }
     ensures plan { IfOk result (λ asked. asked.1 ≡ spec.plan_for site.now request.now) }
     ensures of { IfOk result (λ asked. IsServedOf site.now asked.1.served) }
+    ensures host { IfOk result (λ asked.
+        IsServedFor site.now (chosen_host site.now request.now) asked.1.served) }
 {
     let served = served_to(alloc, site, request)?;
     let ask = Ask {
