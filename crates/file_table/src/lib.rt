@@ -4,11 +4,13 @@
 //! its cause (`specs/Site.antt`, `Load.antt`). `find` answers exactly what a path names for a host (`specs/Path.antt`,
 //! `Resource.antt`): it searches the names of the files that the host has by halves (`specs/Order.antt`), and takes memory only
 //! where the path is no plain one or names a folder without its slash. `count_before` is that search, of anything that has a
-//! name. `hosts`, `bytes` and `content_type` (`specs/ContentType.antt`) hand out what the site holds.
+//! name. `hosts`, `bytes` and `content_type` (`specs/ContentType.antt`) hand out what the site holds. That each host has the files under
+//! its own root stands in `laws` (`specs/HostFiles.antt`).
 #![tactic(auto)]
 
 mod extension;
 mod found;
+pub mod laws;
 mod load_fault;
 mod loading;
 mod part;
