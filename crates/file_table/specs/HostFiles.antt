@@ -4,7 +4,7 @@ use Rattle.mpm_base.specs.declared.store.File.{File}
 use Rattle.file_table.specs.declared.found.Found.TheVariants.{File as IsFile}
 use Rattle.file_table.specs.declared.site_order.HostOrder.{HostOrder}
 use Rattle.file_table.specs.declared.site_order.SiteOrder.{SiteOrder}
-use Rattle.file_table.specs.Resource.{IsFoundFor}
+use Rattle.file_table.specs.Resource.{IsFoundFor, resource_of}
 use Rattle.file_table.specs.Site.{AreUnder, IsSiteOf, SeenSite}
 
 -- the file is one of those under the root, with its name there and its bytes
@@ -20,9 +20,10 @@ pub record IsFileOfHost (order : SiteOrder) (given : List File) (host : ℕ) (fi
   pub is_wanted : slice_get order.hosts host ≡ Some wanted
   pub under : IsFileUnder wanted.root given file
 
--- the file at the place of a site that is found for a host is one of those under its root; and where it is found for two hosts they have one
--- root
+-- what a path names for a host is a file that the host has; such a file of a site is one of those under the host's root; and where two hosts
+-- have it they have one root
 pub record HostsHaveTheirFiles : Type 0 where
+  pub named : (site : SeenSite) (host : ℕ) (path : List ℕ) → IsFoundFor site host (resource_of site host path)
   pub own : (order : SiteOrder) (given : List File) (site : SeenSite) (host place : ℕ) (file : File)
       → IsSiteOf order given site
       → IsFoundFor site host (IsFile place)

@@ -3,11 +3,11 @@ use Rattle.std.proofs.Common.{ℕ, cond, Bool, true, false, List, Option, None, 
 use Rattle.std.specs.Prelude.{◌&&◌, ◌||◌, codes}
 use Rattle.std.specs.Str.{bytes_eq}
 use Rattle.http_read.specs.RequestParts.{RequestParts}
+use Rattle.file_table.specs.HostFiles.{HostsHaveTheirFiles}
 use Rattle.file_table.specs.Resource.{IsFoundFor}
 use Rattle.file_table.specs.Site.{SeenSite}
 use Rattle.file_table.specs.declared.found.Found.{Found}
 use Rattle.file_table.specs.declared.found.Found.TheVariants as resource
-use Rattle.file_table.proofs.ResourceLemmas.{named_for}
 use Rattle.http_core.specs.Ask.{IsServedFor}
 use Rattle.http_core.specs.Range.{selection_of}
 use Rattle.http_core.specs.Served.{chosen_host, is_disallowed, is_get, is_head, is_options, options_of, range_for, resource_at, resource_of_target, served_at, served_of, served_range, served_selection, served_to, size_at}
@@ -20,7 +20,7 @@ use Rattle.http_core.specs.declared.range.Range.{Range}
 use Rattle.http_core.specs.declared.range.Selection.{Selection}
 use Rattle.http_core.specs.declared.range.Selection.TheVariants as selection
 
-module _ (site : SeenSite) (host : ℕ) where
+module _ (law : HostsHaveTheirFiles) (site : SeenSite) (host : ℕ) where
   selected_for : (place size : ℕ) (s : Selection) → IsFoundFor site host (resource.File place) → IsServedFor site host (served_selection place size s)
   selected_for place size selection.Whole there = there
   selected_for place size (selection.Part from to) there = there
@@ -39,7 +39,7 @@ module _ (site : SeenSite) (host : ℕ) where
 
   path_for : (path : Option (List ℕ)) → IsFoundFor site host (resource_at site host path)
   path_for None = tt
-  path_for (Some path) = named_for site host path
+  path_for (Some path) = law.named site host path
 
   either_for : (b : Bool) (x y : Served) → IsServedFor site host x → IsServedFor site host y → IsServedFor site host (cond b x y)
   either_for true x y h k = h
@@ -57,14 +57,14 @@ module _ (site : SeenSite) (host : ℕ) where
       either_for (site.status && is_status_path (path_of target)) (served.Page (asks_for_text target)) (served_of site get range target found) tt
       (resource_for get range target found (path_for (path_of target)))
 
-pub served_for : (site : SeenSite) (r : RequestParts) → IsServedFor site (chosen_host site r) (served_to site r)
-served_for site r =
+pub served_for : HostsHaveTheirFiles → (site : SeenSite) (r : RequestParts) → IsServedFor site (chosen_host site r) (served_to site r)
+served_for law site r =
     let host = chosen_host site r in
     let found = resource_of_target site host r.target in
     let shown = cond (bytes_eq r.target (codes "*")) served.Options (options_of found) in
     let refused = cond (is_disallowed r.method) (served.Refused code.MethodNotAllowed) (served.Refused code.NotImplemented) in
-    either_for site host (is_get r.method || is_head r.method) (served_at site host (is_get r.method) r.range r.target) (cond (is_options r.method) shown refused)
-    (at_for site host (is_get r.method) r.range r.target)
-    (either_for site host (is_options r.method) shown refused
-    (either_for site host (bytes_eq r.target (codes "*")) served.Options (options_of found) tt (options_for site host found))
-    (either_for site host (is_disallowed r.method) (served.Refused code.MethodNotAllowed) (served.Refused code.NotImplemented) tt tt))
+    either_for law site host (is_get r.method || is_head r.method) (served_at site host (is_get r.method) r.range r.target) (cond (is_options r.method) shown refused)
+    (at_for law site host (is_get r.method) r.range r.target)
+    (either_for law site host (is_options r.method) shown refused
+    (either_for law site host (bytes_eq r.target (codes "*")) served.Options (options_of found) tt (options_for law site host found))
+    (either_for law site host (is_disallowed r.method) (served.Refused code.MethodNotAllowed) (served.Refused code.NotImplemented) tt tt))

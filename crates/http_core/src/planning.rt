@@ -10,6 +10,7 @@ ghost use Rattle.http_core.specs.RangeInside.{HasSmallBound, IsPartWithin};
 ghost use Rattle.http_core.specs.Served.{is_disallowed, is_get, is_head, is_options, chosen_host, options_of, range_for, served_range, resource_at, resource_of_target, served_at, served_of, served_to, size_at};
 
 use crate::code::Code;
+use crate::laws::served_files_are_of_the_chosen_host;
 use crate::location::location_of;
 use crate::plan::{FilePart, Plan, Served};
 use crate::range::{Range, Selection, range_of, selection_of};
@@ -217,6 +218,7 @@ pub fn ask_of(alloc: Global, site: &Site, request: &Request) -> Result<(Ask, Pla
     ensures host { IfOk result (λ asked.
         IsServedFor site.now (chosen_host site.now request.now) asked.1.served) }
 {
+    served_files_are_of_the_chosen_host();
     let served = served_to(alloc, site, request)?;
     let ask = Ask {
         asked_close: request.asked_close(),
