@@ -2,12 +2,12 @@
 ghost use Rattle.std.specs.Prelude.{IfOk, IsUtf8};
 ghost use Rattle.file_table.specs.Site.{IsLoadable};
 
-use crate::loads::{named, show_load};
+use crate::loads::{named, show_load, sized};
 use crate::paths::show_found_for;
 use file_table::{HostOrder, HostOrders, LoadFault, Site, SiteOrder, load};
 use mpm_base::{Names, NoMemory, Octets};
 use name_hosts::{HostList, choose, host_part};
-use stand_ins::{Calls, MemStore};
+use stand_ins::{Calls, Files, MemStore};
 use std::alloc::Global;
 use test_rows::{Sheet, number_of};
 
@@ -78,12 +78,12 @@ fn three_hosts(alloc: Global, first: &str, second: &str, third: &str) -> Result<
     })
 }
 
-/// The site of files of these names, each of which has its name as its bytes, for three hosts, whose roots and indexes stand in the row.
-fn site_in(alloc: Global, row: &str, names: &str) -> Result<Site, LoadFault> {
+/// The site of the files, for three hosts, whose roots and indexes stand in the row.
+fn site_in(alloc: Global, row: &str, files: Files) -> Result<Site, LoadFault> {
     let (first, rest) = row.split_once('|').unwrap_or((row, ""));
     let (second, third) = rest.split_once('|').unwrap_or((rest, ""));
     let order = three_hosts(alloc, first, second, third)?;
-    let mut store = MemStore::make(alloc, named(alloc, names)?, Calls::make(alloc));
+    let mut store = MemStore::make(alloc, files, Calls::make(alloc));
     load(alloc, &mut store, &order)
 }
 
@@ -91,7 +91,8 @@ fn site_in(alloc: Global, row: &str, names: &str) -> Result<Site, LoadFault> {
 pub fn show_host_paths(sheet: &mut Sheet, alloc: Global, rows: &str) -> Result<(), NoMemory> {
     let (row, rest) = rows.split_once('\n').unwrap_or((rows, ""));
     let (names, paths) = rest.split_once("--\n").unwrap_or((rest, ""));
-    let answer = site_in(alloc, row, names);
+    let files = named(alloc, names)?;
+    let answer = site_in(alloc, row, files);
     show_load(sheet, &answer);
     match answer {
         Ok(site) => show_all_found(sheet, alloc, &site, paths),
@@ -111,5 +112,23 @@ fn show_all_found(
         print!(sheet; "{row} => ");
         show_found_for(sheet, alloc, site, number_of(host) as u32, path)?;
     }
+    Ok(())
+}
+
+/// Shows how files of these sizes load for three hosts, whose roots and indexes stand before them.
+pub fn show_host_sizes(sheet: &mut Sheet, alloc: Global, rows: &str) -> Result<(), NoMemory> {
+    for row in rows.lines() {
+        print!(sheet; "{row} => ");
+        show_host_size(sheet, alloc, row)?;
+    }
+    Ok(())
+}
+
+/// Shows how the files of the row load for its hosts.
+fn show_host_size(sheet: &mut Sheet, alloc: Global, row: &str) -> Result<(), NoMemory> {
+    let (hosts, files) = row.split_once(" : ").unwrap_or((row, ""));
+    let files = sized(alloc, files)?;
+    let answer = site_in(alloc, hosts, files);
+    show_load(sheet, &answer);
     Ok(())
 }
