@@ -18,7 +18,7 @@ use Rattle.mpm_config.specs.declared.setting.Wrong.TheVariants as wrong
 use Rattle.mpm_config.specs.Form.{form_of}
 use Rattle.mpm_config.specs.Line.{Line, Rise, continues, front, join_next, logical}
 use Rattle.mpm_config.specs.Numbers.{with_number}
-use Rattle.mpm_config.specs.Reading.{Progress, adds_names, after_closing, after_line, after_lines, and_then, assigns, close_innermost, close_section, hides, in_hiding, in_sight, is_same_kind, may_open_host, open_host, open_section, open_by_guard, sets, sets_host, settings_of, IsAtLine}
+use Rattle.mpm_config.specs.Reading.{Progress, adds_names, after_closing, after_line, after_lines, and_then, assigns, close_innermost, close_section, hides, in_hiding, in_sight, is_same_kind, may_open_host, open_host, open_section, open_by_guard, sets, sets_host, settings_of, IsAtLine, ReplacesInHost, SetsNothing}
 use Rattle.mpm_config.specs.Setting.{Assignment, Sets, AddsNames, assignment}
 use Rattle.mpm_config.specs.Settings.{HostSettings, Settings, empty_host, with_host_setting, with_setting, IsSameDirective}
 
@@ -53,32 +53,47 @@ replaced s v w (sets.ServerStatus b) (sets.ServerStatus c) h = refl
 replaced s v w sets.ServerName sets.ServerName h = refl
 replaced s v w a b h = absurd h
 
+-- the same in the section of a host; what may not stand there is refused the first time
+pub replaced_in_host : (h : HostSettings) (v w : List ℕ) (a b : Setting) → IsSameDirective a b → ReplacesInHost h v w a b
+replaced_in_host h v w (sets.Number q m) (sets.Number r n) same = tt
+replaced_in_host h v w (sets.KeepAlive b) (sets.KeepAlive c) same = tt
+replaced_in_host h v w (sets.Listen a) (sets.Listen b) same = tt
+replaced_in_host h v w (sets.ControlListen p) (sets.ControlListen q) same = tt
+replaced_in_host h v w sets.DocumentRoot sets.DocumentRoot same = refl
+replaced_in_host h v w sets.DirectoryIndex sets.DirectoryIndex same = refl
+replaced_in_host h v w (sets.ServerStatus b) (sets.ServerStatus c) same = tt
+replaced_in_host h v w sets.ServerName sets.ServerName same = refl
+replaced_in_host h v w a b same = absurd same
+
 -- what holds of both outcomes of a test holds of its outcome
 choice : (P : Result Progress ConfFault → Type 0) (t : Bool) (r s : Result Progress ConfFault) → P r → P s → P (if t then r else s)
 choice P true r s a b = a
 choice P false r s a b = b
 
 -- to open or close a section sets nothing
-opened_sets : (n : ℕ) (kind : Kind) (shown : Bool) (p : Progress) → IfOk (open_section n kind shown p) (λ q. q.settings ≡ p.settings)
-opened_sets n kind shown p = choice (λ r. IfOk r (λ q. q.settings ≡ p.settings)) (nat_lt (length p.sections) 8) _ _ refl tt
+nothing : (p : Progress) (sections : List Section) → SetsNothing p (record p { sections = sections })
+nothing p sections = record { settings = refl; host = refl }
 
-innermost_sets : (n : ℕ) (kind : Kind) (p : Progress) (s : Option Section) → IfOk (close_innermost n kind p s) (λ q. q.settings ≡ p.settings)
+opened_sets : (n : ℕ) (kind : Kind) (shown : Bool) (p : Progress) → IfOk (open_section n kind shown p) (SetsNothing p)
+opened_sets n kind shown p = choice (λ r. IfOk r (SetsNothing p)) (nat_lt (length p.sections) 8) _ _ (nothing p _) tt
+
+innermost_sets : (n : ℕ) (kind : Kind) (p : Progress) (s : Option Section) → IfOk (close_innermost n kind p s) (SetsNothing p)
 innermost_sets n kind p None = tt
-innermost_sets n kind p (Some s) = choice (λ r. IfOk r (λ q. q.settings ≡ p.settings)) (is_same_kind s.kind kind) _ _ refl tt
+innermost_sets n kind p (Some s) = choice (λ r. IfOk r (SetsNothing p)) (is_same_kind s.kind kind) _ _ (nothing p _) tt
 
-closed_sets : (n : ℕ) (kind : Kind) (p : Progress) → IfOk (close_section n kind p) (λ q. q.settings ≡ p.settings)
+closed_sets : (n : ℕ) (kind : Kind) (p : Progress) → IfOk (close_section n kind p) (SetsNothing p)
 closed_sets n kind p = innermost_sets n kind p (slice_get p.sections (length p.sections - 1))
 
-hiding_sets : (p : Progress) (l : Line) (f : Form) → IfOk (in_hiding p l f) (λ q. q.settings ≡ p.settings)
-hiding_sets p l form.Blank = refl
+hiding_sets : (p : Progress) (l : Line) (f : Form) → IfOk (in_hiding p l f) (SetsNothing p)
+hiding_sets p l form.Blank = record { settings = refl; host = refl }
 hiding_sets p l (form.Opening g) = opened_sets l.number kind.Module true p
 hiding_sets p l (form.OpeningHost right) = opened_sets l.number kind.Host true p
 hiding_sets p l (form.Closing k) = closed_sets l.number k p
 hiding_sets p l form.ClosingWithWord = tt
-hiding_sets p l form.OtherSection = refl
-hiding_sets p l form.Directive = refl
+hiding_sets p l form.OtherSection = record { settings = refl; host = refl }
+hiding_sets p l form.Directive = record { settings = refl; host = refl }
 
-pub hidden_sets_nothing : (p : Progress) (l : Line) → hides p.sections ≡ true → IfOk (after_line p l) (λ q. q.settings ≡ p.settings)
+pub hidden_sets_nothing : (p : Progress) (l : Line) → hides p.sections ≡ true → IfOk (after_line p l) (SetsNothing p)
 hidden_sets_nothing p l h = rw h (hiding_sets p l (form_of l.bytes))
 
 -- numbers that rise from one on rise from each smaller one on

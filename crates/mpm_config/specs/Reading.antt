@@ -1,5 +1,5 @@
 -- The configuration of a text: its logical lines are read in order, each in the sections that are open before it.
-use Rattle.std.specs.Prelude.{◌≡◌, ℕ, ◌-◌, ◌==◌, ◌&&◌, nat_le, nat_lt, min, if◌then◌else◌, Bool, false, true, is_none, not, map, unwrap_or, List, [], ◌∷◌, ◌++◌, length, take, slice_get, Option, Some, None, Result, Ok, Err}
+use Rattle.std.specs.Prelude.{◌≡◌, ℕ, ◌-◌, ◌==◌, ◌&&◌, nat_le, nat_lt, min, if◌then◌else◌, Bool, false, true, is_none, not, map, unwrap_or, List, [], ◌∷◌, ◌++◌, length, take, slice_get, Option, Some, None, IfSome, Result, Ok, Err}
 use Rattle.std.specs.List.{list_any, position_or_len}
 use Rattle.std.specs.Str.Lossy.{utf8_valid_len}
 use Rattle.mpm_config.specs.declared.fault.ConfFault.{ConfFault}
@@ -200,3 +200,12 @@ IsAtLine n (BadValue m) = m ≡ n
 IsAtLine n (BadSection m) = m ≡ n
 IsAtLine n (TooDeep m) = m ≡ n
 IsAtLine n e = ⊥
+
+-- the settings are as they were, and so are those of the host whose section is open
+pub record SetsNothing (old new : Progress) : Type 0 where
+  pub settings : new.settings ≡ old.settings
+  pub host : new.host ≡ old.host
+
+-- the same setting of the section of a host, twice: the later one replaces the other where it may stand there
+abbrev pub ReplacesInHost : HostSettings → List ℕ → List ℕ → Setting → Setting → Type 0
+ReplacesInHost h v w a b = IfSome (with_host_setting h v a) (λ first. with_host_setting first w b ≡ with_host_setting h w b)

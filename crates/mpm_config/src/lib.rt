@@ -5,7 +5,8 @@
 //! number that was corrected; else it names the first fault with its line. `carry_limits` keeps the two limits
 //! over a restart, and `shape_of` gives the shape of a configuration, which is in its bounds.
 //! The definition is `config_of` in `specs/Reading.antt`: the lines of a text (`Line`), the kind of each (`Form`), its words (`Words`), what they set (`Directive`, `Value`, `NumberRange`, `Setting`, `Settings`) and the corrections
-//! (`Correction`). `laws` says what these come to.
+//! (`Correction`). The section of a host sets what it has of its own (`HostName`, `HostSettings` in `Settings`), and the hosts are made of these
+//! once the text is read (`confs_by`; `HostConf`, `Config`). `laws` says what these come to.
 #![tactic(auto)]
 
 mod config;
