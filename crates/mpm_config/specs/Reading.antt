@@ -105,7 +105,8 @@ sets n p s v (Some h) = sets_host n p (with_host_setting h v s)
 abbrev pub adds_names : ℕ → Progress → List (List ℕ) → Option HostSettings → Result Progress ConfFault
 adds_names n p names None = Err (BadSection n)
 adds_names n p names (Some h) =
-    if nat_le (length (h.aliases ++ names)) most_aliases then Ok (record p { host = Some (record h { aliases = h.aliases ++ names }) }) else Err (BadValue n)
+    if nat_le (length (h.aliases ++ names)) most_aliases
+    then Ok (record p { host = Some (record h { aliases = h.aliases ++ names }) }) else Err (BadValue n)
 
 -- a directive does what it does
 abbrev pub assigns : ℕ → Progress → Result Assignment Wrong → Result Progress ConfFault

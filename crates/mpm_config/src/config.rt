@@ -55,7 +55,8 @@ ghost use Rattle.mpm_config.specs.Shape.{shape_of_numbers};
 impl Config {
     /// What every configuration keeps, for callers that see it as one value. It does nothing.
     pub fn show(&self)
-        ensures { let c = self.entry.now in IsConfiguration c.written c.current c.root c.index c.hosts }
+        ensures { let c = self.entry.now in
+            IsConfiguration c.written c.current c.root c.index c.hosts }
     {
         let _ = &self.written;
     }

@@ -28,7 +28,12 @@ impl Model for HostDraft {
 
     ghost Value = { HostSettings };
 
-    ghost view = { λ h. record { name = h.name; aliases = h.aliases; root = h.root; index = h.index } };
+    ghost view = { λ h. record {
+      name = h.name;
+      aliases = h.aliases;
+      root = h.root;
+      index = h.index;
+    } };
 
     ghost invariant = { λ h. IsKeptHost h.root h.index };
 }
@@ -66,7 +71,8 @@ impl HostDraft {
 
     /// Adds the words of a line to its names.
     pub fn add_aliases(&mut self, alloc: Global, line: &str) -> Result<(), NoMemory>
-        ensures { OnOk result (self.new ≡ record self.old { aliases = self.old.aliases ++ aliases_of (words line.now) }) }
+        ensures { OnOk result (self.new
+            ≡ record self.old { aliases = self.old.aliases ++ aliases_of (words line.now) }) }
     {
         let mut rest = line;
         while let First::Closed(name, after) = first_word(rest) {

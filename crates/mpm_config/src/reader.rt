@@ -169,7 +169,9 @@ impl Reader {
 
     /// Adds the words of a line to the names of the host whose section is open.
     fn add_names(&mut self, alloc: Global, number: u64, line: &str) -> Result<(), ConfFault>
-        ensures { LeadsTo (adds_names number self.old (aliases_of (words line.now)) self.old.host) self.new result }
+        ensures { LeadsTo
+            (adds_names number self.old (aliases_of (words line.now)) self.old.host)
+            self.new result }
     {
         let Some(host) = &mut self.host else {
             return Err(ConfFault::BadSection(number));
