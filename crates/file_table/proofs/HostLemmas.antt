@@ -1,9 +1,10 @@
 -- The files that hosts have of a site: each those under its root.
-use Rattle.std.proofs.Common.{◌≡◌, ◌⊎◌, inl, inr, ℕ, zero, suc, ◌+◌, ◌-◌, ◌<◌, ◌≤◌, List, [], ◌∷◌, ◌++◌, length, map, get_or, Option, Some, None, refl, sym, ap, subst, ◌∙◌, arith}
+use Rattle.std.proofs.Common.{◌≡◌, inl, inr, ℕ, zero, suc, ◌+◌, ◌-◌, ◌<◌, ◌≤◌, List, [], ◌∷◌, ◌++◌, length, map, get_or, Option, Some, None, refl, sym, ap, subst, ◌∙◌, arith}
 use Rattle.std.specs.List.{position}
 use Rattle.std.specs.Option.{option_and_then, option_map}
 use Rattle.std.specs.Prelude.{slice_get, unwrap_or}
 use Rattle.std.specs.Str.{bytes_eq}
+use Rattle.std.proofs.lemmas.Bool.{cases_order}
 use Rattle.std.proofs.lemmas.List.Quantifiers.{position-Some}
 use Rattle.std.proofs.lemmas.Option.{none-some, same_Some, slice_get-map}
 use Rattle.std.proofs.lemmas.Slice.Eq.{bytes_eq-Decides}
@@ -84,16 +85,17 @@ record LiesIn (roots : List (List ℕ)) (parts : List Part) (root : List ℕ) (p
 lies_in : (roots : List (List ℕ)) (parts : List Part) (root : List ℕ) (place : ℕ) → (part_of_root roots parts root).first ≤ place
     → place < (part_of_root roots parts root).first + (part_of_root roots parts root).count → LiesIn roots parts root place
 lies_in roots parts root place = by_place (position (bytes_eq root) roots) refl where
-  nothing : Part
-  nothing = record { first = 0; count = 0 }
-
-  by_part : (number : ℕ) (o : Option Part) → position (bytes_eq root) roots ≡ Some number → slice_get parts number ≡ o → (unwrap_or o nothing).first ≤ place
-      → place < (unwrap_or o nothing).first + (unwrap_or o nothing).count → LiesIn roots parts root place
+  by_part : (number : ℕ) (o : Option Part) → position (bytes_eq root) roots ≡ Some number → slice_get parts number ≡ o
+      → (unwrap_or o (record { first = 0; count = 0 })).first ≤ place
+      → place < (unwrap_or o (record { first = 0; count = 0 })).first + (unwrap_or o (record { first = 0; count = 0 })).count
+      → LiesIn roots parts root place
   by_part number None of at low high = absurd (omega (arith, high))
   by_part number (Some part) of at low high = record { number = number; part = part; of_root = of; is_part = at; low = low; high = high }
 
-  by_place : (o : Option ℕ) → position (bytes_eq root) roots ≡ o → (unwrap_or (option_and_then (λ i. slice_get parts i) o) nothing).first ≤ place
-      → place < (unwrap_or (option_and_then (λ i. slice_get parts i) o) nothing).first + (unwrap_or (option_and_then (λ i. slice_get parts i) o) nothing).count
+  by_place : (o : Option ℕ) → position (bytes_eq root) roots ≡ o
+      → (unwrap_or (option_and_then (λ i. slice_get parts i) o) (record { first = 0; count = 0 })).first ≤ place
+      → place < (unwrap_or (option_and_then (λ i. slice_get parts i) o) (record { first = 0; count = 0 })).first
+      + (unwrap_or (option_and_then (λ i. slice_get parts i) o) (record { first = 0; count = 0 })).count
       → LiesIn roots parts root place
   by_place None of low high = absurd (omega (arith, high))
   by_place (Some number) of low high = by_part number (slice_get parts number) of refl low high
@@ -103,15 +105,19 @@ root_is : (roots : List (List ℕ)) (root : List ℕ) (number : ℕ) → positio
 root_is roots root number of = (bytes_eq-Decides root (get_or roots number [])).0 (position-Some (bytes_eq root) roots number [] of).1
 
 module _ (order : SiteOrder) (given : List File) (site : SeenSite) (is : IsSiteOf order given site) where
-  roots : List (List ℕ)
+  abbrev roots : List (List ℕ)
   roots = roots_of order.hosts
 
-  parts : List Part
+  abbrev parts : List Part
   parts = parts_from 0 is.lists
 
-  host_is : (host : ℕ) → host_at site host ≡ unwrap_or (option_map (host_of roots parts) (slice_get order.hosts host)) (record { index = []; part = record { first = 0; count = 0 } })
+  -- where there is no host it has nothing
+  abbrev no_host : SeenHost
+  no_host = record { index = []; part = record { first = 0; count = 0 } }
+
+  host_is : (host : ℕ) → host_at site host ≡ unwrap_or (option_map (host_of roots parts) (slice_get order.hosts host)) no_host
   host_is host =
-      ap (λ (o : Option SeenHost). unwrap_or o (record { index = []; part = record { first = 0; count = 0 } }))
+      ap (λ (o : Option SeenHost). unwrap_or o no_host)
       (ap (λ (l : List SeenHost). slice_get l host) is.hosts ∙ slice_get-map (host_of roots parts) order.hosts host)
 
   -- a file that is found for a host lies in the part of its root
@@ -119,14 +125,14 @@ module _ (order : SiteOrder) (given : List File) (site : SeenSite) (is : IsSiteO
       → LiesIn roots parts wanted.root place
   found_in_part host place wanted at found =
       let same : host_at site host ≡ host_of roots parts wanted =
-      host_is host ∙ ap (λ (o : Option HostOrder). unwrap_or (option_map (host_of roots parts) o) (record { index = []; part = record { first = 0; count = 0 } })) at in
+      host_is host ∙ ap (λ (o : Option HostOrder). unwrap_or (option_map (host_of roots parts) o) no_host) at in
       lies_in roots parts wanted.root place (subst (λ (h : SeenHost). h.part.first ≤ place) same found.0)
       (subst (λ (h : SeenHost). place < h.part.first + h.part.count) same found.1)
 
   own_by : (host place : ℕ) (file : File) (o : Option HostOrder) → slice_get order.hosts host ≡ o → IsFoundFor site host (IsFile place)
       → slice_get site.files place ≡ Some file → IsFileOfHost order given host file
   own_by host place file None at found there =
-      let same = host_is host ∙ ap (λ (o : Option HostOrder). unwrap_or (option_map (host_of roots parts) o) (record { index = []; part = record { first = 0; count = 0 } })) at in
+      let same : host_at site host ≡ no_host = host_is host ∙ ap (λ (o : Option HostOrder). unwrap_or (option_map (host_of roots parts) o) no_host) at in
       let high = subst (λ (h : SeenHost). place < h.part.first + h.part.count) same found.1 in
       absurd (omega (arith, high))
   own_by host place file (Some wanted) at found there =
@@ -143,21 +149,12 @@ module _ (order : SiteOrder) (given : List File) (site : SeenSite) (is : IsSiteO
   own host place file found there = own_by host place file (slice_get order.hosts host) refl found there
 
   -- one that is found for two hosts lies in one part
-  one_root : (a b : List ℕ) (place : ℕ) (x : LiesIn roots parts a place) (y : LiesIn roots parts b place) → a ≡ b
-  one_root a b place x y = elim (cases x.number y.number) [
-    | inl less ↦ absurd (parts_apart 0 is.lists x.number y.number x.part y.part place less x.is_part y.is_part x.high y.low)
-    | inr (inl more) ↦ absurd (parts_apart 0 is.lists y.number x.number y.part x.part place more y.is_part x.is_part y.high x.low)
-    | inr (inr same) ↦ root_is roots a x.number x.of_root ∙ ap (λ n. get_or roots n []) same ∙ sym (root_is roots b y.number y.of_root)
-  ] where
-    cases : (m n : ℕ) → (m < n) ⊎ (n < m) ⊎ (m ≡ n)
-    cases zero zero = inr (inr refl)
-    cases zero (suc n) = inl (omega arith)
-    cases (suc m) zero = inr (inl (omega arith))
-    cases (suc m) (suc n) = elim (cases m n) [
-      | inl less ↦ inl (omega (arith, less))
-      | inr (inl more) ↦ inr (inl (omega (arith, more)))
-      | inr (inr same) ↦ inr (inr (ap suc same))
-    ]
+  one_root : (a b : List ℕ) (place : ℕ) → LiesIn roots parts a place → LiesIn roots parts b place → a ≡ b
+  one_root a b place x y = elim (cases_order x.number y.number) [
+    | inl same ↦ root_is roots a x.number x.of_root ∙ ap (λ n. get_or roots n []) same ∙ sym (root_is roots b y.number y.of_root)
+    | inr (inl less) ↦ absurd (parts_apart 0 is.lists x.number y.number x.part y.part place less x.is_part y.is_part x.high y.low)
+    | inr (inr more) ↦ absurd (parts_apart 0 is.lists y.number x.number y.part x.part place more y.is_part x.is_part y.high x.low)
+  ]
 
   pub apart : (host other place : ℕ) (wanted meant : HostOrder) → slice_get order.hosts host ≡ Some wanted → slice_get order.hosts other ≡ Some meant
       → IsFoundFor site host (IsFile place) → IsFoundFor site other (IsFile place) → wanted.root ≡ meant.root
