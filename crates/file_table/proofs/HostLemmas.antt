@@ -89,20 +89,20 @@ lies_in roots parts root place = by_place (position (bytes_eq root) roots) refl 
       → (unwrap_or o (record { first = 0; count = 0 })).first ≤ place
       → place < (unwrap_or o (record { first = 0; count = 0 })).first + (unwrap_or o (record { first = 0; count = 0 })).count
       → LiesIn roots parts root place
-  by_part number None of at low high = absurd (omega (arith, high))
-  by_part number (Some part) of at low high = record { number = number; part = part; of_root = of; is_part = at; low = low; high = high }
+  by_part number None at_root at low high = absurd (omega (arith, high))
+  by_part number (Some part) at_root at low high = record { number = number; part = part; of_root = at_root; is_part = at; low = low; high = high }
 
   by_place : (o : Option ℕ) → position (bytes_eq root) roots ≡ o
       → (unwrap_or (option_and_then (λ i. slice_get parts i) o) (record { first = 0; count = 0 })).first ≤ place
       → place < (unwrap_or (option_and_then (λ i. slice_get parts i) o) (record { first = 0; count = 0 })).first
       + (unwrap_or (option_and_then (λ i. slice_get parts i) o) (record { first = 0; count = 0 })).count
       → LiesIn roots parts root place
-  by_place None of low high = absurd (omega (arith, high))
-  by_place (Some number) of low high = by_part number (slice_get parts number) of refl low high
+  by_place None at_root low high = absurd (omega (arith, high))
+  by_place (Some number) at_root low high = by_part number (slice_get parts number) at_root refl low high
 
 -- it is the root of that number
 root_is : (roots : List (List ℕ)) (root : List ℕ) (number : ℕ) → position (bytes_eq root) roots ≡ Some number → root ≡ get_or roots number []
-root_is roots root number of = (bytes_eq-Decides root (get_or roots number [])).0 (position-Some (bytes_eq root) roots number [] of).1
+root_is roots root number at_root = (bytes_eq-Decides root (get_or roots number [])).0 (position-Some (bytes_eq root) roots number [] at_root).1
 
 module _ (order : SiteOrder) (given : List File) (site : SeenSite) (is : IsSiteOf order given site) where
   abbrev roots : List (List ℕ)
