@@ -13,7 +13,8 @@ use crate::part::Part;
 use crate::reading::read_root;
 use crate::site::{Host, Site};
 use crate::site_order::{HostOrders, SiteOrder};
-use mpm_base::{File, Names, NoMemory, Octets, Sequence, Store};
+use mpm_base::{File, Names, NoMemory, Octets, Store};
+use name_hosts::{HostList, HostNames};
 use std::alloc::Global;
 
 /// Whether the root is one of these.
@@ -145,12 +146,13 @@ fn copy_of(alloc: Global, names: &Names) -> Result<Names, NoMemory>
 }
 
 /// The names of each host.
-fn names_of(alloc: Global, orders: &HostOrders) -> Result<Sequence<Names>, NoMemory>
+fn names_of(alloc: Global, orders: &HostOrders) -> Result<HostList, NoMemory>
     ensures { IfOk result (λ names. names ≡ map (λ order. order.names) orders.now) }
 {
-    let mut names = Sequence::make(alloc);
+    let mut names = HostList::make(alloc);
     for order in orders.as_slice() {
-        names.push(copy_of(alloc, &order.names)?)?;
+        let host = HostNames::of(alloc, copy_of(alloc, &order.names)?)?;
+        names.push(host)?;
     }
     Ok(names)
 }

@@ -5,7 +5,8 @@ ghost use Rattle.file_table.specs.Site.{folder_at, host_at, most_files};
 ghost use Rattle.file_table.specs.SiteInside.{AreHosts};
 
 use crate::part::Part;
-use mpm_base::{File, Names, NoMemory, Octets, Sequence};
+use mpm_base::{File, NoMemory, Octets};
+use name_hosts::HostList;
 use std::alloc::Global;
 use std::marker::Model;
 
@@ -68,7 +69,7 @@ impl Host {
 /// The files under the roots of the hosts, at most 65,536.
 #[derive(Debug, Drop)]
 pub struct Site {
-    names: Sequence<Names>,
+    names: HostList,
     hosts: Vec<Host>,
     status: bool,
     files: Vec<File>,
@@ -92,12 +93,7 @@ impl Model for Site {
 
 impl Site {
     /// A site of these hosts and files.
-    pub(crate) fn of(
-        names: Sequence<Names>,
-        hosts: Vec<Host>,
-        status: bool,
-        files: Vec<File>,
-    ) -> Site
+    pub(crate) fn of(names: HostList, hosts: Vec<Host>, status: bool, files: Vec<File>) -> Site
         requires { AreHosts names hosts.items files.items }
         ensures { result
             ≡ record { names = names; hosts = hosts.items; status = status; files = files.items } }
@@ -159,7 +155,7 @@ impl Site {
 }
 
 /// The names of each host, in order. There is a host.
-pub fn hosts(site: &Site) -> &Sequence<Names>
+pub fn hosts(site: &Site) -> &HostList
     ensures names { result.now ≡ site.now.names }
     ensures same { length site.now.names ≡ length site.now.hosts }
     ensures some { 0 < length site.now.hosts }

@@ -1,8 +1,11 @@
 //! Name-based hosts: which host of a server a request is for, by the name that it gives (RFC 9110, section 7.2).
 //!
 //! `host_part` answers the value of a Host or an authority without its port, and `choose` the first host that has that name. Both
-//! are exact (`specs/Host.antt`), and neither takes memory.
+//! are exact (`specs/Host.antt`), and neither takes memory. A host keeps a mark for each of its names (`HostNames`; `specs/Mark.antt`), so
+//! that a name is compared with those of its own mark alone.
 #![tactic(auto)]
+
+mod host_names;
 
 ghost use Rattle.std.specs.Prelude.{◌≡◌, ◌<◌, ◌^◌, length, position};
 ghost use Rattle.std.specs.Char.{is_ascii_digit};
@@ -10,13 +13,12 @@ ghost use Rattle.std.specs.List.{list_all};
 ghost use Rattle.name_hosts.specs.Host as spec;
 ghost use Rattle.name_hosts.specs.Host.{has_name};
 
-use mpm_base::{Octets, Sequence, is_same_ignoring_case};
-
-/// The names of a host.
-pub type NameList = Sequence<Octets>;
+pub use host_names::HostNames;
+use host_names::mark_of;
+use mpm_base::Sequence;
 
 /// The names of each host of a server, in order.
-pub type HostList = Sequence<NameList>;
+pub type HostList = Sequence<HostNames>;
 
 /// Whether each byte is a digit.
 fn are_digits(text: &[u8]) -> bool
@@ -54,24 +56,15 @@ pub fn without_point(name: &[u8]) -> &[u8]
     }
 }
 
-/// Whether one of the names is that of the host.
-fn is_named(names: &NameList, host: &[u8]) -> bool
-    ensures { result ≡ has_name host.now names.now }
-{
-    names
-        .as_slice()
-        .iter()
-        .any(|name| is_same_ignoring_case(host, name.as_slice()))
-}
-
 /// The place of the first host that has the name.
 fn place_of_host(hosts: &HostList, host: &[u8]) -> Option<usize>
     ensures { result ≡ position (has_name host.now) hosts.now }
 {
+    let marked = mark_of(host);
     hosts
         .as_slice()
         .iter()
-        .position(|names| is_named(names, host))
+        .position(|names| names.has(host, marked))
 }
 
 /// The first host one of whose names is that of the value, whose port and one point at its end don't count, nor the case of

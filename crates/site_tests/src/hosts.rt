@@ -6,7 +6,7 @@ use crate::loads::{named, show_load, sized};
 use crate::paths::show_found_for;
 use file_table::{HostOrder, HostOrders, LoadFault, Site, SiteOrder, load};
 use mpm_base::{Names, NoMemory, Octets};
-use name_hosts::{HostList, choose, host_part};
+use name_hosts::{HostList, HostNames, choose, host_part};
 use stand_ins::{Calls, Files, MemStore};
 use std::alloc::Global;
 use test_rows::{Sheet, number_of};
@@ -26,7 +26,8 @@ fn names_in(alloc: Global, row: &str) -> Result<Names, NoMemory> {
 fn hosts_in(alloc: Global, rows: &str) -> Result<HostList, NoMemory> {
     let mut hosts = HostList::make(alloc);
     for row in rows.lines() {
-        hosts.push(names_in(alloc, row)?)?;
+        let names = names_in(alloc, row)?;
+        hosts.push(HostNames::of(alloc, names)?)?;
     }
     Ok(hosts)
 }
