@@ -1,19 +1,15 @@
 -- Names that are the same but for the case of letters have one mark.
-use Rattle.std.proofs.Common.{◌≡◌, ◌≢◌, ℕ, zero, suc, Bool, true, false, List, [], ◌∷◌, length, take, map, get_or, sym, ap, ◌∙◌, ◌<◌, refl}
+use Rattle.std.proofs.Common.{◌≡◌, ◌≢◌, ℕ, Bool, true, false, List, length, take, map, get_or, sym, ap, ◌∙◌, ◌<◌, refl}
 use Rattle.std.specs.Char.{to_ascii_lowercase}
 use Rattle.std.specs.Prelude.{fold}
-use Rattle.std.proofs.lemmas.List.{get_or-map}
+use Rattle.std.proofs.lemmas.List.{get_or-map, take-map}
 use Rattle.std.proofs.lemmas.List.Folds.{fold-map}
 use Rattle.std.proofs.lemmas.Slice.Eq.{bytes_eq-Decides}
 use Rattle.mpm_base.specs.LetterCase.{is_same_ignoring_case}
 use Rattle.name_hosts.specs.Mark.{mark, mark_of_bytes, mark_with, most_marked}
 
 same_front : (n : ℕ) (a b : List ℕ) → map to_ascii_lowercase a ≡ map to_ascii_lowercase b → map to_ascii_lowercase (take n a) ≡ map to_ascii_lowercase (take n b)
-same_front n a b e = front n a ∙ ap (take n) e ∙ sym (front n b) where
-  front : (n : ℕ) (xs : List ℕ) → map to_ascii_lowercase (take n xs) ≡ take n (map to_ascii_lowercase xs)
-  front zero xs = refl
-  front (suc n) [] = refl
-  front (suc n) (x ∷ xs) = ap (λ (l : List ℕ). to_ascii_lowercase x ∷ l) (front n xs)
+same_front n a b e = sym (take-map to_ascii_lowercase n a) ∙ ap (take n) e ∙ take-map to_ascii_lowercase n b
 
 same_bytes : (a b : List ℕ) → map to_ascii_lowercase a ≡ map to_ascii_lowercase b → mark_of_bytes a ≡ mark_of_bytes b
 same_bytes a b e = sym (fold-map mark_with to_ascii_lowercase 0 a) ∙ ap (fold mark_with 0) e ∙ fold-map mark_with to_ascii_lowercase 0 b
@@ -33,4 +29,4 @@ other_mark a b ne = by_answer (is_same_ignoring_case a b) refl where
 -- the mark at a place is that of the name there
 pub mark_at : (names : List (List ℕ)) (marks : List ℕ) (place d : ℕ) (e : List ℕ) → marks ≡ map mark names → place < length names
     → get_or marks place d ≡ mark (get_or names place e)
-mark_at names marks place d e are within = ap (λ (l : List ℕ). get_or l place d) are ∙ get_or-map mark names place d e within
+mark_at names marks place d e are within = ap (λ (l : List ℕ). get_or l place d) are ∙ get_or-map mark names place e d within
