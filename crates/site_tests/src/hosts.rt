@@ -1,11 +1,11 @@
 //! Hosts by example: which of them a name chooses, and what paths name for each.
-ghost use Rattle.std.specs.Prelude.{IfOk, IsUtf8};
+ghost use Rattle.std.specs.Prelude.{IfOk, IsUtf8, None};
 ghost use Rattle.file_table.specs.Site.{IsLoadable};
 
 use crate::loads::{named, show_load, sized};
 use crate::paths::show_found_for;
 use file_table::{HostOrder, HostOrders, LoadFault, Site, SiteOrder, load};
-use mpm_base::{Names, NoMemory, Octets};
+use mpm_base::{Names, NoMemory, Octets, Store, StoreFault};
 use name_hosts::{HostList, HostNames, choose, host_part};
 use stand_ins::{Calls, Files, MemStore};
 use std::alloc::Global;
@@ -130,6 +130,42 @@ fn show_host_size(sheet: &mut Sheet, alloc: Global, row: &str) -> Result<(), NoM
     let (hosts, files) = row.split_once(" : ").unwrap_or((row, ""));
     let files = sized(alloc, files)?;
     let answer = site_in(alloc, hosts, files);
+    show_load(sheet, &answer);
+    Ok(())
+}
+
+/// A store of 65,537 files below the folder `b`, whose names it can't give, and none elsewhere. It tells nothing.
+#[derive(Drop)]
+struct CrowdedFolder {
+    refusals: u64,
+}
+
+impl Store for CrowdedFolder {
+    ghost seen = { λ s. record { told = None; counts = record { faults = 0; refusals = s.refusals } } };
+
+    fn renew(&mut self) {}
+
+    fn names(&mut self, alloc: Global, under: &str, most: u32) -> Result<Names, StoreFault> {
+        if under != "b" {
+            return Ok(Names::make(alloc));
+        }
+        if most >= 65_537 {
+            return Err(StoreFault::NoMemory);
+        }
+        self.refusals = self.refusals.saturating_add(1);
+        Err(StoreFault::Many)
+    }
+
+    fn read(&mut self, alloc: Global, _: &str, _: u64) -> Result<Octets, StoreFault> {
+        Ok(Octets::make(alloc))
+    }
+}
+
+/// Shows that a site is refused where a host that isn't the first has too many files.
+pub fn show_host_crowd(sheet: &mut Sheet, alloc: Global) -> Result<(), NoMemory> {
+    let order = three_hosts(alloc, "a index.html", "b index.html", "c index.html")?;
+    let mut store = CrowdedFolder { refusals: 0 };
+    let answer = load(alloc, &mut store, &order);
     show_load(sheet, &answer);
     Ok(())
 }

@@ -14,7 +14,7 @@
 //! - `choices`: hosts, a row each with its names (`-` for none), up to a row `--`, and values of a Host, each of which is shown without
 //!   its port, with the number of the host that it chooses. `host-paths`: a row of three hosts with `|` between
 //!   them, each a root and an index, whole names of files up to a row `--`, and paths, each behind the number of a host. `host-sizes`:
-//!   such hosts, and behind ` : ` files, as names and sizes.
+//!   such hosts, and behind ` : ` files, as names and sizes. `host-crowd`: no rows, for a store of 65,537 files under the root of a second host.
 //! - `sizes`: sites, as names and sizes with `|` between them.
 //! - `reload`: names of files up to a row `--`, and configurations of a running server, each with the one behind ` => ` that it finds
 //!   beside these files when it is restarted, or without one. `reload-sizes`: what it finds, as names and sizes. `reload-calls`: such
@@ -70,6 +70,7 @@ fn show_section(sheet: &mut Sheet, alloc: Global, section: Section<'_>) -> Resul
         "choices" => hosts::show_choices(sheet, alloc, rows),
         "host-paths" => hosts::show_host_paths(sheet, alloc, rows),
         "host-sizes" => hosts::show_host_sizes(sheet, alloc, rows),
+        "host-crowd" => hosts::show_host_crowd(sheet, alloc),
         "calls" => loads::show_calls(sheet, alloc, rows),
         "sizes" => loads::show_sizes(sheet, alloc, rows),
         "reload" => reloads::show_restarts(sheet, alloc, rows),
