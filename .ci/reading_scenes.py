@@ -130,7 +130,7 @@ def a_client_alone_is_read_once_for_each_request():
             until("a server that stands in a wait", lambda: rests(server))
         expect("the reads of ten requests", system.recv.made - reads, 10)
         expect("the writes of ten requests", system.sendmsg.made - writes, 10)
-        expect("the waits of ten requests, every other one of which doesn't last", system.epoll_wait.made - waits, 20)
+        expect("the waits of ten requests", system.epoll_wait.made - waits, 10)
         client.close()
         server.stop()
         server.expect_report(f"0 ClientDone Direct {','.join(['200'] * 11)}")

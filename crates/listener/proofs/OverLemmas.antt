@@ -306,7 +306,7 @@ module _ (steps : ActsInSteps) (known : Option KnownOutside) (rest : Rest) (paus
 
     -- before the next turn
     pub turn-served : GenerationsKeepTheirEditions → GoesOnFrom → (rest' : Rest) (d : SeenListener) → IsAfter b → IsAfter d → HasServedRows b d
-        → IfSome b.front.told HasNoneToHeed → TookAll b.front.told b.board.book.state → HasReadAll b.front.told → rest'.until ≡ next_deadline_of b.board.book.state
+        → IfSome b.front.told HasNoneToHeed → TookAll b.front.told b.board.book.state → HasReadAll b.front.told → rest'.until ≡ next_deadline_of d.board.book.state
         → IsRestful rest'.quiet b.board.book.state → IsBeforeTurn known first rest' d
     turn-served keep law rest' d here there served heeded took read until quiet = record {
       between = between-served keep steps known first b d between-then served;

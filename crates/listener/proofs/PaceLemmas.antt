@@ -400,10 +400,10 @@ served-patience steps a b patient served =
     subst HasPatience (sym served.others)
     (patience-served 1 serves.events None a.front.told a.calls a.board.book b.board.book (λ (same : 1 ≡ 0). cc) serves.acts patient)
 
-served-rests : (rest : Rest) (a b : SeenListener) → TookAll a.front.told a.board.book.state → HasReadAll a.front.told → rest.until ≡ next_deadline_of a.board.book.state
+served-rests : (rest : Rest) (a b : SeenListener) → TookAll a.front.told a.board.book.state → HasReadAll a.front.told → rest.until ≡ next_deadline_of b.board.book.state
     → IsAtRest a.board.book.state → b.board.book.state ≡ a.board.book.state → Rests rest (record a { board = b.board })
 served-rests rest a b took read until at_rest same = record {
-  until = until ∙ ap next_deadline_of (sym same);
+  until = until;
   at_rest = subst IsAtRest (sym same) at_rest;
   took = subst (TookAll a.front.told) (sym same) took;
   read = read;
@@ -414,7 +414,7 @@ abbrev pub IsAfter : SeenListener → Type 0
 IsAfter l = after l.board.book.base l.board.book.history ≡ l.board.book.state
 
 pub pace-served : ActsInSteps → GoesOnFrom → (rest : Rest) (a b : SeenListener) → IsAfter a → IsAfter b → Abreast a → HasPatience a → TookAll a.front.told a.board.book.state
-    → HasReadAll a.front.told → HasServedRows a b → rest.until ≡ next_deadline_of a.board.book.state → IsRestful rest.quiet a.board.book.state → GoesAbreast rest b
+    → HasReadAll a.front.told → HasServedRows a b → rest.until ≡ next_deadline_of b.board.book.state → IsRestful rest.quiet a.board.book.state → GoesAbreast rest b
 pace-served steps law rest a b here there abreast patient took read served until restful =
     let serves = serves-acts steps a.board b.board served.serves in
     subst (GoesAbreast rest) (sym served.others)

@@ -188,9 +188,10 @@ impl<'a, 'c, L: Link + Send, N: Known, B: Bell, G: Gate> Listener<'a, 'c, L, N, 
         Ok(find_rest(board))
     }
 
-    /// Serves what is signalled, and finds what the next wait is told. That is found before the service, as a worker's service
-    /// goes on by itself; where nothing is left to be done then, nothing is served, and else the bell is rung, so that the next wait
-    /// comes back at once. Err where a call was refused.
+    /// Serves what is signalled, and finds what the next wait is told. Whether time may pass is found before the service, as a worker's
+    /// service goes on by itself, and until when behind it, as connections wait anew then. Where something is left to be done behind it,
+    /// of which nothing else will tell, the bell is rung, so that the next wait comes back at once; a service rings it for what it ends.
+    /// Err where a call was refused.
     fn serve<R: Wait>(&mut self, rt: &R) -> Result<Rest, BoardFault>
         requires passes { 1 < self.old.board.book.passes }
         requires free { row_in 1 self.old.board.book ≡ None }
@@ -201,17 +202,19 @@ impl<'a, 'c, L: Link + Send, N: Known, B: Bell, G: Gate> Listener<'a, 'c, L, N, 
         ensures staffed { is_staffed self.new.board.book.state ≡ true }
         ensures rest { LeavesRest self.old.board.book self.new.board.book }
         ensures until { IfOk result
-            (λ rest. rest.until ≡ next_deadline_of self.old.board.book.state) }
+            (λ rest. rest.until ≡ next_deadline_of self.new.board.book.state) }
         ensures quiet { IfOk result (λ rest. IsRestful rest.quiet self.old.board.book.state) }
         ensures others { self.new ≡ record self.old { board = self.new.board } }
         ensures err { IfErr result (λ fault. RefusalLasts fault self.new.board.book) }
     {
-        let rest = find_rest(&self.board);
+        let before = find_rest(&self.board);
         serve_all(rt, &self.hands, &mut self.board)?;
-        if !rest.quiet {
-            self.hands.bell.ring();
-        }
-        Ok(rest)
+        let behind = find_rest(&self.board);
+        ring_for(self.hands.bell, behind);
+        Ok(Rest {
+            until: behind.until,
+            quiet: before.quiet,
+        })
     }
 
     /// Lets time pass to the moment, signals what something came for, lets go of what retires, lingers or has drained, does what the
@@ -479,6 +482,13 @@ impl<'a, 'c, L: Link + Send, N: Known, B: Bell, G: Gate> Listener<'a, 'c, L, N, 
         let left = settle(&mut self.board, conn, watched);
         show_state(&self.board);
         left
+    }
+}
+
+/// Rings the bell where something is left to be done.
+fn ring_for<B: Bell>(bell: &B, rest: Rest) {
+    if !rest.quiet {
+        bell.ring();
     }
 }
 

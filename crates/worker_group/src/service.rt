@@ -42,8 +42,8 @@ pub enum Exit {
     GiveUp(BoardFault),
 }
 
-/// Serves a signalled connection, as the pass `who`: it passes the gate once it has its cell, and rings the bell when it was left.
-/// Where its queueing is refused nothing changes.
+/// Serves a signalled connection, as the pass `who`: it passes the gate once it has its cell, and rings the bell where the connection
+/// doesn't wait then, as what another one waits for may be there. Where its queueing is refused nothing changes.
 pub fn serve<R: Wait, L: Link, N: Known, B: Bell, G: Gate>(
     rt: &R,
     hands: &Hands<'_, B, G>,
@@ -65,9 +65,15 @@ pub fn serve<R: Wait, L: Link, N: Known, B: Bell, G: Gate>(
     hands.gate.enter(rt, name);
     let exit = converse(board, who, &mut conn);
     board.show();
-    leave(board, who, conn, exit);
-    hands.bell.ring();
+    ring_behind(hands.bell, leave(board, who, conn, exit));
     Ok(())
+}
+
+/// Rings the bell behind a connection that doesn't wait.
+fn ring_behind<B: Bell>(bell: &B, waits: bool) {
+    if !waits {
+        bell.ring();
+    }
 }
 
 /// Takes turns with the client, until the connection is to be left.
@@ -192,8 +198,8 @@ fn half_close<L: Link, N: Known>(conn: &mut Conn<L, N>, cause: Cause) -> Exit
     }
 }
 
-/// Parks the connection, lets it linger, closes it, or gives it up.
-fn leave<L: Link, N: Known>(board: &mut Board<L, N>, who: u32, conn: Conn<L, N>, exit: Exit)
+/// Parks the connection, lets it linger, closes it, or gives it up. It answers whether the connection waits then.
+fn leave<L: Link, N: Known>(board: &mut Board<L, N>, who: u32, conn: Conn<L, N>, exit: Exit) -> bool
     requires who { who < board.old.book.passes }
     requires row { row_in who board.old.book ≡ Some conn.name }
     requires may { MayLeave board.old.book conn exit }
@@ -204,12 +210,19 @@ fn leave<L: Link, N: Known>(board: &mut Board<L, N>, who: u32, conn: Conn<L, N>,
     board.show();
     conn.show();
     match exit {
-        Exit::Park(kind) => {
-            let _ = park(board, who, conn, kind);
+        Exit::Park(kind) => park(board, who, conn, kind).is_ok(),
+        Exit::Linger(cause) => {
+            board.linger(who, cause, conn);
+            false
         }
-        Exit::Linger(cause) => board.linger(who, cause, conn),
-        Exit::Close(cause, tail) => close(board, who, conn, cause, tail),
-        Exit::GiveUp(fault) => give_up(board, who, conn, fault),
+        Exit::Close(cause, tail) => {
+            close(board, who, conn, cause, tail);
+            false
+        }
+        Exit::GiveUp(fault) => {
+            give_up(board, who, conn, fault);
+            false
+        }
     }
 }
 
