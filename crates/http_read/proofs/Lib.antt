@@ -12,6 +12,7 @@ pub mod KeptLemmas
 pub mod ChunkStepLemmas
 pub mod ChunkLineLemmas
 pub mod TrailerLemmas
+pub mod StretchLemmas
 pub mod ChunkedLemmas
 pub mod BodyFormLemmas
 pub mod FeedLemmas

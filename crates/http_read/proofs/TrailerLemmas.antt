@@ -48,14 +48,14 @@ not_token_cr : is_token_byte 13 ≡ false
 unfolding is_token_byte
 not_token_cr = refl
 
-not_token_lf : is_token_byte 10 ≡ false
+pub not_token_lf : is_token_byte 10 ≡ false
 unfolding is_token_byte
 not_token_lf = refl
 
-other_than_token : (v b : ℕ) → is_token_byte v ≡ false → is_token_byte b ≡ true → b ≢ v
+pub other_than_token : (v b : ℕ) → is_token_byte v ≡ false → is_token_byte b ≡ true → b ≢ v
 other_than_token v b fails token e = both_ways (is_token_byte v) fails (subst (λ c. is_token_byte c ≡ true) e token)
 
-value_is_no_feed : (b : ℕ) → is_value_byte b ≡ true → b ≢ 10
+pub value_is_no_feed : (b : ℕ) → is_value_byte b ≡ true → b ≢ 10
 value_is_no_feed b passes e =
     let feed : is_value_byte 10 ≡ true = subst (λ c. is_value_byte c ≡ true) e passes in
     false≢true feed

@@ -21,4 +21,5 @@ pub mod BodyPlaces
 pub mod BodyPlacesInside
 pub mod BodyAnswers
 pub mod ChunkStepsInside
+pub mod StretchesInside
 pub mod Requests

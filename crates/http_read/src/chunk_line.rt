@@ -1,10 +1,13 @@
-//! A chunk line (RFC 9112, section 7.1), byte by byte: each byte is looked at once.
+//! A chunk line (RFC 9112, section 7.1), byte by byte, its extension as far as it has come at once: each byte is looked at once.
 ghost use Rattle.std.specs.Prelude.{◌≡◌, ◌+◌, ◌<◌, ◌≤◌};
+ghost use Rattle.httparse.specs.Grammar.{is_extension_byte};
 ghost use Rattle.http_read.specs.ChunkStepsInside.{first_front, line_step, digit_step, pad_step, extension_step, longer, IsSmallLineMove};
 ghost use Rattle.http_read.specs.BodyPlacesInside.{IsSmallFront, IsSmallSize};
+ghost use Rattle.http_read.specs.StretchesInside.{PassFirst, stays_in_line, IsLongerFront};
 ghost use Rattle.http_read.specs.Sizes.{greatest_chunk_line};
 
 use crate::sizes::GREATEST_CHUNK_LINE;
+use crate::stretches::extension_stretch;
 use httparse::parse_hex_digit;
 
 /// What the front of a chunk line ends in.
@@ -78,6 +81,39 @@ impl ChunkLineFront {
                 }
             }
         }
+    }
+
+    /// The front with the bytes at the front of these that go on with its extension, as far as it stays short enough; and how
+    /// many they are. None are passed over where it doesn't end in one.
+    pub(crate) fn pass(self, bytes: &[u8]) -> (ChunkLineFront, usize)
+        requires { IsSmallFront self }
+        ensures longer { IsLongerFront self result.0 result.1 }
+        ensures small { IsSmallFront result.0 }
+        ensures passes { PassFirst (stays_in_line self.part) bytes.now result.1 }
+    {
+        match self.part {
+            ChunkLinePart::Extension => self.pass_extension(bytes),
+            _ => (self, 0),
+        }
+    }
+
+    fn pass_extension(self, bytes: &[u8]) -> (ChunkLineFront, usize)
+        requires len { self.len < greatest_chunk_line }
+        requires extension { self.extension ≤ self.len }
+        requires part { self.part ≡ ChunkLinePart.Extension }
+        ensures longer { IsLongerFront self result.0 result.1 }
+        ensures small { IsSmallFront result.0 }
+        ensures passes { PassFirst is_extension_byte bytes.now result.1 }
+    {
+        let room = (GREATEST_CHUNK_LINE - 1 - self.len) as usize;
+        let count = extension_stretch(bytes).min(room);
+        let front = ChunkLineFront {
+            len: self.len + count as u32,
+            size: self.size,
+            extension: self.extension + count as u32,
+            part: ChunkLinePart::Extension,
+        };
+        (front, count)
     }
 
     fn step_digits(self, byte: u8) -> ChunkLineMove

@@ -97,7 +97,33 @@ impl ChunkedPlace {
         }
     }
 
-    /// What the next bytes make of the body, and how many of them do: as much data as there is, or one byte.
+    /// Where the bytes at the front lead that change nothing but counts: data, and what goes on with an extension or with a part
+    /// of a trailer line; and how many they are.
+    fn pass(self, bytes: &[u8]) -> (ChunkedPlace, usize)
+        requires { IsSmallChunked self }
+        ensures within { result.1 ≤ length bytes.now }
+        ensures small { IsSmallChunked result.0 }
+        ensures begun { chunked_begun_len result.0 ≤ chunked_begun_len self + result.1 }
+        ensures runs { run bytes.now self ≡ run (drop result.1 bytes.now) result.0 }
+    {
+        match self {
+            ChunkedPlace::Line(totals, front) => {
+                let (longer, count) = front.pass(bytes);
+                (ChunkedPlace::Line(totals, longer), count)
+            }
+            ChunkedPlace::Data(totals, left) => {
+                let count = left.min(bytes.len() as u64);
+                (ChunkedPlace::Data(totals, left - count), count as usize)
+            }
+            ChunkedPlace::DataLineFeed(totals) => (ChunkedPlace::DataLineFeed(totals), 0),
+            ChunkedPlace::Trailer(before, front) => {
+                let (longer, count) = front.pass(bytes);
+                (ChunkedPlace::Trailer(before, longer), count)
+            }
+        }
+    }
+
+    /// What the next bytes make of the body, and how many of them do: as many as change nothing but counts, or one byte.
     fn advance(self, bytes: &[u8]) -> (ChunkedMove, usize)
         requires small { IsSmallChunked self }
         requires some { 0 < length bytes.now }
@@ -107,14 +133,9 @@ impl ChunkedPlace {
         ensures begun { move_begun_len result.0 ≤ chunked_begun_len self + result.1 }
         ensures runs { run bytes.now self ≡ run_on result.0 (drop result.1 bytes.now) }
     {
-        if let ChunkedPlace::Data(totals, left) = self {
-            if left > 0 {
-                let count = left.min(bytes.len() as u64);
-                return (
-                    ChunkedMove::On(ChunkedPlace::Data(totals, left - count)),
-                    count as usize,
-                );
-            }
+        let (place, count) = self.pass(bytes);
+        if count > 0 {
+            return (ChunkedMove::On(place), count);
         }
         (self.step(bytes[0]), 1)
     }

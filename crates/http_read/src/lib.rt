@@ -32,6 +32,7 @@ mod request;
 mod request_fields;
 mod requests;
 mod sizes;
+mod stretches;
 mod trailer_line;
 mod version;
 mod whole_head;

@@ -1,10 +1,12 @@
-//! A line behind the last chunk (RFC 9112, section 7.1.2), byte by byte: each byte is looked at once. It is a field line of
-//! the grammar of heads, or the empty line behind these.
+//! A line behind the last chunk (RFC 9112, section 7.1.2), byte by byte, a name or a value as far as it has come at once: each
+//! byte is looked at once. It is a field line of the grammar of heads, or the empty line behind these.
 ghost use Rattle.std.specs.Prelude.{◌≡◌, ◌<◌};
 ghost use Rattle.http_read.specs.ChunkStepsInside.{first_trailer, trailer_part, trailer_end, trailer_step, IsSmallTrailerMove};
+ghost use Rattle.http_read.specs.StretchesInside.{PassFirst, stays_in_trailer, IsLongerTrailer};
 ghost use Rattle.http_read.specs.Sizes.{greatest_trailer};
 
 use crate::sizes::GREATEST_TRAILER;
+use crate::stretches::{line_stretch, name_stretch, value_stretch};
 use httparse::{is_header_name_token, is_header_value_token};
 
 /// What the front of such a line ends in.
@@ -70,6 +72,36 @@ impl TrailerFront {
             TrailerMove::Front(TrailerFront { len, part })
         } else {
             TrailerMove::Broken
+        }
+    }
+
+    /// The front with the bytes at the front of these that leave what it ends in as it is, as far as it stays short enough; and
+    /// how many they are.
+    pub(crate) fn pass(self, bytes: &[u8]) -> (TrailerFront, usize)
+        requires { self.len < greatest_trailer }
+        ensures longer { IsLongerTrailer self result.0 result.1 }
+        ensures short { result.0.len < greatest_trailer }
+        ensures passes { PassFirst (stays_in_trailer self.part) bytes.now result.1 }
+    {
+        let room = (GREATEST_TRAILER - 1 - self.len) as usize;
+        let count = self.stretch(bytes).min(room);
+        let front = TrailerFront {
+            len: self.len + count as u32,
+            part: self.part,
+        };
+        (front, count)
+    }
+
+    /// How many bytes at the front leave what it ends in as it is.
+    fn stretch(self, bytes: &[u8]) -> usize
+        ensures { PassFirst (stays_in_trailer self.part) bytes.now result }
+    {
+        match self.part {
+            TrailerPart::Name => name_stretch(bytes),
+            TrailerPart::Value => value_stretch(bytes),
+            TrailerPart::NoField => line_stretch(bytes),
+            TrailerPart::CarriageReturn => 0,
+            TrailerPart::LastCarriageReturn => 0,
         }
     }
 
