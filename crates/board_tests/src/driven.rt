@@ -590,7 +590,8 @@ impl InHand {
             return None;
         };
         seen.look(&board);
-        match conn.answer(note) {
+        let mut buffers = conn.buffers();
+        match conn.answer(&mut buffers, note) {
             Ok(()) => Some(InHand { board, conn }),
             Err(NoMemory) => None,
         }

@@ -18,7 +18,7 @@ ghost use Rattle.board_turns.specs.Turns.{HadATurn, HadTurn, state_found};
 use crate::rests::turns_rest_on_these;
 use board::{Board, BoardFault};
 use board_lock::{Carrier, Shared, number};
-use conn_state::{Conn, Known};
+use conn_state::{Buffers, Conn, Known};
 use mpm_base::{Ask, Cause, Kind, Link, NoMemory, Tail};
 use std::sync::Wait;
 use worker_group::Exit;
@@ -105,6 +105,7 @@ pub fn answer<R: Wait, L: Link, N: Known>(
     rt: &R,
     shared: &Shared<Board<L, N>>,
     carrier: &mut Carrier<Board<L, N>>,
+    buffers: &mut Buffers,
     conn: &mut Conn<L, N>,
     ask: Ask,
 ) -> Option<Exit>
@@ -131,7 +132,7 @@ pub fn answer<R: Wait, L: Link, N: Known>(
     turn.kept.show();
     shared.done(carrier, turn);
     match decided {
-        Ok(note) => match conn.answer(note) {
+        Ok(note) => match conn.answer(buffers, note) {
             Ok(()) => None,
             Err(NoMemory) => Some(Exit::Close(Cause::NoMemory, Tail::Direct)),
         },

@@ -16,6 +16,7 @@ ghost use Rattle.conn_state.specs.Conn.{IsConn, IsFresh, is_usable, lingers};
 ghost use Rattle.conn_state.specs.Turns.{AsksNothing, IsNoteOf, KeepsRead, LingersOn, ReadsOn, ShutsOn, TakesNote, WritesOn};
 ghost use Rattle.conn_state.specs.Answered.{IsEnded, IsEndOf, IsShown};
 
+use crate::buffers::Buffers;
 use crate::ended::Ended;
 use crate::exchange::{ReadAnswer, read_item};
 use crate::kept_notes::KeptNotes;
@@ -188,6 +189,11 @@ impl<L: Link, N: Known> Conn<L, N> {
         self.name
     }
 
+    /// What a worker keeps from one service to the next, before the first one: for a caller that keeps nothing.
+    pub fn buffers(&self) -> Buffers {
+        Buffers::make(self.alloc)
+    }
+
     /// The number of its child.
     pub fn child(&self) -> u32
         ensures { result ≡ self.now.child }
@@ -258,7 +264,7 @@ impl<L: Link, N: Known> Conn<L, N> {
 
     /// Takes the note of the response to what the last turn asked. The response becomes pending, and of the note its code alone is
     /// kept. Where memory lacks nothing but the turn changes, and the connection can only be ended.
-    pub fn answer(&mut self, note: Note) -> Result<(), NoMemory>
+    pub fn answer(&mut self, buffers: &mut Buffers, note: Note) -> Result<(), NoMemory>
         requires asked { IsNoteOf self.old.turn note }
         requires date { IsSecond note.date }
         requires not_shut { self.old.linger ≡ linger.Open }
@@ -270,7 +276,14 @@ impl<L: Link, N: Known> Conn<L, N> {
         responses_have_bytes();
         follows_what_was_read();
         refusals_have_their_codes();
-        match take_note(self.alloc, &self.site, &self.plan, &mut self.notes, &note) {
+        match take_note(
+            self.alloc,
+            buffers,
+            &self.site,
+            &self.plan,
+            &mut self.notes,
+            &note,
+        ) {
             Ok(unsent) => {
                 self.unsent = unsent;
                 self.reader.leave_item();
@@ -367,6 +380,7 @@ impl<L: Link, N: Known> Conn<L, N> {
 /// changes.
 fn take_note(
     alloc: Global,
+    buffers: &mut Buffers,
     site: &Site,
     plan: &Option<Plan>,
     notes: &mut KeptNotes,
@@ -386,8 +400,8 @@ fn take_note(
     ensures err { OnErr result (notes.new ≡ notes.old) }
 {
     let unsent = match plan {
-        Some(plan) => respond(alloc, site, plan, note)?,
-        None => refuse(alloc, note)?,
+        Some(plan) => respond(alloc, buffers, site, plan, note)?,
+        None => refuse(alloc, buffers, note)?,
     };
     notes.add(note)?;
     Ok(unsent)

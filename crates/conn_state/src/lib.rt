@@ -16,6 +16,7 @@
 //! (`specs/Outgoing.antt`). `send` offers both to the link by one call, and says what it sent and left (`specs/Writing.antt`).
 #![tactic(auto)]
 
+mod buffers;
 mod conn;
 mod ended;
 mod exchange;
@@ -32,6 +33,7 @@ mod stage;
 mod steps;
 mod turn;
 
+pub use buffers::Buffers;
 pub use conn::Conn;
 pub use ended::Ended;
 pub use kept_notes::KeptNotes;

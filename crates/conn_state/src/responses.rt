@@ -11,6 +11,7 @@ ghost use Rattle.conn_state.specs.Replies.{IsResponse, body_bytes};
 ghost use Rattle.conn_state.specs.Outgoing.{IsUnsentOf, pending_bytes};
 ghost use Rattle.conn_state.specs.ResponsesInside.{IsBodyOf};
 
+use crate::buffers::Buffers;
 use crate::outgoing::{FileRange, Outgoing};
 use file_table::Site;
 use http_core::{Body, Plan, Reply, continue_text, refusal, response};
@@ -37,7 +38,13 @@ fn outgoing_of(reply: Reply) -> Result<Outgoing, NoMemory>
 }
 
 /// The response of this plan with the note, as it is to be sent. NoMemory where memory lacks for its head.
-pub fn respond(alloc: Global, site: &Site, plan: &Plan, note: &Note) -> Result<Outgoing, NoMemory>
+pub fn respond(
+    alloc: Global,
+    buffers: &mut Buffers,
+    site: &Site,
+    plan: &Plan,
+    note: &Note,
+) -> Result<Outgoing, NoMemory>
     requires date { IsSecond note.now.date }
     requires served { IsServedOf site.now plan.now.served }
     ensures response { IfOk result (λ out. (request : RequestParts)
@@ -45,12 +52,19 @@ pub fn respond(alloc: Global, site: &Site, plan: &Plan, note: &Note) -> Result<O
         → IsResponse site.now (inl request) note.now (pending_bytes site.now out)) }
     ensures of { IfOk result (IsUnsentOf site.now) }
 {
-    let reply = response(alloc, Octets::make(alloc), site, plan, note)?;
+    let reply = response(
+        alloc,
+        Octets::make(alloc),
+        &mut buffers.date,
+        site,
+        plan,
+        note,
+    )?;
     outgoing_of(reply)
 }
 
 /// The response to a refusal by the note's code, as it is to be sent. NoMemory where memory lacks for it.
-pub fn refuse(alloc: Global, note: &Note) -> Result<Outgoing, NoMemory>
+pub fn refuse(alloc: Global, buffers: &mut Buffers, note: &Note) -> Result<Outgoing, NoMemory>
     requires date { IsSecond note.now.date }
     requires code { refuses_head note.now.code ≡ true }
     ensures response { IfOk result (λ out. (site : SeenSite) (expected : Bool)
@@ -58,7 +72,7 @@ pub fn refuse(alloc: Global, note: &Note) -> Result<Outgoing, NoMemory>
         note.now (pending_bytes site out)) }
     ensures of { IfOk result (λ out. (site : SeenSite) → IsUnsentOf site out) }
 {
-    let reply = refusal(alloc, Octets::make(alloc), note)?;
+    let reply = refusal(alloc, Octets::make(alloc), &mut buffers.date, note)?;
     outgoing_of(reply)
 }
 

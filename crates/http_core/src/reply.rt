@@ -1,6 +1,5 @@
 //! A response: its head, and what its body is.
 ghost use Rattle.std.specs.Prelude.{◌≡◌, true, IfOk, if◌then◌else◌};
-ghost use Rattle.httpdate.specs.Date.{unix_secs};
 ghost use Rattle.mpm_base.specs.Moment.{IsSecond};
 ghost use Rattle.http_core.specs.Ask.{IsServedOf};
 ghost use Rattle.http_core.specs.Reply as spec;
@@ -8,11 +7,11 @@ ghost use Rattle.http_core.specs.Reply.{IsRefusalReply, IsReply};
 ghost use Rattle.http_core.specs.Code.{refuses_head};
 
 use crate::code::{Code, refusal_code};
+use crate::date_line::DateLine;
 use crate::plan::{Plan, Served};
 use crate::status_page::page_text;
 use crate::writing::{write_head, write_refusal};
 use file_table::Site;
-use httpdate::HttpDate;
 use mpm_base::{NoMemory, Note, Octets};
 use std::alloc::Global;
 
@@ -49,17 +48,6 @@ pub struct Reply {
     pub body: Body,
 }
 
-/// The date at a second since 1970-01-01 00:00:00 UTC.
-fn date_at(second: u64) -> HttpDate
-    requires { IsSecond second }
-    ensures { unix_secs result ≡ second }
-{
-    let Ok(date) = HttpDate::from_unix_secs(second) else {
-        unreachable!()
-    };
-    date
-}
-
 /// A body that says the code.
 fn code_body(alloc: Global, code: Code) -> Result<Octets, NoMemory>
     ensures { IfOk result (λ text. text ≡ spec.code_body code) }
@@ -90,10 +78,11 @@ fn sent_body(only_head: bool, body: Body) -> Body
 }
 
 /// The response of this plan with the note: its head is written behind what the buffer holds, which is dropped where
-/// memory lacks. A status page shows what the note keeps, and is empty where that is nothing.
+/// memory lacks, and dated by the note. A status page shows what the note keeps, and is empty where that is nothing.
 pub fn response(
     alloc: Global,
     head: Octets,
+    date: &mut DateLine,
     site: &Site,
     plan: &Plan,
     note: &Note,
@@ -103,24 +92,29 @@ pub fn response(
     ensures { IfOk result (IsReply site.now plan.now note.now head) }
 {
     let mut head = head;
-    let date = date_at(note.date);
+    date.go_to(note.date);
     let body = body_of_get(alloc, &plan.served, note)?;
-    write_head(&mut head, site, plan, note, body.len(), &date)?;
+    write_head(&mut head, site, plan, note, body.len(), &*date)?;
     let body = sent_body(plan.only_head, body);
     Ok(Reply { head, body })
 }
 
 /// The response to a head that was refused by the note's code: its head is written behind what the buffer holds, which is
 /// dropped where memory lacks.
-pub fn refusal(alloc: Global, head: Octets, note: &Note) -> Result<Reply, NoMemory>
+pub fn refusal(
+    alloc: Global,
+    head: Octets,
+    date: &mut DateLine,
+    note: &Note,
+) -> Result<Reply, NoMemory>
     requires date { IsSecond note.now.date }
     requires code { refuses_head note.now.code ≡ true }
     ensures { IfOk result (IsRefusalReply note.now head) }
 {
     let mut head = head;
-    let date = date_at(note.date);
+    date.go_to(note.date);
     let code = refusal_code(note.code);
-    write_refusal(&mut head, code, &date)?;
+    write_refusal(&mut head, code, &*date)?;
     let text = code_body(alloc, code)?;
     Ok(Reply {
         head,

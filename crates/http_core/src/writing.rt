@@ -7,10 +7,10 @@ ghost use Rattle.http_core.specs.Ask.{IsServedOf};
 ghost use Rattle.http_core.specs.Reply as spec;
 
 use crate::code::Code;
+use crate::date_line::DateLine;
 use crate::plan::{FilePart, Plan, Served};
 use crate::status_page::page_type;
 use file_table::{Site, content_type};
-use httpdate::HttpDate;
 use mpm_base::{NoMemory, Note, Octets};
 
 /// Room for a head without its Location. None takes more: at most, with their ends, 30 bytes of a status line with a part's
@@ -43,11 +43,11 @@ fn add_line(head: &mut Octets, name: &[u8], value: &[u8]) -> Result<(), NoMemory
 }
 
 /// Adds the first two lines.
-fn add_first_lines(head: &mut Octets, code: Code, date: &HttpDate) -> Result<(), NoMemory>
+fn add_first_lines(head: &mut Octets, code: Code, date: &DateLine) -> Result<(), NoMemory>
     ensures { OnOk result (head.new ≡ head.old ++ spec.first_lines code (date_text date.now)) }
 {
     add_line(head, b"HTTP/1.1 ", code.text())?;
-    add_line(head, b"Date: ", &date.to_bytes())
+    add_line(head, b"Date: ", date.text())
 }
 
 /// Adds the line of the connection.
@@ -159,7 +159,7 @@ pub fn write_head(
     plan: &Plan,
     note: &Note,
     size: u64,
-    date: &HttpDate,
+    date: &DateLine,
 ) -> Result<(), NoMemory>
     requires of { IsServedOf site.now plan.now.served }
     requires size { size ≡ spec.body_length (spec.body_of_get plan.now.served note.now.page) }
@@ -178,7 +178,7 @@ pub fn write_head(
 }
 
 /// Writes the head of the response to a refused head.
-pub fn write_refusal(head: &mut Octets, code: Code, date: &HttpDate) -> Result<(), NoMemory>
+pub fn write_refusal(head: &mut Octets, code: Code, date: &DateLine) -> Result<(), NoMemory>
     ensures { OnOk result (head.new ≡ head.old ++ spec.refusal_head code (date_text date.now)) }
 {
     head.reserve(USUAL_ROOM)?;

@@ -7,7 +7,7 @@ ghost use Rattle.http_core.specs.Code.{refuses_head};
 use crate::heads::LIMITS;
 use crate::pages::page_where;
 use file_table::{LoadFault, Site, SiteOrder, bytes, load};
-use http_core::{Body, Plan, ask_of, continue_text, refusal, response};
+use http_core::{Body, DateLine, Plan, ask_of, continue_text, refusal, response};
 use http_read::{HeadAnswer, Request, next_head};
 use mpm_base::{Ask, NoMemory, Note, Octets, Page};
 use stand_ins::{Calls, Files, MemStore};
@@ -99,7 +99,8 @@ fn reply_of(alloc: Global, site: &Site, plan: &Plan, note: &Note) -> Result<Octe
     requires date { IsSecond note.now.date }
     requires of { IsServedOf site.now plan.now.served }
 {
-    let reply = response(alloc, Octets::make(alloc), site, plan, note)?;
+    let mut date = DateLine::at(note.date);
+    let reply = response(alloc, Octets::make(alloc), &mut date, site, plan, note)?;
     let mut text = reply.head;
     add_body(site, &reply.body, &mut text)?;
     Ok(text)
@@ -191,7 +192,8 @@ fn refusal_of(alloc: Global, code: u16) -> Result<Octets, NoMemory>
     requires { refuses_head code ≡ true }
 {
     let note = note_of(0, true, code, None);
-    let reply = refusal(alloc, Octets::make(alloc), &note)?;
+    let mut date = DateLine::at(0);
+    let reply = refusal(alloc, Octets::make(alloc), &mut date, &note)?;
     let mut text = reply.head;
     if let Body::Own(own) = &reply.body {
         text.add(own.as_slice())?;

@@ -8,7 +8,9 @@ use crate::heads::LIMITS;
 use crate::leaving::may_end;
 use crate::pages::page_where;
 use crate::turn_answers::{is_usable, left_by_drop, left_by_read, left_by_write, lingers};
-use conn_state::{Conn, Ended, LastLinger, LastTurn, LingerTurn, Nothing, ReadTurn, WriteTurn};
+use conn_state::{
+    Buffers, Conn, Ended, LastLinger, LastTurn, LingerTurn, Nothing, ReadTurn, WriteTurn,
+};
 use file_table::Site;
 use mpm_base::{Ask, Cause, ConnName, Link, NoMemory, Note, Tail};
 use std::alloc::Global;
@@ -32,6 +34,7 @@ pub struct TestConn<L: Link> {
     conn: Conn<L, Nothing>,
     turn: LastTurn,
     linger: LastLinger,
+    buffers: Buffers,
 }
 
 impl<L: Link> Model for TestConn<L> {
@@ -55,6 +58,7 @@ impl<L: Link> TestConn<L> {
             conn: Conn::new(alloc, NAME, 2, 5, LIMITS, site, link),
             turn: LastTurn::New,
             linger: LastLinger::Open,
+            buffers: Buffers::make(alloc),
         }
     }
 
@@ -113,7 +117,7 @@ impl<L: Link> TestConn<L> {
             code: ask.code,
             page,
         };
-        self.turn = match self.conn.answer(note) {
+        self.turn = match self.conn.answer(&mut self.buffers, note) {
             Ok(()) => LastTurn::Answered,
             Err(NoMemory) => LastTurn::NoMemory,
         };

@@ -208,7 +208,7 @@ impl<'a, 'c, L: Link + Send, N: Known, B: Bell, G: Gate> Listener<'a, 'c, L, N, 
         ensures err { IfErr result (λ fault. RefusalLasts fault self.new.board.book) }
     {
         let before = find_rest(&self.board);
-        serve_all(rt, &self.hands, &mut self.board)?;
+        serve_all(rt, &self.hands, &mut self.buffers, &mut self.board)?;
         let behind = find_rest(&self.board);
         ring_for(self.hands.bell, behind);
         Ok(Rest {

@@ -5,7 +5,7 @@ ghost use Rattle.conn_machine.specs.Sound.{IsSound};
 
 use crate::edition::{LoadedEdition, NamedConfig};
 use board::Board;
-use conn_state::Known;
+use conn_state::{Buffers, Known};
 use mpm_base::{Bell, Gate, Link, Moment, Ready};
 use rounds::show_state;
 use std::alloc::Global;
@@ -26,6 +26,8 @@ pub struct Listener<'a, 'c, L: Link + Send, N: Known, B: Bell, G: Gate> {
     pub ready: Ready,
     /// What each service passes and rings.
     pub hands: Hands<'a, B, G>,
+    /// What its services keep from one to the next.
+    pub buffers: Buffers,
     /// Whether what stands in the output before the report was written whole so far.
     pub written: bool,
 }

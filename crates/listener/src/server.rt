@@ -31,7 +31,7 @@ use board::laws::{
 };
 use conn_machine::laws::{accepted_connections_are_closed_or_live, events_keep_states_sound};
 use conn_machine::laws_of_runs::made_histories_are_runs;
-use conn_state::{Known, Nothing};
+use conn_state::{Buffers, Known, Nothing};
 use mpm_base::{Clock, Front, Gate, Link, NoMemory, Ready, Sink, Store};
 use run_report::write_all;
 use std::alloc::Global;
@@ -133,6 +133,7 @@ pub fn run_server<
         edition,
         ready,
         hands: Hands { bell: &bell, gate },
+        buffers: Buffers::make(alloc),
         written,
     };
     listener.listen(rt, store, front, clock, out);
@@ -143,6 +144,7 @@ pub fn run_server<
         edition: _,
         ready: _,
         hands: _,
+        buffers: _,
         written,
     } = listener;
     show_run(&board, numbers);

@@ -42,7 +42,7 @@ use conn_machine::laws::{
 use conn_machine::laws_of_runs::{
     children_change_one_at_a_time, histories_join, histories_keep_sizes, rows_change_one_at_a_time,
 };
-use conn_state::{Conn, Known};
+use conn_state::{Buffers, Conn, Known};
 use mpm_base::{Bell, Cause, GREATEST_MOMENT, Gate, Kind, Link, Moment, Tail};
 use std::sync::Wait;
 use worker_group::laws::passes_act_in_steps;
@@ -314,6 +314,7 @@ pub fn start_children<L: Link, N: Known>(board: &mut Board<L, N>) -> Result<(), 
 pub fn serve_all<R: Wait, L: Link, N: Known, B: Bell, G: Gate>(
     rt: &R,
     hands: &Hands<'_, B, G>,
+    buffers: &mut Buffers,
     board: &mut Board<L, N>,
 ) -> Result<(), BoardFault>
     requires passes { 1 < board.old.book.passes }
@@ -334,7 +335,7 @@ pub fn serve_all<R: Wait, L: Link, N: Known, B: Bell, G: Gate>(
     passes_leave_the_rest_to_the_listener();
     show_state(board);
     while let Some(name) = board.signalled() {
-        serve(rt, hands, board, SERVER, name)?;
+        serve(rt, hands, buffers, board, SERVER, name)?;
         board.show();
     }
     Ok(())

@@ -95,6 +95,7 @@ pub fn answers<R: Wait, L: Link, N: Known>(
 {
     turns_rest_on_these();
     conn.show();
+    let mut buffers = conn.buffers();
     let who = number(carrier);
     let name = conn.name();
     let mut turn = shared.turn(rt, carrier);
@@ -103,7 +104,7 @@ pub fn answers<R: Wait, L: Link, N: Known>(
     turn.kept.show();
     shared.done(carrier, turn);
     match decided {
-        Ok(note) => match conn.answer(note) {
+        Ok(note) => match conn.answer(&mut buffers, note) {
             Ok(()) => None,
             Err(NoMemory) => Some(Exit::Close(Cause::NoMemory, Tail::Direct)),
         },

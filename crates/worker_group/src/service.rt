@@ -25,7 +25,7 @@ ghost use Rattle.worker_group.specs.ServiceInside.{MayLeave};
 use crate::hands::Hands;
 use board::laws::{generations_keep_their_editions, waits_are_backed_by_calls};
 use board::{Board, BoardFault};
-use conn_state::{Conn, Known, ReadTurn, WriteTurn};
+use conn_state::{Buffers, Conn, Known, ReadTurn, WriteTurn};
 use mpm_base::{Ask, Bell, Cause, ConnName, Gate, Kind, Link, NoMemory, Tail};
 use std::sync::Wait;
 
@@ -47,6 +47,7 @@ pub enum Exit {
 pub fn serve<R: Wait, L: Link, N: Known, B: Bell, G: Gate>(
     rt: &R,
     hands: &Hands<'_, B, G>,
+    buffers: &mut Buffers,
     board: &mut Board<L, N>,
     who: u32,
     name: ConnName,
@@ -63,7 +64,7 @@ pub fn serve<R: Wait, L: Link, N: Known, B: Bell, G: Gate>(
     let mut conn = board.queue(who, name)?;
     let _ = board.start(who, name);
     hands.gate.enter(rt, name);
-    let exit = converse(board, who, &mut conn);
+    let exit = converse(buffers, board, who, &mut conn);
     board.show();
     ring_behind(hands.bell, leave(board, who, conn, exit));
     Ok(())
@@ -77,7 +78,12 @@ fn ring_behind<B: Bell>(bell: &B, waits: bool) {
 }
 
 /// Takes turns with the client, until the connection is to be left.
-fn converse<L: Link, N: Known>(board: &mut Board<L, N>, who: u32, conn: &mut Conn<L, N>) -> Exit
+fn converse<L: Link, N: Known>(
+    buffers: &mut Buffers,
+    board: &mut Board<L, N>,
+    who: u32,
+    conn: &mut Conn<L, N>,
+) -> Exit
     requires who { who < board.old.book.passes }
     requires row { row_in who board.old.book ≡ Some conn.old.name }
     requires served { IsServed board.old.book.state conn.old }
@@ -94,7 +100,7 @@ fn converse<L: Link, N: Known>(board: &mut Board<L, N>, who: u32, conn: &mut Con
     ensures turned { IsMadeSince conn.new.turn conn.old.counts conn.new.counts }
 {
     loop {
-        if let Some(exit) = serve_once(board, who, conn) {
+        if let Some(exit) = serve_once(buffers, board, who, conn) {
             return exit;
         }
     }
@@ -103,6 +109,7 @@ fn converse<L: Link, N: Known>(board: &mut Board<L, N>, who: u32, conn: &mut Con
 /// Sends what is pending; where all was sent, reads on, and answers. None where the response, or what tells the client to send the
 /// body, is to be sent. Once the last response was sent the connection is half-closed.
 fn serve_once<L: Link, N: Known>(
+    buffers: &mut Buffers,
     board: &mut Board<L, N>,
     who: u32,
     conn: &mut Conn<L, N>,
@@ -136,7 +143,7 @@ fn serve_once<L: Link, N: Known>(
         return Some(half_close(conn, Cause::LastSent));
     }
     match conn.read_turn() {
-        ReadTurn::Asked(ask) => answer(board, who, conn, ask),
+        ReadTurn::Asked(ask) => answer(buffers, board, who, conn, ask),
         ReadTurn::Interim => None,
         ReadTurn::More if conn.noted() && conn.rest_empty() => Some(Exit::Park(Kind::KeepAlive)),
         ReadTurn::More => Some(Exit::Park(Kind::Reading)),
@@ -148,6 +155,7 @@ fn serve_once<L: Link, N: Known>(
 
 /// Decides the response to what was asked, and makes it pending. None where it is to be sent.
 fn answer<L: Link, N: Known>(
+    buffers: &mut Buffers,
     board: &mut Board<L, N>,
     who: u32,
     conn: &mut Conn<L, N>,
@@ -176,7 +184,7 @@ fn answer<L: Link, N: Known>(
     board.show();
     conn.show();
     match board.answer(who, conn.name(), ask) {
-        Ok(note) => match conn.answer(note) {
+        Ok(note) => match conn.answer(buffers, note) {
             Ok(()) => None,
             Err(NoMemory) => Some(Exit::Close(Cause::NoMemory, Tail::Direct)),
         },

@@ -11,7 +11,7 @@ use board::laws::waits_are_backed_by_calls;
 use board::{Board, BoardFault};
 use board_lock::{Carrier, Shared};
 use board_turns::{answer, close, linger, park};
-use conn_state::{Conn, Known, ReadTurn, WriteTurn};
+use conn_state::{Buffers, Conn, Known, ReadTurn, WriteTurn};
 use mpm_base::{Cause, Kind, Link, Tail};
 use std::sync::Wait;
 use worker_group::Exit;
@@ -21,6 +21,7 @@ pub(crate) fn converse<R: Wait, L: Link, N: Known>(
     rt: &R,
     shared: &Shared<Board<L, N>>,
     carrier: &mut Carrier<Board<L, N>>,
+    buffers: &mut Buffers,
     conn: &mut Conn<L, N>,
 ) -> Exit
     requires own { carrier.old.seat.table_id ≡ shared.now.table.shared.table_id }
@@ -34,7 +35,7 @@ pub(crate) fn converse<R: Wait, L: Link, N: Known>(
     ensures exits { ExitsAfter conn.new.turn conn.new result }
 {
     for _ in rt.forever() {
-        if let Some(way) = converse_once(rt, shared, carrier, conn) {
+        if let Some(way) = converse_once(rt, shared, carrier, buffers, conn) {
             return way;
         }
     }
@@ -47,6 +48,7 @@ fn converse_once<R: Wait, L: Link, N: Known>(
     rt: &R,
     shared: &Shared<Board<L, N>>,
     carrier: &mut Carrier<Board<L, N>>,
+    buffers: &mut Buffers,
     conn: &mut Conn<L, N>,
 ) -> Option<Exit>
     requires own { carrier.old.seat.table_id ≡ shared.now.table.shared.table_id }
@@ -73,7 +75,7 @@ fn converse_once<R: Wait, L: Link, N: Known>(
         return Some(Exit::Close(Cause::LinkFailed, Tail::Direct));
     }
     match conn.read_turn() {
-        ReadTurn::Asked(ask) => answer(rt, shared, carrier, conn, ask),
+        ReadTurn::Asked(ask) => answer(rt, shared, carrier, buffers, conn, ask),
         ReadTurn::Interim => None,
         ReadTurn::More if conn.noted() && conn.rest_empty() => Some(Exit::Park(Kind::KeepAlive)),
         ReadTurn::More => Some(Exit::Park(Kind::Reading)),

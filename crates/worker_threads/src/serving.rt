@@ -11,7 +11,7 @@ use crate::service::{converse, leave};
 use board::Board;
 use board_lock::{Carrier, Room};
 use board_turns::{Pair, start};
-use conn_state::{Conn, Known};
+use conn_state::{Buffers, Conn, Known};
 use idle_workers::release;
 use mpm_base::{Bell, Gate, Link};
 use recycle_perch::Looks;
@@ -24,6 +24,7 @@ pub fn serve<R: Wait, M: Room, L: Link, N: Known, B: Bell, G: Gate>(
     rt: &R,
     hands: &Hands<'_, M, L, N, B, G>,
     carrier: &mut Carrier<Board<L, N>>,
+    buffers: &mut Buffers,
     conn: Conn<L, N>,
 ) -> Exit
     requires own { carrier.old.seat.table_id ≡ M.table }
@@ -37,7 +38,7 @@ pub fn serve<R: Wait, M: Room, L: Link, N: Known, B: Bell, G: Gate>(
     let mut conn = conn;
     let _ = start(rt, hands.shared, carrier, &conn);
     hands.gate.enter(rt, conn.name());
-    let way = converse(rt, hands.shared, carrier, &mut conn);
+    let way = converse(rt, hands.shared, carrier, buffers, &mut conn);
     leave(rt, hands.shared, carrier, conn, way)
 }
 
@@ -47,6 +48,7 @@ pub fn serve_one<R: Wait, M: Room, L: Link, N: Known, B: Bell, G: Gate>(
     rt: &R,
     hands: &Hands<'_, M, L, N, B, G>,
     looks: &mut Looks,
+    buffers: &mut Buffers,
     pair: Pair<M, L, N>,
 ) -> Option<Carrier<Board<L, N>>>
     requires looks { AreOf hands.now.perch.now.places looks.old }
@@ -61,7 +63,7 @@ pub fn serve_one<R: Wait, M: Room, L: Link, N: Known, B: Bell, G: Gate>(
 {
     let (mut carrier, conn) = pair.parts();
     let child = conn.child();
-    let _ = serve(rt, hands, &mut carrier, conn);
+    let _ = serve(rt, hands, &mut carrier, buffers, conn);
     release(hands.shared, &mut carrier, child);
     let laid = hands.perch.give(looks, carrier);
     hands.bell.ring();

@@ -12,7 +12,7 @@ use crate::serving::serve_one;
 use board::Board;
 use board_lock::{Carrier, Room};
 use board_turns::Pair;
-use conn_state::Known;
+use conn_state::{Buffers, Known};
 use fd_queue::{FdQueue, FdSeat, Item};
 use mpm_base::{Bell, Gate, Link};
 use recycle_perch::Looks;
@@ -25,6 +25,7 @@ pub fn worker_loop<R: Wait, M: Room, L: Link, N: Known, B: Bell, G: Gate>(
     rt: &R,
     hands: &Hands<'_, M, L, N, B, G>,
     looks: &mut Looks,
+    buffers: &mut Buffers,
     queue: &FdQueue<Pair<M, L, N>>,
     seat: &mut FdSeat<Pair<M, L, N>>,
     rest: &mut Rest<'_>,
@@ -45,7 +46,7 @@ pub fn worker_loop<R: Wait, M: Room, L: Link, N: Known, B: Bell, G: Gate>(
         match next_item(rt, queue, seat, &*rest) {
             Item::Work(pair) => {
                 rest.takes();
-                serve_pair(rt, hands, looks, &mut back, pair);
+                serve_pair(rt, hands, looks, buffers, &mut back, pair);
             }
             Item::End => return back,
         }
@@ -58,6 +59,7 @@ fn serve_pair<R: Wait, M: Room, L: Link, N: Known, B: Bell, G: Gate>(
     rt: &R,
     hands: &Hands<'_, M, L, N, B, G>,
     looks: &mut Looks,
+    buffers: &mut Buffers,
     back: &mut Vec<Carrier<Board<L, N>>>,
     pair: Pair<M, L, N>,
 )
@@ -69,7 +71,7 @@ fn serve_pair<R: Wait, M: Room, L: Link, N: Known, B: Bell, G: Gate>(
     ensures all_own { All (λ carrier. carrier.seat.table_id ≡ M.table) back.new.items }
     ensures all_free { All (λ carrier. IsFreeCarrier carrier.seat.me) back.new.items }
 {
-    let left = serve_one(rt, hands, looks, pair);
+    let left = serve_one(rt, hands, looks, buffers, pair);
     if let Some(carrier) = left {
         keep::<M, L, N>(back, carrier);
     }
