@@ -1,18 +1,19 @@
 -- One step through the bytes that are there.
 use Rattle.std.proofs.Common.{◌≡◌, ℕ, ◌+◌, ◌<◌, ◌≤◌, ◌||◌, Bool, true, false, if◌then◌else◌, List, [], ◌++◌, take, drop, length, refl, sym, ap, subst, ◌∙◌, inl, inr, arith, append_assoc, length-append}
 use Rattle.std.proofs.lemmas.Bool.{false≢true}
-use Rattle.std.proofs.lemmas.List.{take-append-drop, take_all, length-drop, drop-drop}
+use Rattle.std.proofs.lemmas.List.{take-append-drop, take_all, drop_all, length-drop, drop-drop}
 use Rattle.std.proofs.Math.Seq.{take-append-add, drop-append-add}
 use Rattle.http_read.specs.declared.request.BodyKind.{BodyKind}
 use Rattle.http_read.specs.declared.request.BodyKind.TheVariants as kind
 use Rattle.http_read.specs.declared.request.Limits.{Limits}
 use Rattle.http_read.specs.declared.head_reader.HeadReader.{HeadReader}
+use Rattle.http_read.specs.declared.head.HeadAnswer.{HeadAnswer}
 use Rattle.http_read.specs.declared.head.HeadAnswer.TheVariants as answer
 use Rattle.http_read.specs.declared.body.BodyPlace.{BodyPlace}
 use Rattle.http_read.specs.declared.body.BodyAnswer.{BodyAnswer}
 use Rattle.http_read.specs.declared.body.BodyAnswer.TheVariants.{Took, Done, Bad}
 use Rattle.http_read.specs.RequestParts.{RequestParts}
-use Rattle.http_read.specs.Head.{HeadIs, BeginsHead, IsRefusal}
+use Rattle.http_read.specs.Head.{HeadIs, BeginsHead, IsRefusal, taken_by}
 use Rattle.http_read.specs.LookedAt.{HasLookedAt}
 use Rattle.http_read.specs.BodyForm.{IsBody, IsBodyFront, BeginsBody, BreaksBody}
 use Rattle.http_read.specs.BodyPlaces.{StandsAt, begun_len}
@@ -27,6 +28,21 @@ use Rattle.conn_state.specs.Steps.{is_told, WaitsInHead, WaitsInBody, StepFinds,
 use Rattle.conn_state.specs.StepsInside.{StartsBody}
 
 -- ## The head
+
+-- a head that was read stands in the bytes
+pub head-within : (limits : Limits) (bytes : List ℕ) (given : HeadAnswer) → HeadIs limits bytes given → taken_by given ≤ length bytes
+head-within limits bytes (answer.Whole request n) head = head.ends.within
+head-within limits bytes answer.More head = omega arith
+head-within limits bytes (answer.Refused code) head = omega arith
+head-within limits bytes answer.NoMemory head = omega arith
+
+-- bytes that begin where their room does
+pub at-front : (from : ℕ) (items bytes : List ℕ) → drop from items ≡ bytes → from ≡ 0 → items ≡ bytes
+at-front from items bytes is none = sym (ap (λ n. drop n items) none) ∙ is
+
+-- nothing is left behind all bytes
+pub none-left : (n : ℕ) (bytes left : List ℕ) → n ≡ length bytes → left ≡ [] → left ≡ drop n bytes
+none-left n bytes left all none = none ∙ sym (drop_all n bytes (omega (arith, all)))
 
 -- the head was accepted, and none of its body was taken
 pub begun-stands : (limits : Limits) (unread unread' : List ℕ) (reader : HeadReader) (request : RequestParts) (place : BodyPlace) (len : ℕ)

@@ -1,6 +1,9 @@
 //! Bytes that were received and not taken yet.
-ghost use Rattle.std.specs.Prelude.{◌≡◌, ◌==◌, [], ◌++◌, ◌≤◌, length, drop, OnOk, OnErr};
+ghost use Rattle.std.specs.Prelude.{◌≡◌, ◌==◌, [], ◌++◌, ◌≤◌, length, take, drop, OnOk, OnErr};
+ghost use Rattle.http_read.specs.Head.{HeadIs, taken_by};
+ghost use Rattle.http_read.specs.LookedAt.{HasLookedAt};
 
+use http_read::{HeadAnswer, HeadReader};
 use mpm_base::NoMemory;
 use std::alloc::Global;
 use std::marker::Model;
@@ -54,6 +57,40 @@ impl Received {
     {
         prove!(count <= self.items.len() - self.from);
         self.from += count;
+    }
+
+    /// Goes on with the head at the front, and leaves it out where it is whole. Where nothing stands behind it, or before it in the room, its
+    /// request takes the bytes over.
+    pub fn read_head(&mut self, alloc: Global, reader: &mut HeadReader) -> HeadAnswer
+        requires within { reader.old.looked ≤ length self.old }
+        requires looked { HasLookedAt (take reader.old.looked self.old) reader.old }
+        ensures head { HeadIs reader.old.limits self.old result }
+        ensures all { result ≡ HeadAnswer.More → reader.new.looked ≡ length self.old }
+        ensures limits { reader.new.limits ≡ reader.old.limits }
+        ensures within { reader.new.looked ≤ length self.old }
+        ensures looked { HasLookedAt (take reader.new.looked self.old) reader.new }
+        ensures left { self.new ≡ drop (taken_by result) self.old }
+    {
+        if self.from > 0 {
+            let answer = reader.read(alloc, self.as_slice());
+            self.skip_head(&answer);
+            return answer;
+        }
+        let (answer, taken) = reader.read_over(alloc, &mut self.items);
+        if !taken {
+            self.skip_head(&answer);
+        }
+        answer
+    }
+
+    /// Leaves out the head that was read.
+    fn skip_head(&mut self, answer: &HeadAnswer)
+        requires { taken_by answer.now ≤ length self.old }
+        ensures { self.new ≡ drop (taken_by answer.now) self.old }
+    {
+        if let HeadAnswer::Whole(_, len) = answer {
+            self.skip(*len as usize);
+        }
     }
 
     /// Holds no memory where there is no byte.

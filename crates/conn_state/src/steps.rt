@@ -38,11 +38,8 @@ fn read_head(alloc: Global, reader: HeadReader, unread: &mut Received) -> (Stage
         → Steps limits unread.old unread.new (stage.Head reader) result.0 result.1 }
 {
     let mut reader = reader;
-    match reader.read(alloc, unread.as_slice()) {
-        HeadAnswer::Whole(request, len) => {
-            unread.skip(len as usize);
-            begin_body(request)
-        }
+    match unread.read_head(alloc, &mut reader) {
+        HeadAnswer::Whole(request, _) => begin_body(request),
         HeadAnswer::More => (Stage::Head(reader), StepAnswer::Wants),
         HeadAnswer::Refused(code) => (Stage::Refused(code, false), StepAnswer::Refused),
         HeadAnswer::NoMemory => (Stage::Head(reader), StepAnswer::NoMemory),

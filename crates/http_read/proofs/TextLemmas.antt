@@ -1,5 +1,5 @@
 -- What is said of a text whose lines end as those of a head.
-use Rattle.std.proofs.Common.{◌≡◌, ℕ, ◌≤◌, inr, Bool, List, [], length, take, sym, ap, ◌∙◌, subst, arith}
+use Rattle.std.proofs.Common.{◌≡◌, ℕ, ◌≤◌, inl, inr, Bool, List, [], length, take, sym, ap, ◌∙◌, subst, arith}
 use Rattle.std.specs.Prelude.{map}
 use Rattle.std.proofs.lemmas.List.{append-nil, drop_all, length-map, length-take-le}
 use Rattle.httparse.specs.Grammar.{RequestHead, print_request, ReadsRequest, HasNoRequest}
@@ -10,7 +10,8 @@ use Rattle.http_read.specs.declared.head.HeadAnswer.{HeadAnswer}
 use Rattle.http_read.specs.declared.head.HeadAnswer.TheVariants as answer
 use Rattle.http_read.specs.HeadRules.{said_by}
 use Rattle.http_read.specs.Head.{IsHead, head_says}
-use Rattle.http_read.specs.TextsInside.{said_at, IsSaid, TextIs}
+use Rattle.http_read.specs.declared.whole_head.Said.{Said}
+use Rattle.http_read.specs.TextsInside.{said_at, IsSaid, TextIs, answer_of, GivesAnswer}
 
 -- the parser refused the text
 pub no_head_of_error : (most : ℕ) (text : List ℕ) → RequestOverflows most text → (head : RequestHead) → ¬ (IsHead most text head)
@@ -55,3 +56,8 @@ module _ (text : List ℕ) (headers : List HeaderSpan) (parts : RequestSpans) (m
   said_of_text answer.More h = absurd h
   said_of_text (answer.Refused code) h = inr (record { head = found.0; is_head = found_head; says = sym says_at ∙ h })
   said_of_text answer.NoMemory h = tt
+
+-- the answer to what the text says, or want of memory
+pub given_text : (most : ℕ) (text : List ℕ) (long : Bool) (s : Said) (given : HeadAnswer) → TextIs most long text (answer_of text s) → GivesAnswer text s given → TextIs most long text given
+given_text most text long s given is (inl same) = subst (TextIs most long text) (sym same) is
+given_text most text long s given is (inr none) = subst (TextIs most long text) (sym none) tt

@@ -84,6 +84,13 @@ pub record IsHeadFront (limits : Limits) (bytes : List ℕ) : Type 0 where
   pub small : length bytes ≤ greatest_head
   pub unended : IsUnended limits bytes
 
+-- how many bytes the head has that was read
+abbrev pub taken_by : HeadAnswer → ℕ
+taken_by (answer.Whole request n) = n
+taken_by answer.More = 0
+taken_by (answer.Refused code) = 0
+taken_by answer.NoMemory = 0
+
 -- the answer says what stands at the front of the bytes
 abbrev pub HeadIs : Limits → List ℕ → HeadAnswer → Type 0
 HeadIs limits bytes (answer.Whole request n) = BeginsHead limits bytes request n

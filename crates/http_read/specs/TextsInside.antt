@@ -8,7 +8,12 @@ use Rattle.http_read.specs.declared.head.HeadAnswer.TheVariants as answer
 use Rattle.http_read.specs.declared.head_reader.Noted.{Noted}
 use Rattle.http_read.specs.declared.version.Version.{Version}
 use Rattle.http_read.specs.declared.version.Version.TheVariants as version
+use Rattle.http_read.specs.declared.request.Places.{Places}
+use Rattle.http_read.specs.declared.whole_head.Said.{Said}
+use Rattle.http_read.specs.declared.whole_head.Said.TheVariants as said
 use Rattle.http_read.specs.RequestParts.{RequestParts}
+use Rattle.http_read.specs.Spans.{range_at}
+use Rattle.http_read.specs.SpansInside.{AreWithin}
 use Rattle.http_read.specs.HeadRules.{said_by}
 use Rattle.http_read.specs.Head.{IsHead, head_says}
 
@@ -22,6 +27,35 @@ IsSaid text long parts fields (answer.Whole request n) = (said_at text long part
 IsSaid text long parts fields answer.More = ⊥
 IsSaid text long parts fields (answer.Refused code) = said_at text long parts fields ≡ Err code
 IsSaid text long parts fields answer.NoMemory = ⊤
+
+-- what a request says whose texts stand at these places of its head
+abbrev pub parts_at : List ℕ → Places → RequestParts
+parts_at head p = record {
+  method = span_bytes head p.method;
+  target = span_bytes head p.target;
+  minor = p.minor;
+  host = span_bytes head p.host;
+  asked_close = p.asked_close;
+  expects = p.expects;
+  range = range_at head p.range;
+  body = p.body;
+}
+
+-- the places of a request that is accepted lie in the text
+abbrev pub IsWithinSaid : List ℕ → Said → Type 0
+IsWithinSaid text (said.Accepted p) = AreWithin text p.method p.target p.host p.range
+IsWithinSaid text (said.Refused code) = ⊤
+IsWithinSaid text said.NoMemory = ⊤
+
+-- the answer to a text of which this is said
+abbrev pub answer_of : List ℕ → Said → HeadAnswer
+answer_of text (said.Accepted p) = answer.Whole (parts_at text p) (length text)
+answer_of text (said.Refused code) = answer.Refused code
+answer_of text said.NoMemory = answer.NoMemory
+
+-- this is answered, or memory lacked
+abbrev pub GivesAnswer : List ℕ → Said → HeadAnswer → Type 0
+GivesAnswer text s given = (given ≡ answer_of text s) ⊎ (given ≡ answer.NoMemory)
 
 -- the text is a head that says this
 pub record IsSaidHead (most : ℕ) (long : Bool) (text : List ℕ) (said : Result RequestParts ℕ) : Type 0 where

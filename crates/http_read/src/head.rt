@@ -1,14 +1,14 @@
 //! The next head in the bytes of a connection.
-ghost use Rattle.std.specs.Prelude.{◌≡◌, ◌≢◌, ◌≤◌, ℕ, List, [], ◌++◌, length, take};
+ghost use Rattle.std.specs.Prelude.{◌≡◌, ◌≢◌, ◌≤◌, ℕ, List, [], ◌++◌, true, false, length, take};
 ghost use Rattle.http_read.specs.RequestParts.{RequestParts};
 ghost use Rattle.http_read.specs.LookedAt.{HasLookedAt};
-ghost use Rattle.http_read.specs.Head.{HeadIs};
+ghost use Rattle.http_read.specs.Head.{HeadIs, taken_by};
 
 use crate::codes::{BAD_REQUEST, URI_TOO_LONG};
 use crate::head_reader::{Extent, HeadReader};
 use crate::request::{Limits, Request};
 use crate::sizes::GREATEST_HEAD;
-use crate::whole_head::read_head;
+use crate::whole_head::{read_head, take_head};
 use std::alloc::Global;
 
 /// What the bytes of a connection say of the head of its next request.
@@ -58,6 +58,35 @@ impl HeadReader {
             Extent::TooLarge => HeadAnswer::Refused(BAD_REQUEST),
             Extent::Unended => HeadAnswer::More,
             Extent::Ends(end, noted) => read_head(alloc, &bytes[..end], &self.limits, noted),
+        }
+    }
+
+    /// Goes on so with bytes that are handed over. Where nothing stands behind the head its request takes them over, unless its version is
+    /// read otherwise than it is written: no byte is copied and none is left then, and this is answered, too.
+    pub fn read_over(&mut self, alloc: Global, bytes: &mut Vec<u8>) -> (HeadAnswer, bool)
+        requires within { self.old.looked ≤ length bytes.old.items }
+        requires looked { HasLookedAt (take self.old.looked bytes.old.items) self.old }
+        ensures head { HeadIs self.old.limits bytes.old.items result.0 }
+        ensures all { result.0 ≡ HeadAnswer.More → self.new.looked ≡ length bytes.old.items }
+        ensures limits { self.new.limits ≡ self.old.limits }
+        ensures within { self.new.looked ≤ length bytes.old.items }
+        ensures looked { HasLookedAt (take self.new.looked bytes.old.items) self.new }
+        ensures taken { result.1 ≡ true
+            → (bytes.new.items ≡ []) × (taken_by result.0 ≡ length bytes.old.items) }
+        ensures kept { result.1 ≡ false → bytes.new.items ≡ bytes.old.items }
+    {
+        let window = &bytes.as_slice()[..bytes.len().min(WINDOW)];
+        match self.look(window) {
+            Extent::LongLine => (HeadAnswer::Refused(URI_TOO_LONG), false),
+            Extent::TooLarge => (HeadAnswer::Refused(BAD_REQUEST), false),
+            Extent::Unended => (HeadAnswer::More, false),
+            Extent::Ends(end, noted) => {
+                if end == bytes.len() {
+                    return take_head(alloc, bytes, &self.limits, noted);
+                }
+                let text = &bytes.as_slice()[..end];
+                (read_head(alloc, text, &self.limits, noted), false)
+            }
         }
     }
 }

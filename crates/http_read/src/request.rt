@@ -1,7 +1,9 @@
 //! A request's head, as it was read.
 //!
-//! Its texts are places in one copy of the head, so a request takes one allocation.
+//! Its texts are places in the head, which it has taken over, or in one copy of it.
 ghost use Rattle.std.specs.Prelude.{◌≡◌, IfSome, IfNone};
+ghost use Rattle.http_read.specs.SpansInside.{AreWithin};
+ghost use Rattle.http_read.specs.TextsInside.{parts_at};
 
 use httparse::spans::Span;
 use std::marker::Model;
@@ -26,6 +28,19 @@ pub enum BodyKind {
     Length(u64),
     /// A body in chunks (RFC 9112, section 7.1).
     Chunked,
+}
+
+/// Where in its head the texts of a request stand, and what else it says.
+#[derive(Clone, Copy)]
+pub(crate) struct Places {
+    pub method: Span,
+    pub target: Span,
+    pub host: Span,
+    pub range: Option<Span>,
+    pub minor: u8,
+    pub asked_close: bool,
+    pub expects: bool,
+    pub body: BodyKind,
 }
 
 /// The head of a request.
@@ -66,6 +81,24 @@ impl Model for Request {
 }
 
 impl Request {
+    /// The request whose texts stand at these places of its head.
+    pub(crate) fn of(head: Vec<u8>, places: Places) -> Request
+        requires { AreWithin head.items places.method places.target places.host places.range }
+        ensures { result ≡ parts_at head.items places }
+    {
+        Request {
+            head,
+            method: places.method,
+            target: places.target,
+            host: places.host,
+            range: places.range,
+            minor: places.minor,
+            asked_close: places.asked_close,
+            expects: places.expects,
+            body: places.body,
+        }
+    }
+
     /// The method (RFC 9112, section 3.1).
     pub fn method(&self) -> &[u8]
         ensures { result.now ≡ self.now.method }
