@@ -511,7 +511,8 @@ impl InHand {
     fn write(self, seen: &mut Seen) -> Option<Service> {
         waits_are_backed_by_calls();
         let InHand { board, mut conn } = self;
-        match conn.write_turn() {
+        let mut buffers = conn.buffers();
+        match conn.write_turn(&mut buffers) {
             WriteTurn::Done => InHand { board, conn }.go_on(seen),
             WriteTurn::NotReady => {
                 conn.show();
@@ -541,7 +542,8 @@ impl InHand {
     {
         waits_are_backed_by_calls();
         let InHand { board, mut conn } = self;
-        let found = conn.read_turn();
+        let mut buffers = conn.buffers();
+        let found = conn.read_turn(&mut buffers);
         conn.show();
         match found {
             ReadTurn::Asked(ask) => {

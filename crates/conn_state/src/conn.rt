@@ -235,7 +235,7 @@ impl<L: Link, N: Known> Conn<L, N> {
     /// Reads until a request is whole or refused, its client is to be told to send the body, or the link gives no more. The link is
     /// asked only while there is none of these. LinkFailed where a call of the link failed, NoMemory where memory lacked for what came
     /// or for the answer; then the connection can only be ended.
-    pub fn read_turn(&mut self) -> ReadTurn
+    pub fn read_turn(&mut self, buffers: &mut Buffers) -> ReadTurn
         requires usable { is_usable self.old.turn ≡ true }
         requires sent { self.old.pending ≡ [] }
         requires open { says_last self.old.notes ≡ false }
@@ -256,6 +256,7 @@ impl<L: Link, N: Known> Conn<L, N> {
             &self.site,
             &mut self.reader,
             &mut self.unsent,
+            buffers,
         );
         self.turn = turn.leaves();
         self.plan = plan;
@@ -286,7 +287,7 @@ impl<L: Link, N: Known> Conn<L, N> {
         ) {
             Ok(unsent) => {
                 self.unsent = unsent;
-                self.reader.leave_item();
+                self.reader.leave_item(buffers);
                 self.turn = LastTurn::Answered;
                 Ok(())
             }
@@ -298,14 +299,20 @@ impl<L: Link, N: Known> Conn<L, N> {
     }
 
     /// Sends what is pending, until the link has no room. LinkFailed where a call of the link failed; then the connection can only be
-    /// ended. Takes no memory, and holds none for what is pending where nothing is.
-    pub fn write_turn(&mut self) -> WriteTurn
+    /// ended. Takes no memory, and holds none for what is pending where nothing is: that goes to `buffers`.
+    pub fn write_turn(&mut self, buffers: &mut Buffers) -> WriteTurn
         requires usable { is_usable self.old.turn ≡ true }
         requires not_shut { self.old.linger ≡ linger.Open }
         ensures { WritesOn self.old self.new result }
     {
         follows_what_was_read();
-        let turn = send(self.alloc, &mut self.link, &self.site, &mut self.unsent);
+        let turn = send(
+            self.alloc,
+            &mut self.link,
+            &self.site,
+            &mut self.unsent,
+            &mut buffers.response,
+        );
         self.turn = turn.leaves();
         turn
     }

@@ -3,6 +3,7 @@ ghost use Rattle.std.specs.Prelude.{◌≡◌, ℕ, true, List, None, is_some};
 ghost use Rattle.conn_state.specs.Reader.{IsAnswerable, StandsFor, item_kept};
 ghost use Rattle.conn_state.specs.ConnInside.{AsksItem, TakesIn};
 
+use crate::buffers::Buffers;
 use crate::outgoing::Outgoing;
 use crate::reader::{RequestAnswer, RequestReader};
 use crate::responses::tell_to_send;
@@ -63,6 +64,7 @@ pub fn read_item<L: Link>(
     site: &Site,
     reader: &mut RequestReader,
     unsent: &mut Outgoing,
+    buffers: &mut Buffers,
 ) -> ReadAnswer
     ensures takes { TakesIn (L.seen link.old) (L.seen link.new) site.now
         reader.old reader.new unsent.old unsent.new result.turn result.plan }
@@ -70,11 +72,11 @@ pub fn read_item<L: Link>(
         → L.seen link.new ≡ L.seen link.old }
 {
     reader.show();
-    let given = reader.read_turn(link);
+    let given = reader.read_turn(link, buffers);
     reader.show();
     match given {
         RequestAnswer::Item => ask_item(alloc, site, reader.stage()),
-        RequestAnswer::Awaited => match tell_to_send(alloc) {
+        RequestAnswer::Awaited => match tell_to_send(alloc, buffers) {
             Ok(text) => {
                 *unsent = text;
                 ReadAnswer::unplanned(ReadTurn::Interim)

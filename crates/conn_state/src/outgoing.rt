@@ -12,6 +12,7 @@ use file_table::{Site, bytes};
 use mpm_base::{Link, Octets, Sent};
 use std::alloc::Global;
 use std::marker::Model;
+use std::mem;
 
 /// Bytes of a file of the site: from the one place up to the other, which isn't one of them.
 #[derive(Clone, Copy)]
@@ -52,6 +53,13 @@ impl Outgoing {
             head,
             sent: 0,
             body,
+        }
+    }
+
+    /// What was sent: the room of its head is kept, where it has any.
+    fn keep_room(self, room: &mut Octets) {
+        if !self.head.is_empty() {
+            *room = self.head;
         }
     }
 
@@ -118,8 +126,14 @@ fn piece_of(site: &Site, range: FileRange) -> &[u8]
 }
 
 /// Sends what is left, until the link has no room. Each call of the link is offered what is left of the head, and behind it a
-/// piece of the body. LinkFailed where a call failed. Where nothing is left, no memory is held for it then.
-pub fn send<L: Link>(alloc: Global, link: &mut L, site: &Site, unsent: &mut Outgoing) -> WriteTurn
+/// piece of the body. LinkFailed where a call failed. Where nothing is left, no memory is held for it then: what was goes to `room`.
+pub fn send<L: Link>(
+    alloc: Global,
+    link: &mut L,
+    site: &Site,
+    unsent: &mut Outgoing,
+    room: &mut Octets,
+) -> WriteTurn
     requires { IsUnsentOf site.now unsent.old }
     ensures sends { SendsOn (L.seen link.old).told (L.seen link.new).told
         (L.seen link.old).counts (L.seen link.new).counts
@@ -135,6 +149,7 @@ pub fn send<L: Link>(alloc: Global, link: &mut L, site: &Site, unsent: &mut Outg
             Sent::Failed => return WriteTurn::LinkFailed,
         }
     }
-    *unsent = Outgoing::of(Octets::make(alloc), None);
+    let sent = mem::replace(unsent, Outgoing::of(Octets::make(alloc), None));
+    sent.keep_room(room);
     WriteTurn::Done
 }

@@ -11,6 +11,7 @@ ghost use Rattle.conn_state.specs.Calls.{ReadsAll};
 ghost use Rattle.conn_state.specs.CallsInside.{ReadsOnce, room_in};
 ghost use Rattle.conn_state.specs.Sizes.{read_piece};
 
+use crate::buffers::Buffers;
 use crate::laws::{
     items_wait_for_nothing, kept_bytes_are_readable, kept_bytes_go_on, waiting_clients_are_found,
 };
@@ -110,24 +111,27 @@ impl RequestReader {
         }
     }
 
-    /// Holds no memory for bytes where none is kept.
-    fn free_empty(&mut self)
+    /// Holds no memory for bytes where none is kept, and else little more than they take. What it held for others goes to `spare`.
+    fn settle(&mut self, spare: &mut Received)
         ensures { self.new ≡ self.old }
     {
-        self.unread.free_empty(self.alloc);
+        self.unread.settle(self.alloc, spare);
     }
 
-    /// Goes on behind the next request, which is whole. A reader that has no byte then holds no memory.
-    pub fn leave_request(&mut self)
+    /// Goes on behind the next request, which is whole, and whose room goes to `buffers`. A reader that has no byte then holds no memory.
+    pub fn leave_request(&mut self, buffers: &mut Buffers)
         requires { is_whole self.old.stage ≡ true }
         ensures { LeavesRequest self.old self.new }
     {
-        self.free_empty();
-        self.stage = Stage::Head(HeadReader::new(self.limits));
+        let left = mem::replace(&mut self.stage, Stage::Head(HeadReader::new(self.limits)));
+        if let Stage::Whole(request) = left {
+            buffers.keep_request(request.into_head());
+        }
+        self.unread.give_room(self.alloc, &mut buffers.received);
     }
 
     /// Goes on behind the next item. Behind a refusal nothing is read, so it is kept.
-    pub fn leave_item(&mut self)
+    pub fn leave_item(&mut self, buffers: &mut Buffers)
         ensures limits { self.new.limits ≡ self.old.limits }
         ensures leaves { (item : Item) (rest : List ℕ)
             → item_kept self.old.stage ≡ Some item → StandsFor self.old rest
@@ -136,22 +140,22 @@ impl RequestReader {
         ensures none { item_kept self.old.stage ≡ None → self.new ≡ self.old }
     {
         match &self.stage {
-            Stage::Whole(_) => self.leave_request(),
+            Stage::Whole(_) => self.leave_request(buffers),
             Stage::Head(_) => (),
             Stage::Body(_, _) => (),
             Stage::Refused(_, _) => (),
         }
     }
 
-    /// Reads on by the bytes that are there.
-    fn step(&mut self) -> StepAnswer
+    /// Reads on by the bytes that are there. A copy of a head is made in `room`.
+    fn step(&mut self, room: &mut Vec<u8>) -> StepAnswer
         ensures limits { self.new.limits ≡ self.old.limits }
         ensures steps { Steps self.old.limits self.old.unread self.new.unread
             self.old.stage self.new.stage result }
     {
         kept_bytes_are_readable();
         let stage = mem::replace(&mut self.stage, Stage::Refused(0, false));
-        let (stage, step) = read_on(self.alloc, stage, &mut self.unread);
+        let (stage, step) = read_on(self.alloc, stage, &mut self.unread, room);
         self.stage = stage;
         step
     }
@@ -169,20 +173,25 @@ impl RequestReader {
         }
     }
 
-    /// Keeps the bytes behind those that are there. Where memory lacks nothing changes.
-    fn keep(&mut self, bytes: &[u8]) -> Result<(), NoMemory>
+    /// Keeps the bytes behind those that are there, in the room of `spare` where it holds none. Where memory lacks nothing changes.
+    fn keep(&mut self, bytes: &[u8], spare: &mut Received) -> Result<(), NoMemory>
         ensures ok { OnOk result
             (self.new ≡ record self.old { unread = self.old.unread ++ bytes.now }) }
         ensures err { OnErr result (self.new ≡ self.old) }
     {
         kept_bytes_go_on();
-        self.unread.add(bytes)?;
+        self.unread.add(bytes, spare)?;
         Ok(())
     }
 
     /// Takes what the link has, at most a piece. None where bytes came. A reader that waits and has no byte then holds no memory
     /// for one.
-    fn take_piece<L: Link>(&mut self, link: &mut L) -> Option<RequestAnswer>
+    fn take_piece<L: Link>(
+        &mut self,
+        link: &mut L,
+        buffer: &mut [u8; READ_PIECE],
+        spare: &mut Received,
+    ) -> Option<RequestAnswer>
         requires { IsShortIn self.old.unread self.old.stage }
         ensures takes { TakesPiece (L.seen link.old) (L.seen link.new) self.old self.new result }
         ensures asks { ReadsOnce (L.calls link.old) (L.calls link.new)
@@ -190,16 +199,15 @@ impl RequestReader {
             (length self.old.unread) (length self.new.unread) result }
     {
         kept_bytes_go_on();
-        let mut buffer = [0; READ_PIECE];
         let piece = &mut buffer[..self.room()];
         match link.read(&mut *piece) {
-            Got::Got(count) => match self.keep(&piece[..count as usize]) {
+            Got::Got(count) => match self.keep(&piece[..count as usize], spare) {
                 Ok(()) => None,
                 Err(NoMemory) => Some(RequestAnswer::NoMemory),
             },
             Got::End => Some(RequestAnswer::Gone),
             Got::NotReady => {
-                self.free_empty();
+                self.settle(spare);
                 Some(RequestAnswer::More)
             }
             Got::Failed => Some(RequestAnswer::LinkFailed),
@@ -208,7 +216,7 @@ impl RequestReader {
 
     /// Reads until a request is whole or refused, a client is found that waits to be told to send a body, or the link gives no
     /// more. The link is asked only while there is none of these.
-    pub fn read_turn<L: Link>(&mut self, link: &mut L) -> RequestAnswer
+    pub fn read_turn<L: Link>(&mut self, link: &mut L, buffers: &mut Buffers) -> RequestAnswer
         ensures reads { ReadsNext (L.seen link.old) (L.seen link.new) self.old self.new result }
         ensures still { (rest : List ℕ) → StandsFor self.old rest → IsAnswerable self.old rest
             → L.seen link.new ≡ L.seen link.old }
@@ -220,13 +228,14 @@ impl RequestReader {
         waiting_clients_are_found();
         let _ = &self.limits;
         for _ in 0..u64::MAX {
-            match self.step() {
+            match self.step(&mut buffers.request) {
                 StepAnswer::Whole | StepAnswer::Refused => return RequestAnswer::Item,
                 StepAnswer::Awaited => return RequestAnswer::Awaited,
                 StepAnswer::NoMemory => return RequestAnswer::NoMemory,
                 StepAnswer::Accepted => {}
                 StepAnswer::Wants => {
-                    if let Some(answer) = self.take_piece(link) {
+                    let found = self.take_piece(link, &mut buffers.piece, &mut buffers.received);
+                    if let Some(answer) = found {
                         return answer;
                     }
                 }

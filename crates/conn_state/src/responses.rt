@@ -15,7 +15,7 @@ use crate::buffers::Buffers;
 use crate::outgoing::{FileRange, Outgoing};
 use file_table::Site;
 use http_core::{Body, Plan, Reply, continue_text, refusal, response};
-use mpm_base::{NoMemory, Note, Octets};
+use mpm_base::{NoMemory, Note};
 use std::alloc::Global;
 
 /// The reply as it is to be sent. A body of its own is copied behind the head; that of a file stays in the site.
@@ -52,14 +52,8 @@ pub fn respond(
         → IsResponse site.now (inl request) note.now (pending_bytes site.now out)) }
     ensures of { IfOk result (IsUnsentOf site.now) }
 {
-    let reply = response(
-        alloc,
-        Octets::make(alloc),
-        &mut buffers.date,
-        site,
-        plan,
-        note,
-    )?;
+    let head = buffers.take_response(alloc);
+    let reply = response(alloc, head, &mut buffers.date, site, plan, note)?;
     outgoing_of(reply)
 }
 
@@ -72,14 +66,16 @@ pub fn refuse(alloc: Global, buffers: &mut Buffers, note: &Note) -> Result<Outgo
         note.now (pending_bytes site out)) }
     ensures of { IfOk result (λ out. (site : SeenSite) → IsUnsentOf site out) }
 {
-    let reply = refusal(alloc, Octets::make(alloc), &mut buffers.date, note)?;
+    let head = buffers.take_response(alloc);
+    let reply = refusal(alloc, head, &mut buffers.date, note)?;
     outgoing_of(reply)
 }
 
 /// What tells a client to send its body (RFC 9110, section 15.2.1), as it is to be sent. NoMemory where memory lacks for it.
-pub fn tell_to_send(alloc: Global) -> Result<Outgoing, NoMemory>
+pub fn tell_to_send(alloc: Global, buffers: &mut Buffers) -> Result<Outgoing, NoMemory>
     ensures { IfOk result (λ out. out ≡ record { head = spec.continue_text; body = None }) }
 {
-    let text = Octets::of(alloc, continue_text())?;
+    let mut text = buffers.take_response(alloc);
+    text.add(continue_text())?;
     Ok(Outgoing::of(text, None))
 }

@@ -31,14 +31,19 @@ pub enum StepAnswer {
 }
 
 /// Reads on in its head.
-fn read_head(alloc: Global, reader: HeadReader, unread: &mut Received) -> (Stage, StepAnswer)
+fn read_head(
+    alloc: Global,
+    reader: HeadReader,
+    unread: &mut Received,
+    room: &mut Vec<u8>,
+) -> (Stage, StepAnswer)
     requires within { reader.looked ≤ length unread.old }
     requires looked { HasLookedAt (take reader.looked unread.old) reader }
     ensures { (limits : Limits)
         → Steps limits unread.old unread.new (stage.Head reader) result.0 result.1 }
 {
     let mut reader = reader;
-    match unread.read_head(alloc, &mut reader) {
+    match unread.read_head(alloc, &mut reader, room) {
         HeadAnswer::Whole(request, _) => begin_body(request),
         HeadAnswer::More => (Stage::Head(reader), StepAnswer::Wants),
         HeadAnswer::Refused(code) => (Stage::Refused(code, false), StepAnswer::Refused),
@@ -82,13 +87,18 @@ fn read_body(request: Request, reader: BodyReader, unread: &mut Received) -> (St
 }
 
 /// Reads on by the bytes that are there, and takes what they say of the next request. Where more has to come it keeps of a
-/// body only the line that isn't whole, and of a head no more bytes than one may have.
-pub fn read_on(alloc: Global, stage: Stage, unread: &mut Received) -> (Stage, StepAnswer)
+/// body only the line that isn't whole, and of a head no more bytes than one may have. A copy of a head is made in `room`.
+pub fn read_on(
+    alloc: Global,
+    stage: Stage,
+    unread: &mut Received,
+    room: &mut Vec<u8>,
+) -> (Stage, StepAnswer)
     requires { IsReadable unread.old stage }
     ensures { (limits : Limits) → Steps limits unread.old unread.new stage result.0 result.1 }
 {
     match stage {
-        Stage::Head(reader) => read_head(alloc, reader, unread),
+        Stage::Head(reader) => read_head(alloc, reader, unread, room),
         Stage::Body(request, reader) => read_body(request, reader, unread),
         Stage::Whole(request) => (Stage::Whole(request), StepAnswer::Whole),
         Stage::Refused(code, expected) => (Stage::Refused(code, expected), StepAnswer::Refused),

@@ -37,13 +37,14 @@ pub fn next_head(alloc: Global, bytes: &[u8], limits: &Limits) -> HeadAnswer
 {
     one_answer();
     let mut reader = HeadReader::new(*limits);
-    reader.read(alloc, bytes)
+    let mut room = Vec::new(alloc);
+    reader.read(alloc, &mut room, bytes)
 }
 
 impl HeadReader {
     /// Goes on with the head at the front of the bytes, which begin with those that it has looked at.
-    /// Where more has to come it has looked at all of them.
-    pub fn read(&mut self, alloc: Global, bytes: &[u8]) -> HeadAnswer
+    /// Where more has to come it has looked at all of them. A request has a copy of its head, made in `room`, which it takes with it.
+    pub fn read(&mut self, alloc: Global, room: &mut Vec<u8>, bytes: &[u8]) -> HeadAnswer
         requires within { self.old.looked ≤ length bytes.now }
         requires looked { HasLookedAt (take self.old.looked bytes.now) self.old }
         ensures head { HeadIs self.old.limits bytes.now result }
@@ -57,13 +58,20 @@ impl HeadReader {
             Extent::LongLine => HeadAnswer::Refused(URI_TOO_LONG),
             Extent::TooLarge => HeadAnswer::Refused(BAD_REQUEST),
             Extent::Unended => HeadAnswer::More,
-            Extent::Ends(end, noted) => read_head(alloc, &bytes[..end], &self.limits, noted),
+            Extent::Ends(end, noted) => {
+                read_head(alloc, room, &bytes[..end], &self.limits, noted)
+            }
         }
     }
 
     /// Goes on so with bytes that are handed over. Where nothing stands behind the head its request takes them over, unless its version is
     /// read otherwise than it is written: no byte is copied and none is left then, and this is answered, too.
-    pub fn read_over(&mut self, alloc: Global, bytes: &mut Vec<u8>) -> (HeadAnswer, bool)
+    pub fn read_over(
+        &mut self,
+        alloc: Global,
+        room: &mut Vec<u8>,
+        bytes: &mut Vec<u8>,
+    ) -> (HeadAnswer, bool)
         requires within { self.old.looked ≤ length bytes.old.items }
         requires looked { HasLookedAt (take self.old.looked bytes.old.items) self.old }
         ensures head { HeadIs self.old.limits bytes.old.items result.0 }
@@ -82,10 +90,10 @@ impl HeadReader {
             Extent::Unended => (HeadAnswer::More, false),
             Extent::Ends(end, noted) => {
                 if end == bytes.len() {
-                    return take_head(alloc, bytes, &self.limits, noted);
+                    return take_head(alloc, room, bytes, &self.limits, noted);
                 }
                 let text = &bytes.as_slice()[..end];
-                (read_head(alloc, text, &self.limits, noted), false)
+                (read_head(alloc, room, text, &self.limits, noted), false)
             }
         }
     }

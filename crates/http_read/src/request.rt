@@ -99,6 +99,11 @@ impl Request {
         }
     }
 
+    /// Its head alone, whose room can be kept.
+    pub fn into_head(self) -> Vec<u8> {
+        self.head
+    }
+
     /// The method (RFC 9112, section 3.1).
     pub fn method(&self) -> &[u8]
         ensures { result.now ≡ self.now.method }

@@ -33,15 +33,21 @@ const FEW_FIELDS: usize = 32;
 /// Up to so many fields need no memory while they are read.
 const USUAL_FIELDS: usize = 100;
 
-/// Reads a text that ends as a head does, of whose lines this is noted. Its request has a copy of it.
-pub(crate) fn read_head(alloc: Global, text: &[u8], limits: &Limits, noted: Noted) -> HeadAnswer
+/// Reads a text that ends as a head does, of whose lines this is noted. Its request has a copy of it, made in `room`.
+pub(crate) fn read_head(
+    alloc: Global,
+    room: &mut Vec<u8>,
+    text: &[u8],
+    limits: &Limits,
+    noted: Noted,
+) -> HeadAnswer
     requires { IsWithinText noted.version text.now }
     ensures { ReadsText limits.now.fields noted text.now result }
 {
     match noted.version {
         Version::Written => {
             let said = read_text(alloc, text, limits, noted.long);
-            copied(alloc, text, said)
+            copied(alloc, room, text, said)
         }
         Version::Later(digit) => read_later(alloc, text, limits, noted.long, digit),
         Version::Other => HeadAnswer::Refused(HTTP_VERSION_NOT_SUPPORTED),
@@ -52,6 +58,7 @@ pub(crate) fn read_head(alloc: Global, text: &[u8], limits: &Limits, noted: Note
 /// request takes the text over, which is empty then; this is answered, too.
 pub(crate) fn take_head(
     alloc: Global,
+    room: &mut Vec<u8>,
     text: &mut Vec<u8>,
     limits: &Limits,
     noted: Noted,
@@ -67,7 +74,10 @@ pub(crate) fn take_head(
             let said = read_text(alloc, text.as_slice(), limits, noted.long);
             taken_over(alloc, text, said)
         }
-        _ => (read_head(alloc, text.as_slice(), limits, noted), false),
+        _ => (
+            read_head(alloc, room, text.as_slice(), limits, noted),
+            false,
+        ),
     }
 }
 
@@ -90,16 +100,20 @@ fn taken_over(alloc: Global, text: &mut Vec<u8>, said: Said) -> (HeadAnswer, boo
     }
 }
 
-/// The answer to a text of which this is said. Its request has a copy of it.
-fn copied(alloc: Global, text: &[u8], said: Said) -> HeadAnswer
+/// The answer to a text of which this is said. Its request has a copy of it, made in `room`.
+fn copied(alloc: Global, room: &mut Vec<u8>, text: &[u8], said: Said) -> HeadAnswer
     requires { IsWithinSaid text.now said }
     ensures { GivesAnswer text.now said result }
 {
     match said {
-        Said::Accepted(places) => match Vec::from_slice(alloc, text) {
-            Ok(head) => HeadAnswer::Whole(Request::of(head, places), text.len() as u64),
-            Err(_) => HeadAnswer::NoMemory,
-        },
+        Said::Accepted(places) => {
+            let mut head = mem::replace(room, Vec::new(alloc));
+            head.clear();
+            match head.extend_from_slice(text) {
+                Ok(()) => HeadAnswer::Whole(Request::of(head, places), text.len() as u64),
+                Err(_) => HeadAnswer::NoMemory,
+            }
+        }
         Said::Refused(code) => HeadAnswer::Refused(code),
         Said::NoMemory => HeadAnswer::NoMemory,
     }

@@ -79,18 +79,19 @@ fn read_by_byte(alloc: Global, limits: Limits, text: &[u8]) -> (HeadAnswer, usiz
     requires { length text.now < 1000000 }
 {
     let mut reader = HeadReader::new(limits);
+    let mut room = Vec::new(alloc);
     let mut looks: u64 = 0;
     for end in 0..text.len() {
         let bytes = &text[..end];
         let before = reader.looked();
-        let answer = reader.read(alloc, bytes);
+        let answer = reader.read(alloc, &mut room, bytes);
         looks = looks.saturating_add((end - before) as u64);
         match answer {
             HeadAnswer::More => {}
             _ => return (answer, end, looks),
         }
     }
-    (reader.read(alloc, text), text.len(), looks)
+    (reader.read(alloc, &mut room, text), text.len(), looks)
 }
 
 /// Shows what each head asks.

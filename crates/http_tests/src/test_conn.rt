@@ -93,7 +93,7 @@ impl<L: Link> TestConn<L> {
         if !self.is_open() || self.conn.pending() || self.conn.last() {
             return false;
         }
-        self.turn = left_by_read(self.conn.read_turn());
+        self.turn = left_by_read(self.conn.read_turn(&mut self.buffers));
         true
     }
 
@@ -129,7 +129,7 @@ impl<L: Link> TestConn<L> {
         if !self.is_open() {
             return false;
         }
-        self.turn = left_by_write(self.conn.write_turn());
+        self.turn = left_by_write(self.conn.write_turn(&mut self.buffers));
         true
     }
 

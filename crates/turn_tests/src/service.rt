@@ -113,7 +113,8 @@ fn serves_once<R: Wait, L: Link, N: Known>(
     ensures may { IfSome result (LeavesBy N.known carrier.new.seat.me.0 conn.new) }
 {
     waits_are_backed_by_calls();
-    match conn.write_turn() {
+    let mut buffers = conn.buffers();
+    match conn.write_turn(&mut buffers) {
         WriteTurn::Done => (),
         WriteTurn::NotReady => return Some(Exit::Park(Kind::Writing)),
         WriteTurn::LinkFailed => return Some(Exit::Close(Cause::LinkFailed, Tail::Direct)),
@@ -146,7 +147,8 @@ fn reads<R: Wait, L: Link, N: Known>(
     ensures may { IfSome result (LeavesBy N.known carrier.new.seat.me.0 conn.new) }
 {
     waits_are_backed_by_calls();
-    match conn.read_turn() {
+    let mut buffers = conn.buffers();
+    match conn.read_turn(&mut buffers) {
         ReadTurn::Asked(ask) => answers(rt, shared, carrier, conn, ask),
         ReadTurn::Interim => None,
         ReadTurn::More if conn.noted() && conn.rest_empty() => Some(Exit::Park(Kind::KeepAlive)),

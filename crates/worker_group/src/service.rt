@@ -134,7 +134,7 @@ fn serve_once<L: Link, N: Known>(
 {
     waits_are_backed_by_calls();
     board.show();
-    match conn.write_turn() {
+    match conn.write_turn(buffers) {
         WriteTurn::Done => (),
         WriteTurn::NotReady => return Some(Exit::Park(Kind::Writing)),
         WriteTurn::LinkFailed => return Some(Exit::Close(Cause::LinkFailed, Tail::Direct)),
@@ -142,7 +142,7 @@ fn serve_once<L: Link, N: Known>(
     if conn.last() {
         return Some(half_close(conn, Cause::LastSent));
     }
-    match conn.read_turn() {
+    match conn.read_turn(buffers) {
         ReadTurn::Asked(ask) => answer(buffers, board, who, conn, ask),
         ReadTurn::Interim => None,
         ReadTurn::More if conn.noted() && conn.rest_empty() => Some(Exit::Park(Kind::KeepAlive)),

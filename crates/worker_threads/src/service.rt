@@ -63,7 +63,7 @@ fn converse_once<R: Wait, L: Link, N: Known>(
     ensures exits { IfSome result (ExitsAfter conn.new.turn conn.new) }
 {
     waits_are_backed_by_calls();
-    match conn.write_turn() {
+    match conn.write_turn(buffers) {
         WriteTurn::Done => (),
         WriteTurn::NotReady => return Some(Exit::Park(Kind::Writing)),
         WriteTurn::LinkFailed => return Some(Exit::Close(Cause::LinkFailed, Tail::Direct)),
@@ -74,7 +74,7 @@ fn converse_once<R: Wait, L: Link, N: Known>(
         }
         return Some(Exit::Close(Cause::LinkFailed, Tail::Direct));
     }
-    match conn.read_turn() {
+    match conn.read_turn(buffers) {
         ReadTurn::Asked(ask) => answer(rt, shared, carrier, buffers, conn, ask),
         ReadTurn::Interim => None,
         ReadTurn::More if conn.noted() && conn.rest_empty() => Some(Exit::Park(Kind::KeepAlive)),

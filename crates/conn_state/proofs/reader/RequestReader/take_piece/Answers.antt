@@ -21,7 +21,7 @@ returns-in-End-clause-takes g c = ends-gone _ _ c.args.self.now c.read.new.buffe
 
 pub returns-in-NotReady-clause-takes : goal.returns-in-NotReady-clause-takes
 returns-in-NotReady-clause-takes g c =
-    rw c.free_empty.ensures (ends-late _ _ c.args.self.now c.read.new.buffer c.in-NotReady.ensures.reads)
+    rw c.settle.ensures (ends-late _ _ c.args.self.now c.read.new.buffer c.in-NotReady.ensures.reads)
 
 pub returns-in-Failed-clause-takes : goal.returns-in-Failed-clause-takes
 returns-in-Failed-clause-takes g c = ends-failed _ _ c.args.self.now c.read.new.buffer c.in-Failed.ensures.reads

@@ -1,0 +1,10 @@
+use Rattle.std.proofs.Common.{sym, ◌∙◌, arith}
+use Rattle.std.proofs.lemmas.Bool.Decides.{nat_tests}
+use Rattle.std.proofs.lemmas.List.{nil_from_length}
+use Rattle.conn_state.proofs.received.Received.take_room.Goals as goal
+
+pub lend-requires : goal.lend-requires
+lend-requires c = nil_from_length c.args.self.now (grind (arith, nat_tests))
+
+pub returns-then-is_empty : goal.returns-then-is_empty
+returns-then-is_empty c = c.lend.ensures ∙ sym (nil_from_length c.args.self.now (grind (arith, nat_tests)))
