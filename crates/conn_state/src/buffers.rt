@@ -55,9 +55,9 @@ impl Buffers {
         room
     }
 
-    /// The room of a request that was answered goes to what is received next, or to the next copy of a head.
-    pub(crate) fn keep_request(&mut self, head: Vec<u8>) {
-        if self.received.has_room() {
+    /// Keeps the room of a request that was answered: for the next copy of a head, where it had one, and else for what is received next.
+    pub(crate) fn keep_request(&mut self, head: Vec<u8>, copied: bool) {
+        if copied {
             self.request = head;
         } else {
             self.received.keep_room(Received::room_of(head));

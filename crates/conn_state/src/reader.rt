@@ -125,7 +125,7 @@ impl RequestReader {
     {
         let left = mem::replace(&mut self.stage, Stage::Head(HeadReader::new(self.limits)));
         if let Stage::Whole(request) = left {
-            buffers.keep_request(request.into_head());
+            buffers.keep_request(request.into_head(), self.unread.has_room());
         }
         self.unread.give_room(self.alloc, &mut buffers.received);
     }
