@@ -1,3 +1,4 @@
+pub mod FileLineLemmas
 pub mod LoadLemmas
 pub mod OrderLemmas
 pub mod PathLemmas

@@ -1,4 +1,5 @@
 pub mod ContentType
+pub mod FileLines
 pub mod Load
 pub mod LoadInside
 pub mod Order

@@ -49,7 +49,7 @@ fn type_by_extension(extension: &[u8]) -> &'static [u8]
 }
 
 /// The type of a file of that name.
-fn type_of_name(name: &[u8]) -> &'static [u8]
+pub(crate) fn type_of_name(name: &[u8]) -> &'static [u8]
     ensures { result.now ≡ type_of_name name.now }
 {
     match extension_of(name) {

@@ -1,9 +1,11 @@
 //! The files of a site.
 ghost use Rattle.std.specs.Prelude.{◌≡◌, ◌<◌, ◌≤◌, ◌∷◌, length, Some, IfOk, slice_get, option_map};
+ghost use Rattle.file_table.specs.FileLines.{file_lines};
 ghost use Rattle.file_table.specs.Order.{IsInOrder};
 ghost use Rattle.file_table.specs.Site.{most_files};
 
-use mpm_base::{File, NoMemory, Octets};
+use crate::file_lines::lines_of_files;
+use mpm_base::{File, Names, NoMemory, Octets};
 use std::alloc::Global;
 use std::marker::Model;
 
@@ -25,10 +27,13 @@ pub struct Site {
     slash_index: Octets,
     status: bool,
     files: Vec<File>,
+    // What the head of a response with each whole file ends in.
+    lines: Names,
 }
 
 impl Model for Site {
-    ghost use Rattle.std.specs.Prelude.{◌≡◌, ◌≤◌, ◌∷◌, length};
+    ghost use Rattle.std.specs.Prelude.{◌≡◌, ◌≤◌, ◌∷◌, length, map};
+    ghost use Rattle.file_table.specs.FileLines.{file_lines};
     ghost use Rattle.file_table.specs.Order.{IsInOrder};
     ghost use Rattle.file_table.specs.Site.{SeenSite, most_files};
 
@@ -37,7 +42,7 @@ impl Model for Site {
     ghost view = { λ s. record { index = s.index; status = s.status; files = s.files.items } };
 
     ghost invariant = { λ s. (s.slash_index ≡ 47 ∷ s.index) × IsInOrder s.files.items
-        × (length s.files.items ≤ most_files) };
+        × (length s.files.items ≤ most_files) × (s.lines ≡ map file_lines s.files.items) };
 }
 
 impl Site {
@@ -56,11 +61,13 @@ impl Site {
         let mut slash_index = Octets::of(alloc, b"/")?;
         slash_index.add(index)?;
         let index = Octets::of(alloc, index)?;
+        let lines = lines_of_files(alloc, files.as_slice())?;
         Ok(Site {
             index,
             slash_index,
             status,
             files,
+            lines,
         })
     }
 
@@ -85,6 +92,17 @@ impl Site {
         self.status
     }
 
+    /// What the head of a response with the whole file at the place ends in.
+    fn lines(&self, file: u32) -> &[u8]
+        requires { file < length self.now.files }
+        ensures { option_map file_lines (slice_get self.now.files file) ≡ Some result.now }
+    {
+        match self.lines.get(file as usize) {
+            Some(lines) => lines.as_slice(),
+            None => unreachable!(),
+        }
+    }
+
     /// The files, in the order of their names.
     pub fn files(&self) -> &[File]
         ensures files { result.now ≡ self.now.files }
@@ -101,4 +119,13 @@ pub fn bytes(site: &Site, file: u32) -> &[u8]
     ensures { option_map (λ f. f.bytes) (slice_get site.now.files file) ≡ Some result.now }
 {
     site.files()[file as usize].bytes.as_slice()
+}
+
+/// What the head of a response with the whole file of the site ends in: the lines of its type and of its length, and the empty line. Takes
+/// no memory.
+pub fn head_lines(site: &Site, file: u32) -> &[u8]
+    requires { file < length site.now.files }
+    ensures { option_map file_lines (slice_get site.now.files file) ≡ Some result.now }
+{
+    site.lines(file)
 }

@@ -6,4 +6,5 @@ pub mod Reply
 pub mod Served
 pub mod StatusPage
 pub mod Target
+pub mod WritingInside
 pub mod Location

@@ -5,12 +5,13 @@ ghost use Rattle.std.specs.Fmt.{decimal};
 ghost use Rattle.httpdate.specs.Date.{date_text};
 ghost use Rattle.http_core.specs.Ask.{IsServedOf};
 ghost use Rattle.http_core.specs.Reply as spec;
+ghost use Rattle.http_core.specs.WritingInside.{lines_behind};
 
 use crate::code::Code;
 use crate::date_line::DateLine;
 use crate::plan::{FilePart, Plan, Served};
 use crate::status_page::page_type;
-use file_table::{Site, content_type};
+use file_table::{Site, bytes, content_type, head_lines};
 use mpm_base::{NoMemory, Note, Octets};
 
 /// Room for a head without its Location. None takes more: at most, with their ends, 30 bytes of a status line with a part's
@@ -152,6 +153,41 @@ fn add_last_lines(head: &mut Octets, size: u64) -> Result<(), NoMemory>
     head.add(b"\r\n\r\n")
 }
 
+/// Adds the lines behind that of the connection, one by one.
+fn add_single_lines(
+    head: &mut Octets,
+    site: &Site,
+    served: &Served,
+    size: u64,
+) -> Result<(), NoMemory>
+    requires { IsServedOf site.now served.now }
+    ensures { OnOk result (head.new ≡ head.old ++ lines_behind site.now served.now size) }
+{
+    add_allow(head, served)?;
+    add_location(head, served)?;
+    add_range(head, served)?;
+    add_type(head, site, served)?;
+    add_last_lines(head, size)
+}
+
+/// Adds the lines behind that of the connection. Those of a whole file were made when its site was loaded.
+fn add_lines_behind(
+    head: &mut Octets,
+    site: &Site,
+    served: &Served,
+    size: u64,
+) -> Result<(), NoMemory>
+    requires { IsServedOf site.now served.now }
+    ensures { OnOk result (head.new ≡ head.old ++ lines_behind site.now served.now size) }
+{
+    if let Served::Whole(part) = served {
+        if bytes(site, part.file).len() as u64 == size {
+            return head.add(head_lines(site, part.file));
+        }
+    }
+    add_single_lines(head, site, served, size)
+}
+
 /// Writes the head of the response of this plan with the note, the body of a GET having so many bytes.
 pub fn write_head(
     head: &mut Octets,
@@ -170,11 +206,7 @@ pub fn write_head(
     head.reserve(room_of(served))?;
     add_first_lines(head, served.code(), date)?;
     add_connection(head, note.last, plan.minor)?;
-    add_allow(head, served)?;
-    add_location(head, served)?;
-    add_range(head, served)?;
-    add_type(head, site, served)?;
-    add_last_lines(head, size)
+    add_lines_behind(head, site, served, size)
 }
 
 /// Writes the head of the response to a refused head.
