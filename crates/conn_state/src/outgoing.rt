@@ -58,8 +58,13 @@ impl Outgoing {
 
     /// What was sent: the room of its head is kept, where it has any.
     fn keep_room(self, room: &mut Octets) {
-        if !self.head.is_empty() {
-            *room = self.head;
+        let Outgoing {
+            head,
+            sent: _,
+            body: _,
+        } = self;
+        if !head.is_empty() {
+            *room = head;
         }
     }
 

@@ -116,6 +116,7 @@ impl RequestReader {
         ensures { self.new ≡ self.old }
     {
         self.unread.settle(self.alloc, spare);
+        settle_stage(&mut self.stage);
     }
 
     /// Goes on behind the next request, which is whole, and whose room goes to `buffers`. A reader that has no byte then holds no memory.
@@ -242,5 +243,15 @@ impl RequestReader {
             }
         }
         unreachable!()
+    }
+}
+
+/// Holds not much more memory for a head that was accepted than it takes.
+fn settle_stage(stage: &mut Stage)
+    ensures { stage.new ≡ stage.old }
+{
+    match stage {
+        Stage::Body(request, _) => request.settle(),
+        _ => {}
     }
 }

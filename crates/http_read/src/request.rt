@@ -101,7 +101,27 @@ impl Request {
 
     /// Its head alone, whose room can be kept.
     pub fn into_head(self) -> Vec<u8> {
-        self.head
+        let Request {
+            head,
+            method: _,
+            target: _,
+            host: _,
+            range: _,
+            minor: _,
+            asked_close: _,
+            expects: _,
+            body: _,
+        } = self;
+        head
+    }
+
+    /// Holds not much more memory than its head takes.
+    pub fn settle(&mut self)
+        ensures { self.new ≡ self.old }
+    {
+        if self.head.capacity() / 2 > self.head.len() {
+            self.head.shrink_to_fit();
+        }
     }
 
     /// The method (RFC 9112, section 3.1).
