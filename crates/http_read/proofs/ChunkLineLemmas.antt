@@ -35,7 +35,7 @@ passes_extension b no_cr no_lf = rw (no_cr, no_lf) refl
 
 -- ---- a front stays open
 
-line_printed : (l : ChunkLine) (rest : List ℕ) → print_chunk_line l ++ rest
+pub line_printed : (l : ChunkLine) (rest : List ℕ) → print_chunk_line l ++ rest
     ≡ l.digits ++ (l.pad ++ (print_extension l.extension ++ (13 ∷ 10 ∷ rest)))
 unfolding print_chunk_line
 line_printed l rest = simp append_assoc

@@ -17,6 +17,7 @@ pub mod ChunkedLemmas
 pub mod BodyFormLemmas
 pub mod FeedLemmas
 pub mod ChunkLineRuns
+pub mod ChunkFrontLemmas
 pub mod ChunkedRuns
 pub mod FormLemmas
 pub mod CutLemmas

@@ -22,4 +22,5 @@ pub mod BodyPlacesInside
 pub mod BodyAnswers
 pub mod ChunkStepsInside
 pub mod StretchesInside
+pub mod ChunkFrontInside
 pub mod Requests

@@ -1,5 +1,5 @@
 //! A chunk line (RFC 9112, section 7.1), byte by byte, its extension as far as it has come at once: each byte is looked at once.
-ghost use Rattle.std.specs.Prelude.{◌≡◌, ◌+◌, ◌<◌, ◌≤◌};
+ghost use Rattle.std.specs.Prelude.{◌≡◌, ◌+◌, ◌<◌, ◌≤◌, true};
 ghost use Rattle.httparse.specs.Grammar.{is_extension_byte};
 ghost use Rattle.http_read.specs.ChunkStepsInside.{first_front, line_step, digit_step, pad_step, extension_step, longer, IsSmallLineMove};
 ghost use Rattle.http_read.specs.BodyPlacesInside.{IsSmallFront, IsSmallSize};
@@ -61,6 +61,16 @@ impl ChunkLineFront {
             extension: 0,
             part: ChunkLinePart::Digits,
         }
+    }
+
+    /// Whether there is nothing of a chunk line.
+    pub(crate) fn is_first(self) -> bool
+        ensures { result ≡ true → self ≡ first_front }
+    {
+        matches!(self.part, ChunkLinePart::Digits)
+            && self.len == 0
+            && self.size == 0
+            && self.extension == 0
     }
 
     /// What the byte behind the front makes of it.

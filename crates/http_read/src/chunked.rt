@@ -1,10 +1,11 @@
 //! A chunked body (RFC 9112, section 7.1): where in it a reader stands, and what further bytes make of that.
-ghost use Rattle.std.specs.Prelude.{◌≡◌, ℕ, ◌+◌, ◌<◌, ◌≤◌, length, drop};
+ghost use Rattle.std.specs.Prelude.{◌≡◌, ℕ, ◌+◌, ◌<◌, ◌≤◌, length, drop, IfSome};
 ghost use Rattle.http_read.specs.ChunkStepsInside.{first_place, chunked_step, behind_whole, behind_line, behind_trailer, run, run_on, outcome_of, move_begun_len, IsSmallMove, IsSmallLineMove, IsSmallTrailerMove};
 ghost use Rattle.http_read.specs.BodyPlaces.{chunked_begun_len};
 ghost use Rattle.http_read.specs.BodyPlacesInside.{AreSmallTotals, IsSmallChunked};
 ghost use Rattle.http_read.specs.Sizes.{most_trailers};
 
+use crate::chunk_front::{begins_with_line_end, plain_line};
 use crate::chunk_line::{ChunkLineFront, ChunkLineMove};
 use crate::codes::{BAD_REQUEST, CONTENT_TOO_LARGE};
 use crate::sizes::{GREATEST_BODY, GREATEST_EXTENSIONS, MOST_TRAILERS};
@@ -123,7 +124,36 @@ impl ChunkedPlace {
         }
     }
 
-    /// What the next bytes make of the body, and how many of them do: as many as change nothing but counts, or one byte.
+    /// What a whole line at the front makes of the body, and how many bytes it has: a chunk line without an extension, before which nothing of
+    /// one is, or the line end behind the data of a chunk.
+    fn take_line(self, bytes: &[u8]) -> Option<(ChunkedMove, usize)>
+        requires { IsSmallChunked self }
+        ensures within { IfSome result (λ r. r.1 ≤ length bytes.now) }
+        ensures some { IfSome result (λ r. 0 < r.1) }
+        ensures small { IfSome result (λ r. IsSmallMove r.0) }
+        ensures begun { IfSome result (λ r. move_begun_len r.0 ≡ 0) }
+        ensures runs { IfSome result (λ r. run bytes.now self ≡ run_on r.0 (drop r.1 bytes.now)) }
+    {
+        match self {
+            ChunkedPlace::Line(totals, front) => {
+                if !front.is_first() {
+                    return None;
+                }
+                let (len, size) = plain_line(bytes)?;
+                Some((behind_whole(totals, size, 0), len))
+            }
+            ChunkedPlace::Data(totals, left) => {
+                if left > 0 || !begins_with_line_end(bytes) {
+                    return None;
+                }
+                let next = ChunkedPlace::Line(totals, ChunkLineFront::first());
+                Some((ChunkedMove::On(next), 2))
+            }
+            _ => None,
+        }
+    }
+
+    /// What the next bytes make of the body, and how many of them do: a whole line, as many as change nothing but counts, or one byte.
     fn advance(self, bytes: &[u8]) -> (ChunkedMove, usize)
         requires small { IsSmallChunked self }
         requires some { 0 < length bytes.now }
@@ -133,6 +163,9 @@ impl ChunkedPlace {
         ensures begun { move_begun_len result.0 ≤ chunked_begun_len self + result.1 }
         ensures runs { run bytes.now self ≡ run_on result.0 (drop result.1 bytes.now) }
     {
+        if let Some(taken) = self.take_line(bytes) {
+            return taken;
+        }
         let (place, count) = self.pass(bytes);
         if count > 0 {
             return (ChunkedMove::On(place), count);

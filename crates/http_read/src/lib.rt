@@ -20,6 +20,7 @@
 
 mod authority;
 mod body;
+mod chunk_front;
 mod chunk_line;
 mod chunked;
 mod codes;
