@@ -15,7 +15,7 @@ fn lines_of(alloc: Global, file: &File) -> Result<Octets, NoMemory>
 {
     let kind = type_of_name(file.name.as_slice());
     let mut lines = Octets::make(alloc);
-    lines.reserve_exact(USUAL_ROOM + kind.len())?;
+    lines.reserve_exact(kind.len().saturating_add(USUAL_ROOM))?;
     lines.add(b"Content-Type: ")?;
     lines.add(kind)?;
     lines.add(b"\r\n")?;

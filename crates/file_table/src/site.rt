@@ -61,7 +61,7 @@ impl Site {
         let mut slash_index = Octets::of(alloc, b"/")?;
         slash_index.add(index)?;
         let index = Octets::of(alloc, index)?;
-        let lines = lines_of_files(alloc, files.as_slice())?;
+        let lines = lines_of_files(alloc, &files)?;
         Ok(Site {
             index,
             slash_index,

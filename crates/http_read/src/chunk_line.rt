@@ -67,10 +67,10 @@ impl ChunkLineFront {
     pub(crate) fn is_first(self) -> bool
         ensures { result ≡ true → self ≡ first_front }
     {
-        matches!(self.part, ChunkLinePart::Digits)
-            && self.len == 0
-            && self.size == 0
-            && self.extension == 0
+        match self.part {
+            ChunkLinePart::Digits => self.len == 0 && self.size == 0 && self.extension == 0,
+            _ => false,
+        }
     }
 
     /// What the byte behind the front makes of it.

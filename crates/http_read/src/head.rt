@@ -83,7 +83,7 @@ impl HeadReader {
             → (bytes.new.items ≡ []) × (taken_by result.0 ≡ length bytes.old.items) }
         ensures kept { result.1 ≡ false → bytes.new.items ≡ bytes.old.items }
     {
-        let window = &bytes.as_slice()[..bytes.len().min(WINDOW)];
+        let window = &bytes[..bytes.len().min(WINDOW)];
         match self.look(window) {
             Extent::LongLine => (HeadAnswer::Refused(URI_TOO_LONG), false),
             Extent::TooLarge => (HeadAnswer::Refused(BAD_REQUEST), false),
@@ -92,7 +92,7 @@ impl HeadReader {
                 if end == bytes.len() {
                     return take_head(alloc, room, bytes, &self.limits, noted);
                 }
-                let text = &bytes.as_slice()[..end];
+                let text = &bytes[..end];
                 (read_head(alloc, room, text, &self.limits, noted), false)
             }
         }

@@ -71,13 +71,10 @@ pub(crate) fn take_head(
 {
     match noted.version {
         Version::Written => {
-            let said = read_text(alloc, text.as_slice(), limits, noted.long);
+            let said = read_text(alloc, &*text, limits, noted.long);
             taken_over(alloc, text, said)
         }
-        _ => (
-            read_head(alloc, room, text.as_slice(), limits, noted),
-            false,
-        ),
+        _ => (read_head(alloc, room, &*text, limits, noted), false),
     }
 }
 
