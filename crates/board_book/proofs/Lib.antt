@@ -3,6 +3,7 @@ pub mod AlikeLemmas
 pub mod BookLemmas
 pub mod EditionLemmas
 pub mod FiledLemmas
+pub mod CountedLemmas
 pub mod FindLemmas
 pub mod FoldedLemmas
 pub mod PassLemmas

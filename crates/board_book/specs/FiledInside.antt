@@ -24,6 +24,11 @@ ring_of_waiting false r = if is_from KeepAlive r then ring_of_child 32 r.child e
 abbrev pub ring_of_row : Bool → Row → Option ℕ
 ring_of_row signalled r = if is_parked r.place then ring_of_waiting signalled r else None
 
+-- 1 for the rings of the children's rows that wait for service, and 0 for the others and for none
+abbrev pub service_weight : Option ℕ → ℕ
+service_weight None = 0
+service_weight (Some ring) = if nat_lt ring 32 then 1 else 0
+
 -- each slot stands in the ring of its row
 pub record AreFiled (s : State) (rings : List (Option ℕ)) : Type 0 where
   pub slots : length rings ≡ length s.rows

@@ -10,12 +10,12 @@ ghost use Rattle.conn_machine.specs.declared.row.Row.{Row};
 ghost use Rattle.board_book.specs.Finds.{FindsRow, has_to_be_drained, is_due, is_due_of, is_let_go};
 ghost use Rattle.board_book.specs.FiledInside.{FindsInChild, FindsInRing, refiled_rings, ring_of_child, ring_of_row, slot_of_event};
 
+use crate::counted_rings::CountedRings;
 use conn_machine::laws_of_runs::rows_change_one_at_a_time;
 use conn_machine::{Event, Reply, Row, State, Stepped};
 use mpm_base::{ConnName, Kind, NoMemory, Shape};
 use std::alloc::Global;
 use std::marker::Model;
-use timeout_queues::SlotRings;
 
 // The most children that there may be.
 const CHILDREN: u32 = 32;
@@ -33,7 +33,7 @@ const TO_DRAIN: u32 = 64;
 #[derive(Drop)]
 pub struct FiledState {
     state: State,
-    rings: SlotRings,
+    rings: CountedRings,
 }
 
 impl Model for FiledState {
@@ -60,7 +60,7 @@ impl FiledState {
     {
         Ok(FiledState {
             state: State::opening(alloc, slots, children, shape)?,
-            rings: SlotRings::make(alloc, slots)?,
+            rings: CountedRings::make(alloc, slots)?,
         })
     }
 
@@ -77,6 +77,9 @@ impl FiledState {
         requires few_children { length self.now.children ≤ 32 }
         ensures { FindsRow (is_due self.now) self.now result }
     {
+        if !self.rings.has_waiting() {
+            return None;
+        }
         let mut found = None;
         for child in 0..self.state.children.len() as u32 {
             found = self.longer(found, self.signalled_in(child));
@@ -213,8 +216,9 @@ pub(crate) fn step_and_note(
 }
 
 /// Puts the slot, where there is one, into the ring of its row.
-fn refile(state: &State, rings: &mut SlotRings, slot: Option<u32>)
-    requires { length rings.old ≡ length state.now.rows }
+fn refile(state: &State, rings: &mut CountedRings, slot: Option<u32>)
+    requires same { length rings.old ≡ length state.now.rows }
+    requires few { length rings.old ≤ 8192 }
     ensures { rings.new ≡ refiled_rings state.now rings.old slot }
 {
     let Some(slot) = slot else {

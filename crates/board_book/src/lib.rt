@@ -10,6 +10,7 @@
 
 mod ahead;
 mod book;
+mod counted_rings;
 mod editions;
 mod faults;
 mod filed;
