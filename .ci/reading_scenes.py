@@ -4,7 +4,9 @@ of a request; and of what a connection keeps that waits with half a head, while 
 import socket
 
 from edge_scenes import rests
-from real_server import ANSWER, GET, PAGE, connect, expect, refusal, request, response, scene, serving, until, where_compiled
+from real_server import (
+    ANSWER, GET, GET_LARGE, LARGE, LARGE_SITE, LITTLE, PAGE, connect, expect, refusal, request, response, scene, serving, until, where_compiled,
+)
 from refusing_scenes import serving_by
 
 POST = request("POST", "/", "Transfer-Encoding: chunked")
@@ -169,3 +171,39 @@ def a_client_that_waits_with_half_a_head_keeps_it_while_others_are_read():
         other.close()
         server.stop()
         server.expect_report(*["0 ClientDone Direct 200,200,200"] * 5, f"0 ClientDone Direct {','.join(['200'] * 15)}")
+
+
+@scene
+def a_client_that_lacks_room_keeps_its_response_while_others_are_answered():
+    large_answer = response("200 OK", "application/octet-stream", LARGE)
+    with serving(files=LARGE_SITE) as server, connect(server.port) as other:
+        with connect(server.port, LITTLE) as client:
+            client.send(GET_LARGE + GET)
+            until("a server that waits for room", lambda: rests(server))
+            for _ in range(3):
+                other.send(GET)
+                expect("the response of another client", other.reply(), ANSWER)
+            expect("the response that waited for room", client.reply(), large_answer)
+            expect("the response behind it", client.reply(), ANSWER)
+        other.close()
+        server.stop()
+        server.expect_report("0 ClientDone Direct 200,200", "0 ClientDone Direct 200,200,200")
+
+
+@scene
+def a_client_that_waits_with_half_a_body_keeps_its_head_while_others_are_read():
+    with serving() as server, connect(server.port) as other:
+        for place in (len(POST), len(POST) + 2, len(WHOLE) - 1):
+            with connect(server.port) as client:
+                client.send(GET + WHOLE[:place])
+                expect("the response before it", client.reply(), ANSWER)
+                until("a server that has read all", lambda: rests(server))
+                for size in (0, 5000):
+                    other.send(request("GET", "/", f"Field: {'y' * size}"))
+                    expect("the response of another client", other.reply(), ANSWER)
+                client.send(WHOLE[place:] + GET)
+                expect(f"the response to a body that waited at {place} bytes", client.reply(), REFUSED)
+                expect("the response behind it", client.reply(), ANSWER)
+        other.close()
+        server.stop()
+        server.expect_report(*["0 ClientDone Direct 200,405,200"] * 3, f"0 ClientDone Direct {','.join(['200'] * 6)}")
