@@ -61,7 +61,9 @@ impl CountedRings {
     {
         let left = weight(self.rings.ring_of(slot));
         self.rings.file(slot, ring);
-        self.waiting = self.waiting - left + weight(ring);
+        let kept = self.waiting - left;
+        let waiting = kept + weight(ring);
+        self.waiting = waiting;
     }
 
     /// The slot that stands first in the ring: the one that was put there before all others.

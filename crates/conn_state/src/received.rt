@@ -83,9 +83,10 @@ impl Received {
             return answer;
         }
         let (answer, taken) = reader.read_over(alloc, room, &mut self.items);
-        if !taken {
-            self.skip_head(&answer);
+        if taken {
+            return answer;
         }
+        self.skip_head(&answer);
         answer
     }
 

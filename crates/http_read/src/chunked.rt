@@ -118,8 +118,8 @@ impl ChunkedPlace {
             }
             ChunkedPlace::DataLineFeed(totals) => (ChunkedPlace::DataLineFeed(totals), 0),
             ChunkedPlace::Trailer(before, front) => {
-                let (longer, count) = front.pass(bytes);
-                (ChunkedPlace::Trailer(before, longer), count)
+                let (further, count) = front.pass(bytes);
+                (ChunkedPlace::Trailer(before, further), count)
             }
         }
     }
@@ -139,15 +139,18 @@ impl ChunkedPlace {
                 if !front.is_first() {
                     return None;
                 }
-                let (len, size) = plain_line(bytes)?;
-                Some((behind_whole(totals, size, 0), len))
+                let line = plain_line(bytes)?;
+                Some((behind_whole(totals, line.1, 0), line.0))
             }
             ChunkedPlace::Data(totals, left) => {
-                if left > 0 || !begins_with_line_end(bytes) {
+                if left > 0 {
                     return None;
                 }
-                let next = ChunkedPlace::Line(totals, ChunkLineFront::first());
-                Some((ChunkedMove::On(next), 2))
+                if begins_with_line_end(bytes) {
+                    let next = ChunkedPlace::Line(totals, ChunkLineFront::first());
+                    return Some((ChunkedMove::On(next), 2));
+                }
+                None
             }
             _ => None,
         }

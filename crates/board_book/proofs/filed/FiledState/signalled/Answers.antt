@@ -1,4 +1,4 @@
-use Rattle.std.proofs.Common.{◌≡◌, ◌≤◌, length, ap, ◌∙◌, arith}
+use Rattle.std.proofs.Common.{◌≡◌, ◌≤◌, length, ap, ◌∙◌, arith, rules}
 use Rattle.conn_machine.specs.declared.state.State.{State}
 use Rattle.board_book.specs.Finds.{is_due}
 use Rattle.board_book.proofs.FiledLemmas.{finds_more, finds_in_all, due_beyond}
@@ -8,7 +8,7 @@ use Rattle.board_book.proofs.filed.FiledState.signalled.Goals as goal
 -- no row waits for service
 pub returns-then-not-has_waiting : goal.returns-then-not-has_waiting
 returns-then-not-has_waiting c =
-    rw c.self.view_is (none-due c.self.inside.state c.self.inside.rings c.self.invariant (c.has_waiting.ensures c.if-has_waiting.false)
+    rw c.self.view_is (none-due c.self.inside.state c.self.inside.rings c.self.invariant (c.has_waiting.ensures (search rules))
     (omega (arith, ap (λ (t : State). length t.children) c.self.view_is, c.requires.few_children)))
 
 pub loop-child-preserved : goal.loop-child-preserved

@@ -5,8 +5,8 @@ use Rattle.http_read.proofs.chunked.ChunkedPlace.pass.Goals as goal
 
 pub returns-in-Line-clause-runs : goal.returns-in-Line-clause-runs
 returns-in-Line-clause-runs c =
-    rw c.in-Line.is (run_line_on c.args.bytes.now c.pass.result.1 c.in-Line.totals c.in-Line.front c.pass.result.0
-    c.pass.ensures.longer c.pass.ensures.small.len c.pass.ensures.passes)
+    rw c.in-Line.is (run_line_on c.args.bytes.now c.pass-longer.result.1 c.in-Line.totals c.in-Line.front c.pass-longer.result.0
+    c.pass-longer.ensures.longer c.pass-longer.ensures.small.len c.pass-longer.ensures.passes)
 
 pub returns-in-Data-clause-runs : goal.returns-in-Data-clause-runs
 returns-in-Data-clause-runs c =
@@ -14,5 +14,5 @@ returns-in-Data-clause-runs c =
 
 pub returns-in-Trailer-clause-runs : goal.returns-in-Trailer-clause-runs
 returns-in-Trailer-clause-runs c =
-    rw c.in-Trailer.is (run_trailer_on c.args.bytes.now c.pass-2.result.1 c.in-Trailer.before c.in-Trailer.front c.pass-2.result.0
-    c.pass-2.ensures.longer c.pass-2.ensures.short c.pass-2.ensures.passes)
+    rw c.in-Trailer.is (run_trailer_on c.args.bytes.now c.pass-further.result.1 c.in-Trailer.before c.in-Trailer.front c.pass-further.result.0
+    c.pass-further.ensures.longer c.pass-further.ensures.short c.pass-further.ensures.passes)

@@ -18,8 +18,8 @@ take_head-requires c =
     subst (IsWithinText c.in-Ends.noted.version) (take_all c.in-Ends.end c.args.bytes.now.items (omega arith))
     (end_within c.look.new.self.limits c.args.bytes.now.items c.min.result c.in-Ends.end c.in-Ends.noted c.in-Ends.ensures.looks)
 
-pub returns-in-Ends-then-end-len-clause-head : goal.returns-in-Ends-then-end-len-clause-head
-returns-in-Ends-then-end-len-clause-head c =
+pub returns-then-end-len-clause-head : goal.returns-then-end-len-clause-head
+returns-then-end-len-clause-head c =
     end_says c.args.self.now.limits c.look.new.self.limits c.args.bytes.now.items c.min.result c.in-Ends.end c.in-Ends.noted c.take_head.result.0
     c.in-Ends.ensures.limits c.min.ensures c.in-Ends.ensures.looks
     (subst (λ t. ReadsText c.look.new.self.limits.fields c.in-Ends.noted t c.take_head.result.0)
@@ -29,7 +29,7 @@ pub read_head-requires : goal.read_head-requires
 read_head-requires c =
     end_within c.look.new.self.limits c.args.bytes.now.items c.min.result c.in-Ends.end c.in-Ends.noted c.in-Ends.ensures.looks
 
-pub returns-in-Ends-clause-head : goal.returns-in-Ends-clause-head
-returns-in-Ends-clause-head c =
+pub returns-else-end-len-clause-head : goal.returns-else-end-len-clause-head
+returns-else-end-len-clause-head c =
     end_says c.args.self.now.limits c.look.new.self.limits c.args.bytes.now.items c.min.result c.in-Ends.end c.in-Ends.noted c.read_head.result
     c.in-Ends.ensures.limits c.min.ensures c.in-Ends.ensures.looks c.read_head.ensures
