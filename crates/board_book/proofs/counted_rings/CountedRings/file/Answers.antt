@@ -6,8 +6,8 @@ use Rattle.board_book.proofs.CountedLemmas.{few-waiting, filed-waiting, one-wait
 use Rattle.board_book.proofs.counted_rings.CountedRings.file.Goals as goal
 
 -- what the slot counted before is in the number
-pub underflow_sub-waiting : goal.underflow_sub-waiting
-underflow_sub-waiting c =
+pub overflow_sub-kept : goal.overflow_sub-kept
+overflow_sub-kept c =
     omega (arith, c.self.invariant, c.weight-left.ensures, ap service_weight c.ring_of.ensures, one-waiting c.self.inside.rings c.args.slot (omega arith))
 
 -- and it stays small
