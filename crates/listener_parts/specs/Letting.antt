@@ -26,7 +26,7 @@ use Rattle.worker_group.specs.declared.service.Exit.{Exit}
 use Rattle.worker_group.specs.declared.service.Exit.TheVariants as exit
 use Rattle.worker_group.specs.Service.{IsWayOut, left_events}
 use Rattle.board_turns.specs.Books.{book_of}
-use Rattle.board_turns.specs.Turns.{HadTurns}
+use Rattle.board_turns.specs.Turns.{HadATurn, HadTurns}
 use Rattle.listener_parts.specs.Did.{Did}
 
 -- ## Connections that were let go of
@@ -137,6 +137,13 @@ given_up_tail fault.NoMemory = tail.NoMemory
 -- the events by which a connection that lingers for the cause is given up: it is closed
 abbrev pub lingering_give_up_events : BoardFault → Cause → ConnName → List Event
 lingering_give_up_events fault ending name = event.Close name ending (given_up_tail fault) ∷ []
+
+-- in a turn the wait of a connection was refused for the fault, of what the pass has seen then, and in a further one these events were made
+pub record RefusedWait (fault : BoardFault) (events : List Event) (old new : View) : Type 0 where
+  pub between : View
+  pub tried : HadATurn [] old between
+  pub why : IsRefusedFor fault (book_of between)
+  pub made : HadATurn events between new
 
 -- a connection that lingers was held; its further wait was refused, of what the pass had seen then, for the fault, and it was given up
 pub record GivesUpDrained (fault : BoardFault) (old new : View) : Type 0 where

@@ -1,6 +1,7 @@
 -- The further parts of a round: time passes, slots are signalled, children are started and let go of, and what the next wait is told.
 use Rattle.std.specs.Prelude.{◌≡◌, ◌<◌, ℕ, true, false, List, [], ◌∷◌, ◌++◌, length, map, min, nat_lt, slice_index, None, if◌then◌else◌}
 use Rattle.mpm_base.specs.Moment.{greatest_moment}
+use Rattle.conn_machine.specs.declared.event.Entry.{Entry}
 use Rattle.conn_machine.specs.declared.event.Event.{Event}
 use Rattle.conn_machine.specs.declared.event.Event.TheVariants as event
 use Rattle.conn_machine.specs.declared.state.State.{State}
@@ -9,6 +10,8 @@ use Rattle.conn_machine.specs.Passes.{EachHasItsOwn}
 use Rattle.conn_machine.specs.Runs.{first_row}
 use Rattle.table_rule.specs.declared.view.View.{View}
 use Rattle.board_turns.specs.Books.{state_of}
+use Rattle.board_turns.specs.Turns.{HadTurn, state_found}
+use Rattle.listener_turns.specs.Children.{AreStarted}
 use Rattle.listener_turns.specs.Looks.{IsAtRest}
 use Rattle.listener_turns.specs.Signals.{ready_events}
 use Rattle.listener_parts.specs.Did.{Did, LeavesAlone}
@@ -67,6 +70,15 @@ pub record AreCredits (credits : List ℕ) (v : View) : Type 0 where
 pub record StartsSome (old new : View) : Type 0 where
   pub children : List ℕ
   pub did : Did (map event.StartChild children) None old new
+
+-- in the first turn that added an entry children were started, each the lowest that is gone then, from the state that the turn found on
+pub record StartsAtFirst (old new : View) : Type 0 where
+  pub children : List ℕ
+  pub found : List Entry
+  pub behind : View
+  pub turn : HadTurn found (map event.StartChild children) old behind
+  pub started : AreStarted (state_found old found) children
+  pub did : Did [] None behind new
 
 -- children were let go of, and nothing else was done
 pub record RetiresSome (old new : View) : Type 0 where

@@ -1,5 +1,7 @@
 -- How a connection is taken: it is accepted in one turn, its link is watched, and it waits or is closed.
-use Rattle.std.specs.Prelude.{◌≡◌, ℕ, Bool, true, false, List, [], ◌∷◌, Option, None}
+use Rattle.std.specs.Prelude.{◌≡◌, ◌⊎◌, ℕ, Bool, true, false, List, [], ◌∷◌, Option, None}
+use Rattle.mpm_base.specs.Front.{FrontSeen, front_after_turning_away, front_after_watch}
+use Rattle.mpm_base.specs.Link.{LinkTold}
 use Rattle.mpm_base.specs.declared.conn.Cause.TheVariants as cause
 use Rattle.mpm_base.specs.declared.conn.ConnName.{ConnName}
 use Rattle.mpm_base.specs.declared.conn.Kind.TheVariants.{Reading}
@@ -56,3 +58,31 @@ pub record TakesUntil (name : ConnName) (fault : BoardFault) (old new : View) : 
   pub why : IsRefusedFor fault (book_of between)
   pub given_up : HadTurns (give_up_events fault name) between new
   pub row : new.row ≡ None
+
+-- ## With its front
+
+-- a connection of the link was taken, and its link was to be watched under its name
+pub record TakesLink (link : Option LinkTold) (front front' : FrontSeen) (old new : View) : Type 0 where
+  pub name : ConnName
+  pub watched : Bool
+  pub takes : TakesOne name watched old new
+  pub front_is : front' ≡ front_after_watch name watched link front
+
+-- none was taken for the fault, and the front turned the link away
+pub record TurnsAway (fault : BoardFault) (link : Option LinkTold) (front front' : FrontSeen)
+    (old new : View) : Type 0 where
+  pub did : Did [] None old new
+  pub why : IsRefusedFor fault (book_of new)
+  pub front_is : front' ≡ front_after_turning_away link front
+
+-- one was taken, whose link is watched, and given up for the fault as its wait was refused
+pub record GivesUpNew (fault : BoardFault) (link : Option LinkTold) (front front' : FrontSeen)
+    (old new : View) : Type 0 where
+  pub name : ConnName
+  pub takes : TakesUntil name fault old new
+  pub front_is : front' ≡ front_after_watch name true link front
+
+-- why the link's connection doesn't wait
+abbrev pub FailsTaking : BoardFault → Option LinkTold → FrontSeen → FrontSeen → View → View → Type 0
+FailsTaking fault link front front' old new =
+    TurnsAway fault link front front' old new ⊎ GivesUpNew fault link front front' old new

@@ -1,6 +1,6 @@
 mod ChildrenLemmas
 mod HeldLemmas
-mod ListenerLemmas
+pub mod ListenerLemmas
 mod LookLemmas
 mod ManyLemmas
 mod TakenLemmas
