@@ -1,0 +1,202 @@
+-- How time passes, slots are signalled, and children start and go, in parts of some turns.
+use Rattle.std.proofs.Common.{◌≡◌, ℕ, zero, suc, ◌<◌, ◌≤◌, Bool, true, false, List, [], ◌∷◌, ◌++◌, map, min, nat_lt, length, None, Some, slice_set, if◌then◌else◌, refl, sym, ap, subst, ◌∙◌, append-nil, append_assoc, arith}
+use Rattle.std.proofs.lemmas.Bool.Decides.{nat_tests}
+use Rattle.std.proofs.lemmas.List.{map-append}
+use Rattle.conn_machine.specs.declared.event.Entry.{Entry}
+use Rattle.conn_machine.specs.declared.event.Event.{Event}
+use Rattle.conn_machine.specs.declared.event.Event.TheVariants as event
+use Rattle.conn_machine.specs.declared.state.State.{State}
+use Rattle.conn_machine.specs.BetweenTurns.{OthersLeaveTheRestToTheListener}
+use Rattle.conn_machine.specs.Runs.{after}
+use Rattle.conn_machine.specs.Table.{next}
+use Rattle.table_rule.specs.declared.view.View.{View}
+use Rattle.board_turns.specs.Books.{state_of}
+use Rattle.board_turns.specs.Rests.{TurnsRestOn}
+use Rattle.board_turns.specs.Turns.{HadATurn, HadTurn, state_found}
+use Rattle.idle_workers.specs.Found.{TakesCreditBack}
+use Rattle.listener_turns.specs.Signals.{ready_events}
+use Rattle.listener_parts.specs.Did.{AreOfConns, Did, LeavesAlone, StandsAs}
+use Rattle.listener_parts.specs.Letting.{IsLateWay, LetsGo, gone_events}
+use Rattle.listener_parts.specs.Rounds.{AreCredits, PassesTime, RetiresSome, StartsSome, TicksTo, ticks_to, time_events}
+use Rattle.listener_parts.proofs.AloneLemmas.{alone_more, others_alone, ready_alone, stands_more, state_behind}
+use Rattle.listener_parts.proofs.DidLemmas.{did_as, did_more, did_no_more, did_turn}
+
+-- ## Time
+
+-- the state behind a turn in which one event was made, of which is known what it makes of each state
+next_behind : TurnsRestOn → (found : List Entry) (e : Event) (old new : View) → HadTurn found (e ∷ []) old new → state_of new ≡ next (state_found old found) e
+next_behind rests found e old new t =
+    state_behind rests found (e ∷ []) old new t ∙ one_entry (state_found old found) t.added t.events_are
+  where
+    one_entry : (s : State) (added : List Entry) → map (λ (x : Entry). x.event) added ≡ e ∷ [] → after s added ≡ next s e
+    one_entry s [] is = absurd (cc)
+    one_entry s (x ∷ []) is =
+        let same : x.event ≡ e = cc in
+        ap (next s) same
+    one_entry s (x ∷ y ∷ added) is = absurd (cc)
+
+-- time passed to the moment, and nothing else the listener decides was done
+pub tick_behind : OthersLeaveTheRestToTheListener → TurnsRestOn → (to : ℕ) (old new : View) → old.who.number ≡ 0 → HadATurn (event.Tick to ∷ []) old new
+    → LeavesAlone (record (state_of old) { moment = to }) (state_of new)
+tick_behind law rests to old new number (found, t) =
+    let only = others_alone law old found number t.made t.others in
+    subst (LeavesAlone (record (state_of old) { moment = to })) (sym (next_behind rests found (event.Tick to) old new t))
+    (record {
+      stands = record {
+        moment = refl;
+        accepted = only.stands.accepted;
+        newest = only.stands.newest;
+        shape = only.stands.shape;
+        going = only.stands.going;
+      };
+      children = only.children;
+    })
+
+-- by the moment that it has then
+pub alone_as : (s t : State) (to : ℕ) → LeavesAlone (record s { moment = to }) t → LeavesAlone (record s { moment = t.moment }) t
+alone_as s t to alone = record {
+  stands = record {
+    moment = refl;
+    accepted = alone.stands.accepted;
+    newest = alone.stands.newest;
+    shape = alone.stands.shape;
+    going = alone.stands.going;
+  };
+  children = alone.children;
+}
+
+-- behind parts that leave all of that alone
+pub alone_before : (s t u : State) (to : ℕ) → LeavesAlone s t → LeavesAlone (record t { moment = to }) u → LeavesAlone (record s { moment = to }) u
+alone_before s t u to before behind = record {
+  stands = record {
+    moment = behind.stands.moment;
+    accepted = behind.stands.accepted ∙ before.stands.accepted;
+    newest = behind.stands.newest ∙ before.stands.newest;
+    shape = behind.stands.shape ∙ before.stands.shape;
+    going = behind.stands.going ∙ before.stands.going;
+  };
+  children = behind.children ∙ before.children;
+}
+
+-- late connections were let go of, and then time passed
+pub ticks : (to : ℕ) (a b c : View) → LetsGo IsLateWay a b → HadATurn (event.Tick to ∷ []) b c → c.row ≡ None → TicksTo to a c
+ticks to a b c lets turn none = record {
+  early = lets.gone;
+  early_ways = lets.ways;
+  did = did_more (gone_events lets.gone) (event.Tick to ∷ []) None None a b c lets.did (did_turn (event.Tick to ∷ []) None b c turn none);
+}
+
+-- so it passed, where the moment is later
+pub passes_later : (to : ℕ) (a b c : View) → nat_lt (state_of a).moment to ≡ true → TicksTo to a b → LetsGo IsLateWay b c → PassesTime to a c
+passes_later to a b c later ticked lets =
+    let is : ticks_to (state_of a).moment to ≡ to ∷ [] = rw later refl in
+    record {
+      early = ticked.early;
+      late = lets.gone;
+      early_ways = ticked.early_ways;
+      late_ways = lets.ways;
+      did = did_as _ _ None a c
+          (append_assoc (gone_events ticked.early) (event.Tick to ∷ []) (gone_events lets.gone)
+          ∙ ap (λ (ms : List ℕ). time_events ticked.early ms lets.gone) (sym is))
+          (did_more (gone_events ticked.early ++ event.Tick to ∷ []) (gone_events lets.gone) None None a b c ticked.did lets.did);
+    }
+
+-- and where it isn't
+pub passes_none : (to : ℕ) (a c : View) → nat_lt (state_of a).moment to ≡ false → LetsGo IsLateWay a c → PassesTime to a c
+passes_none to a c later lets =
+    let is : ticks_to (state_of a).moment to ≡ [] = rw later refl in
+    record {
+      early = [];
+      late = lets.gone;
+      early_ways = tt;
+      late_ways = lets.ways;
+      did = did_as _ _ None a c (ap (λ (ms : List ℕ). time_events [] ms lets.gone) (sym is)) lets.did;
+    }
+
+-- the number is below the other, or isn't
+pub is_below : (m n : ℕ) → m < n → nat_lt m n ≡ true
+is_below m n less = grind (arith, nat_tests, less)
+
+pub not_below : (m n : ℕ) → n ≤ m → nat_lt m n ≡ false
+not_below m n less = grind (arith, nat_tests, less)
+
+-- ## Signals
+
+pub signals_of_conns : (count : ℕ) (slots : List ℕ) → AreOfConns (ready_events count slots)
+signals_of_conns count slots = ready_alone _
+
+-- ## Children
+
+pub starts_none : (v : View) → Did [] None v v → StartsSome v v
+starts_none v did = record { children = []; did = did }
+
+pub starts_more : (a b c d : View) (k : ℕ) → StartsSome a b → HadATurn (event.StartChild k ∷ []) b c → c.row ≡ None → Did [] None c d → StartsSome a d
+starts_more a b c d k starts turn none credited = record {
+  children = starts.children ++ k ∷ [];
+  did = did_as _ _ None a d (sym (map-append event.StartChild starts.children (k ∷ [])))
+      (did_more (map event.StartChild starts.children) (event.StartChild k ∷ []) None None a b d starts.did
+      (did_no_more (event.StartChild k ∷ []) None None b c d (did_turn (event.StartChild k ∷ []) None b c turn none) credited));
+}
+
+pub starts_end : (a b c : View) → StartsSome a b → Did [] None b c → StartsSome a c
+starts_end a b c starts nothing = record {
+  children = starts.children;
+  did = did_no_more (map event.StartChild starts.children) None None a b c starts.did nothing;
+}
+
+pub retires_none : (v : View) → Did [] None v v → RetiresSome v v
+retires_none v did = record { children = []; did = did }
+
+-- the events by which a child was let go of, or none
+abbrev pub retired_events : ℕ → Bool → List Event
+retired_events k gone = if gone then event.Retire k ∷ [] else []
+
+-- a look, a credit that is taken back, and the turn in which the child was let go of, or not
+pub retires_more : (a b c d e : View) (k : ℕ) (events : List Event) (gone : Bool) → RetiresSome a b → Did [] None b c → Did [] None c d → Did events None d e
+    → events ≡ retired_events k gone → RetiresSome a e
+retires_more a b c d e k events true retires looked back did is = record {
+  children = retires.children ++ k ∷ [];
+  did = did_as _ _ None a e (sym (map-append event.Retire retires.children (k ∷ [])))
+      (did_more (map event.Retire retires.children) (event.Retire k ∷ []) None None a d e
+      (did_no_more (map event.Retire retires.children) None None a c d (did_no_more (map event.Retire retires.children) None None a b c retires.did looked) back)
+      (did_as _ _ None d e is did));
+}
+retires_more a b c d e k events false retires looked back did is = record {
+  children = retires.children;
+  did = did_no_more (map event.Retire retires.children) None None a d e
+      (did_no_more (map event.Retire retires.children) None None a c d (did_no_more (map event.Retire retires.children) None None a b c retires.did looked) back)
+      (did_as _ _ None d e is did);
+}
+
+pub retires_end : (a b c : View) → RetiresSome a b → Did [] None b c → RetiresSome a c
+retires_end a b c retires nothing = record {
+  children = retires.children;
+  did = did_no_more (map event.Retire retires.children) None None a b c retires.did nothing;
+}
+
+-- ## Credits
+
+length_set : {X : Type 0} (xs : List X) (i : ℕ) (x : X) → length (slice_set xs i x) ≡ length xs
+length_set [] i x = refl
+length_set (y ∷ xs) zero x = refl
+length_set (y ∷ xs) (suc i) x = ap suc (length_set xs i x)
+
+-- the child has the credit that it was given
+pub credits_given : (credits credits' : List ℕ) (child threads : ℕ) (old new : View) → AreCredits credits old → credits' ≡ slice_set credits child threads
+    → new.credits ≡ slice_set old.credits child threads → AreCredits credits' new
+credits_given credits credits' child threads old new are is gives = record {
+  own = is ∙ ap (λ (l : List ℕ). slice_set l child threads) are.own ∙ sym gives;
+  full = ap length is ∙ length_set credits child threads ∙ are.full;
+}
+
+-- they are as they were
+pub credits_stay : (credits : List ℕ) (old new : View) → new.credits ≡ old.credits → AreCredits credits old → AreCredits credits new
+credits_stay credits old new same are = record { own = are.own ∙ sym same; full = are.full }
+
+-- one that was taken back is gone
+pub taken_back : (child threads : ℕ) (old new : View) → TakesCreditBack child threads old true new → new.credits ≡ slice_set old.credits child 0
+taken_back child threads old new takes = ap (λ (q : View). q.credits) takes.tried.0
+
+-- one that wasn't stays
+pub not_taken_back : (child threads : ℕ) (old new : View) → TakesCreditBack child threads old false new → new.credits ≡ old.credits
+not_taken_back child threads old new takes = ap (λ (q : View). q.credits) takes.tried.0
