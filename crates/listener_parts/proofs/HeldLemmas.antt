@@ -38,6 +38,8 @@ use Rattle.board.specs.Backed.{BacksWait, waits_to_read}
 use Rattle.board.specs.BoardLaws.{WaitsAreBackedByCalls}
 use Rattle.board.specs.Editions.{IsOfGeneration}
 use Rattle.board.specs.Fits.{FoundNoMore, IsOf, IsOnItsWay, IsSettled, LingersFor, NotesEnd, WaitsAs, WaitsForNext}
+use Rattle.board_book.specs.declared.faults.BoardFault.{BoardFault}
+use Rattle.board_book.specs.declared.faults.BoardFault.TheVariants as fault
 use Rattle.board_book.specs.Finds.{cause_of}
 use Rattle.worker_group.specs.InHand.{IsClosable, IsInHand}
 use Rattle.worker_group.proofs.BackedLemmas.{never-falls, stays-there}
@@ -501,3 +503,11 @@ hand_stays s t c same hand = record {
   fits = hand.fits;
   open_side = hand.open_side;
 }
+
+-- ## One that lingers, and couldn't wait on
+
+-- it may be closed for its cause, as given up for the fault
+pub gives_up_lingering : (s : State) (why : Cause) (f : BoardFault) (c : SeenConn) → IsLingeringFor why s c
+    → (f ≡ fault.Halted → is_halted s.going ≡ true) → IsClosable s why (given_up_tail f) c
+gives_up_lingering s why fault.Halted c held halted = closes_lingering s why tail.Halted c held (halted refl) held.shut
+gives_up_lingering s why fault.NoMemory c held halted = closes_lingering s why tail.NoMemory c held refl held.shut

@@ -26,7 +26,7 @@ use Rattle.board_turns.proofs.TurnLemmas.{more_turns, one_turn}
 use Rattle.listener_turns.specs.declared.held.Due.{Due}
 use Rattle.listener_turns.specs.Holds.{TookUpFor}
 use Rattle.listener_parts.specs.Did.{AreOfConns, Did, LeavesAlone}
-use Rattle.listener_parts.specs.Letting.{AllLeftBy, AreLetGo, Departure, Departures, DrainsUntil, GivesUpDrained, IsDrainedWay, IsLateWay, IsRetiringWay, LetsGo, LetsGoOfConns, LetsGoUntil, LetsOneGo, RefusedWait, departure_events, departures_events, gone_events, lingering_give_up_events}
+use Rattle.listener_parts.specs.Letting.{AllLeftBy, AreLetGo, Departure, Departures, DrainsUntil, GivesUpDrained, IsDrainedWay, IsLateWay, IsRetiringWay, LetsGo, LetsGoOfConns, LetsGoUntil, LetsOneGo, RefusedWait, departure_events, departures_events, given_up_tail, gone_events, lingering_give_up_events}
 use Rattle.listener_parts.proofs.AloneLemmas.{alone_more, closes_alone, holds_alone, left_alone, turn_alone}
 use Rattle.listener_parts.proofs.DidLemmas.{did_as, did_more, did_nothing, did_then, did_turns, two_turns}
 
@@ -34,7 +34,7 @@ use Rattle.listener_parts.proofs.DidLemmas.{did_as, did_more, did_nothing, did_t
 
 -- the turn in which it was taken up
 pub held_turn : (why : Due) (name : ConnName) (old new : View) → TookUpFor why name old new → HadATurn (event.Hold name ∷ []) old new
-held_turn why name old new (found, turn, due_there) = (found, turn)
+held_turn why name old new took = (took.0, took.1)
 
 -- it was held, and then left
 pub lets_one : (Way : Exit → Type 0) (why : Due) (name : ConnName) (way : Exit) (a b c : View) → Way way → TookUpFor why name a b
@@ -147,7 +147,7 @@ refused_lasts law rests f events a c number all refused =
 
 -- the events of that are of a connection
 pub drained_alone : (f : BoardFault) (ending : Cause) (name : ConnName) → AreOfConns (lingering_give_up_events f ending name)
-drained_alone f ending name = (closes_alone name ending _, tt)
+drained_alone f ending name = (closes_alone name ending (given_up_tail f), tt)
 
 -- ## Until one is refused
 

@@ -1,0 +1,139 @@
+-- A connection that was just taken: how it may be left.
+use Rattle.std.proofs.Common.{◌≡◌, ◌==◌, ℕ, ◌<◌, Bool, true, false, not, ◌&&◌, ◌||◌, [], ◌∷◌, ◌++◌, Option, None, Some, IfSome, is_none, is_some, refl, sym, ap, subst, ◌∙◌, inl, inr}
+use Rattle.std.specs.Prelude.{List}
+use Rattle.mpm_base.specs.Link.{LinkTold}
+use Rattle.mpm_base.specs.declared.conn.Cause.{Cause}
+use Rattle.mpm_base.specs.declared.conn.Cause.TheVariants as cause
+use Rattle.mpm_base.specs.declared.conn.ConnName.{ConnName}
+use Rattle.mpm_base.specs.declared.conn.Kind.{Kind}
+use Rattle.mpm_base.specs.declared.conn.Kind.TheVariants.{Reading}
+use Rattle.mpm_base.specs.declared.conn.Tail.TheVariants.{Direct}
+use Rattle.atomic_table.specs.Table.{Me}
+use Rattle.conn_machine.specs.declared.event.Event.TheVariants as event
+use Rattle.conn_machine.specs.declared.row.Row.{Row}
+use Rattle.conn_machine.specs.declared.state.State.{State}
+use Rattle.conn_machine.specs.Rows.{is_held, is_working, live_row}
+use Rattle.conn_machine.specs.States.{is_halted}
+use Rattle.conn_machine.specs.Table.{is_allowed, may_wait}
+use Rattle.conn_state.specs.Conn.{IsConn, SeenConn, is_half_closed}
+use Rattle.conn_state.specs.Known.{KnownOutside}
+use Rattle.table_rule.specs.declared.view.View.{View}
+use Rattle.board_book.specs.declared.faults.BoardFault.{BoardFault}
+use Rattle.board_book.specs.declared.faults.BoardFault.TheVariants as fault
+use Rattle.board_book.specs.Faults.{IsRefusedFor}
+use Rattle.board_book.specs.Finds.{cause_of}
+use Rattle.board.specs.Backed.{AreBacked, BacksWait}
+use Rattle.board.specs.BoardLaws.{WaitsAreBackedByCalls}
+use Rattle.board.specs.Editions.{IsOfGeneration}
+use Rattle.board.specs.Fits.{Fits, IsOnItsWay, IsSettled}
+use Rattle.worker_group.specs.InHand.{IsClosable, IsInHand}
+use Rattle.worker_group.specs.Service.{given_up_cause}
+use Rattle.worker_group.proofs.ServeLemmas.{closable, test-at}
+use Rattle.board_turns.specs.Books.{book_of, state_of}
+use Rattle.board_turns.specs.Turns.{IsListener}
+use Rattle.listener_turns.specs.Holds.{HasTaken, Holds, MayWait}
+use Rattle.listener_parts.specs.Taking.{IsNew, ServesNewest}
+use Rattle.listener_parts.proofs.HeldLemmas.{cause_at}
+
+-- a connection that was taken under that name, and the new one that has it
+pub record IsJustTaken (known : Option KnownOutside) (v : View) (name : ConnName) (child generation arrival : ℕ) (c : SeenConn) : Type 0 where
+  pub taken : HasTaken v name child generation arrival
+  pub rank : IfSome c.told (λ t. t.rank ≡ arrival)
+  pub is_new : IsNew name child generation c
+  pub serves : ServesNewest known v c.reader.limits c.site
+
+-- ## Its row
+
+-- it is found by its name
+found_new : (known : Option KnownOutside) (v : View) (name : ConnName) (child generation arrival : ℕ) (c : SeenConn)
+    → (j : IsJustTaken known v name child generation arrival c) → live_row (state_of v).rows c.name ≡ Some j.taken.row
+found_new known v name child generation arrival c j =
+    subst (λ (n : ConnName). live_row (state_of v).rows n ≡ Some j.taken.row) (sym j.is_new.name_is) j.taken.found
+
+-- and the connection is the one of it
+fits_new : WaitsAreBackedByCalls → (known : Option KnownOutside) (v : View) (name : ConnName) (child generation arrival : ℕ) (c : SeenConn)
+    → (j : IsJustTaken known v name child generation arrival c) → Fits c j.taken.row
+fits_new law known v name child generation arrival c j = record {
+  child = j.is_new.child_is ∙ sym j.taken.child_is;
+  generation = j.is_new.generation_is ∙ sym j.taken.generation_is;
+  notes = j.is_new.notes ∙ sym j.taken.notes;
+  rank = subst (λ (n : ℕ). IfSome c.told (λ t. t.rank ≡ n)) (sym j.taken.arrival_is) j.rank;
+  backed = subst (λ (ws : List Kind). AreBacked ws c.counts) (sym j.taken.waits) (law.none c.counts);
+}
+
+-- ## The pass
+
+-- holds it
+pub holds_new : {K : Type 0} (known : Option KnownOutside) (me : Me (Option K) View) (name : ConnName) (child generation arrival : ℕ) (c : SeenConn)
+    → IsListener me → IsJustTaken known me.0 name child generation arrival c → Holds known me.0 c
+holds_new known me name child generation arrival c listener j = record {
+  turn = listener.turnless.turn;
+  number = listener.number;
+  row = j.taken.has ∙ ap Some (sym j.is_new.name_is);
+  edition = subst (λ (g : ℕ). IsOfGeneration known (book_of me.0) g c.reader.limits c.site)
+      (sym (j.is_new.generation_is ∙ j.taken.newest)) j.serves;
+  sound = j.taken.sound;
+}
+
+-- ## How it may be left
+
+-- it is in hand
+pub hand_new : WaitsAreBackedByCalls → (known : Option KnownOutside) (v : View) (name : ConnName) (child generation arrival : ℕ) (c : SeenConn)
+    → IsJustTaken known v name child generation arrival c → IsInHand (state_of v) c
+hand_new law known v name child generation arrival c j = record {
+  row = j.taken.row;
+  found = found_new known v name child generation arrival c j;
+  in_hand = rw j.taken.held refl;
+  serves = ap (λ (o : Option Cause). is_some o) j.taken.serves;
+  fits = fits_new law known v name child generation arrival c j;
+  open_side = ap is_half_closed j.is_new.linger;
+}
+
+-- it may wait for its first request
+waits_first : (s : State) (row : Row) → is_held row.place ≡ true → row.from ≡ None → may_wait s.moment Reading row ≡ true
+waits_first s row held fresh = rw (held, fresh) refl
+
+pub waits_new : WaitsAreBackedByCalls → (known : Option KnownOutside) (v : View) (name : ConnName) (child generation arrival : ℕ) (c : SeenConn)
+    → IsJustTaken known v name child generation arrival c → IsConn c → MayWait Reading (state_of v) c
+waits_new law known v name child generation arrival c j is =
+    let s = state_of v in
+    let row = j.taken.row in
+    let found = found_new known v name child generation arrival c j in
+    let none : cause_of s c.name ≡ None = cause_at s c.name row found ∙ j.taken.serves in
+    record {
+      allowed = λ going.
+          let passes = test-at s.rows c.name row (may_wait s.moment Reading) found ∙ waits_first s row j.taken.held j.taken.fresh in
+          rw (going, passes) refl;
+      fits = record { row = row; found = found; fits = fits_new law known v name child generation arrival c j };
+      settled =
+          record {
+            waits = inl j.is_new.turn;
+            way = subst (λ (o : Option Cause). IsOnItsWay o c) (sym none) j.is_new.linger;
+            is_conn = is;
+          };
+      turned = tt;
+      backed =
+          record {
+            row = row;
+            found = found;
+            backed = subst (λ (ws : List Kind). AreBacked (ws ++ Reading ∷ []) c.counts) (sym j.taken.waits) (law.first c.counts);
+          };
+    }
+
+-- one whose watch failed may be closed for that
+pub closes_new : WaitsAreBackedByCalls → (known : Option KnownOutside) (v : View) (name : ConnName) (child generation arrival : ℕ) (c : SeenConn)
+    → IsJustTaken known v name child generation arrival c → 0 < c.counts.faults → IsClosable (state_of v) cause.LinkFailed Direct c
+closes_new law known v name child generation arrival c j failed =
+    let hand = hand_new law known v name child generation arrival c j in
+    closable (state_of v) cause.LinkFailed c hand refl failed hand.fits.notes
+
+-- one that is in hand may be closed for the fault for which its wait was refused
+pub gives_up_new : (s : State) (f : BoardFault) (c : SeenConn) → IsInHand s c → (f ≡ fault.Halted → is_halted s.going ≡ true)
+    → IsClosable s (given_up_cause f) Direct c
+gives_up_new s fault.Halted c hand halted = closable s cause.Stopped c hand (halted refl) tt hand.fits.notes
+gives_up_new s fault.NoMemory c hand halted = closable s cause.NoMemory c hand refl tt (inl hand.fits.notes)
+
+-- so the server has stopped, where it was refused for that
+pub halted_by : (f : BoardFault) (v : View) → IsRefusedFor f (book_of v) → f ≡ fault.Halted → is_halted (state_of v).going ≡ true
+halted_by fault.Halted v why is = why
+halted_by fault.NoMemory v why is = absurd (cc)
