@@ -359,6 +359,9 @@ not_ready left.Sated none = absurd (cc)
 not_ready left.NotReady none = refl
 not_ready left.LinkFailed none = absurd (cc)
 
+pub after_not_ready : (answer : LingerTurn) → answer ≡ left.NotReady → after_linger answer ≡ linger.NotReady
+after_not_ready answer is = ap after_linger is
+
 -- its link is left as the turn shows
 left_by : (answer : LingerTurn) (how : Tail) (last : LastLinger) → tail_of answer ≡ Some how → last ≡ after_linger answer → IsLeft how last
 left_by left.Drained how last shown is =

@@ -101,13 +101,20 @@ lets_join Way a b c first second = record {
 
 -- ## What it leaves alone
 
+-- the hold of one, by the listener's pass
+pub held_number : (why : Due) (name : ConnName) (a b : View) → a.who.number ≡ 0 → TookUpFor why name a b → b.who.number ≡ 0
+held_number why name a b number took = ap (λ (w : Who). w.number) (held_turn why name a b took).1.stays.who ∙ number
+
+pub held_alone : OthersLeaveTheRestToTheListener → TurnsRestOn → (why : Due) (name : ConnName) (a b : View) → a.who.number ≡ 0 → TookUpFor why name a b
+    → LeavesAlone (state_of a) (state_of b)
+held_alone law rests why name a b number took =
+    turn_alone law rests (event.Hold name ∷ []) a b number (holds_alone name, tt) (held_turn why name a b took)
+
 pub one_alone : OthersLeaveTheRestToTheListener → TurnsRestOn → (why : Due) (name : ConnName) (events : List Event) (a b c : View) → a.who.number ≡ 0
     → TookUpFor why name a b → AreOfConns events → HadATurn events b c → LeavesAlone (state_of a) (state_of c)
 one_alone law rests why name events a b c number took all left =
-    let held = held_turn why name a b took in
-    let number' : b.who.number ≡ 0 = ap (λ (w : Who). w.number) held.1.stays.who ∙ number in
-    alone_more (state_of a) (state_of b) (state_of c) (turn_alone law rests (event.Hold name ∷ []) a b number (holds_alone name, tt) held)
-    (turn_alone law rests events b c number' all left)
+    alone_more (state_of a) (state_of b) (state_of c) (held_alone law rests why name a b number took)
+    (turn_alone law rests events b c (held_number why name a b number took) all left)
 
 -- ## A refused wait
 
