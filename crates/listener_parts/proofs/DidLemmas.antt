@@ -1,5 +1,5 @@
 -- What a part did, put together turn by turn.
-use Rattle.std.proofs.Common.{◌≡◌, ℕ, Bool, true, false, List, [], ◌∷◌, ◌++◌, map, Option, None, refl, sym, ap, subst, ◌∙◌, append-nil, append_assoc}
+use Rattle.std.proofs.Common.{◌≡◌, ℕ, Bool, true, false, List, [], ◌∷◌, ◌++◌, map, if◌then◌else◌, Option, None, refl, sym, ap, subst, ◌∙◌, append-nil, append_assoc}
 use Rattle.std.proofs.lemmas.List.{map-append}
 use Rattle.std.proofs.lemmas.List.Elements.{filter-append}
 use Rattle.mpm_base.specs.declared.conn.ConnName.{ConnName}
@@ -41,6 +41,14 @@ did_turn events has old new t row = did_turns events has old new (one_turn event
 
 pub did_nothing : (v : View) (has : Option ConnName) → v.row ≡ has → Did [] has v v
 did_nothing v has row = did_turns [] has v v (no_turn v) row
+
+-- a turn that may have made the events or not, where it is known whether it did
+abbrev pub made_by : Bool → List Event → List Event
+made_by done events = if done then events else []
+
+pub turn_by : (done : Bool) (events : List Event) (answer : Bool) (old new : View) → answer ≡ done → HadATurn (if answer then events else []) old new
+    → HadATurn (made_by done events) old new
+turn_by done events answer old new is turn = subst (λ (b : Bool). HadATurn (if b then events else []) old new) is turn
 
 -- one turn behind another
 pub two_turns : (first second : List Event) (a b c : View) → HadATurn first a b → HadATurn second b c → HadTurns (first ++ second) a c

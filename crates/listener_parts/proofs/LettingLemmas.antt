@@ -2,7 +2,7 @@
 use Rattle.std.proofs.Common.{◌≡◌, ℕ, Bool, true, false, List, [], ◌∷◌, ◌++◌, None, Some, Option, refl, sym, ap, subst, ◌∙◌, append-nil, inl, inr}
 use Rattle.std.proofs.lemmas.Grind.{flat_map-append}
 use Rattle.std.specs.List.{flat_map}
-use Rattle.std.specs.Prelude.{Result, IfErr, IfOk, OnOk}
+use Rattle.std.specs.Prelude.{Result, IfErr}
 use Rattle.std.specs.declared.result.Result.TheVariants.{Ok, Err}
 use Rattle.mpm_base.specs.declared.conn.Cause.{Cause}
 use Rattle.mpm_base.specs.declared.conn.ConnName.{ConnName}
@@ -176,3 +176,9 @@ lets_go_until f a b c d retiring cut until = record {
   lets = lets_go_conns a b c until.between retiring cut until.drains;
   last = until.last;
 }
+
+-- ## Of an answer
+
+pub if_err_as : {T E : Type 0} (r : Result T E) (P Q : E → Type 0) → ((e : E) → P e → Q e) → IfErr r P → IfErr r Q
+if_err_as (Ok x) P Q as holds = tt
+if_err_as (Err e) P Q as holds = as e holds

@@ -4,3 +4,4 @@ pub mod HeldLemmas
 pub mod LettingLemmas
 pub mod NewLemmas
 pub mod RoundLemmas
+pub mod StopLemmas

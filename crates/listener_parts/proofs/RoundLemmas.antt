@@ -1,7 +1,10 @@
 -- How time passes, slots are signalled, and children start and go, in parts of some turns.
-use Rattle.std.proofs.Common.{◌≡◌, ℕ, zero, suc, ◌<◌, ◌≤◌, Bool, true, false, List, [], ◌∷◌, ◌++◌, map, min, nat_lt, length, None, Some, slice_set, if◌then◌else◌, refl, sym, ap, subst, ◌∙◌, append-nil, append_assoc, arith}
+use Rattle.std.proofs.Common.{◌≡◌, ℕ, zero, suc, ◌<◌, ◌≤◌, Bool, true, false, List, [], ◌∷◌, ◌++◌, map, max, nat_lt, length, None, Some, slice_set, if◌then◌else◌, refl, sym, ap, subst, ◌∙◌, append-nil, append_assoc, arith}
 use Rattle.std.proofs.lemmas.Bool.Decides.{nat_tests}
 use Rattle.std.proofs.lemmas.List.{map-append}
+use Rattle.std.proofs.lemmas.Result.{on_err_weaker, on_ok_weaker}
+use Rattle.std.specs.Prelude.{Result, OnErr, OnOk}
+use Rattle.std.specs.declared.result.Result.TheVariants.{Ok, Err}
 use Rattle.conn_machine.specs.declared.event.Entry.{Entry}
 use Rattle.conn_machine.specs.declared.event.Event.{Event}
 use Rattle.conn_machine.specs.declared.event.Event.TheVariants as event
@@ -14,17 +17,17 @@ use Rattle.board_turns.specs.Books.{state_of}
 use Rattle.board_turns.specs.Rests.{TurnsRestOn}
 use Rattle.board_turns.specs.Turns.{HadATurn, HadTurn, state_found}
 use Rattle.idle_workers.specs.Found.{TakesCreditBack}
-use Rattle.listener_turns.specs.Signals.{ready_events}
+use Rattle.listener_turns.specs.Signals.{SignalsAll, SignalsFirst, ready_events}
 use Rattle.listener_parts.specs.Did.{AreOfConns, Did, LeavesAlone, StandsAs}
 use Rattle.listener_parts.specs.Letting.{IsLateWay, LetsGo, gone_events}
-use Rattle.listener_parts.specs.Rounds.{AreCredits, PassesTime, RetiresSome, StartsSome, TicksTo, ticks_to, time_events}
-use Rattle.listener_parts.proofs.AloneLemmas.{alone_more, others_alone, ready_alone, stands_more, state_behind}
+use Rattle.listener_parts.specs.Rounds.{AreCredits, PassesTime, RetiresSome, Signals, SignalsSome, StartsSome, TicksTo, ticks_to, time_events}
+use Rattle.listener_parts.proofs.AloneLemmas.{alone_more, others_alone, ready_alone, state_behind, turn_alone}
 use Rattle.listener_parts.proofs.DidLemmas.{did_as, did_more, did_no_more, did_turn}
 
 -- ## Time
 
 -- the state behind a turn in which one event was made, of which is known what it makes of each state
-next_behind : TurnsRestOn → (found : List Entry) (e : Event) (old new : View) → HadTurn found (e ∷ []) old new → state_of new ≡ next (state_found old found) e
+pub next_behind : TurnsRestOn → (found : List Entry) (e : Event) (old new : View) → HadTurn found (e ∷ []) old new → state_of new ≡ next (state_found old found) e
 next_behind rests found e old new t =
     state_behind rests found (e ∷ []) old new t ∙ one_entry (state_found old found) t.added t.events_are
   where
@@ -65,6 +68,19 @@ alone_as s t to alone = record {
   children = alone.children;
 }
 
+-- where no time passed
+pub alone_moment : (s t : State) → LeavesAlone s t → LeavesAlone (record s { moment = t.moment }) t
+alone_moment s t alone = record {
+  stands = record {
+    moment = refl;
+    accepted = alone.stands.accepted;
+    newest = alone.stands.newest;
+    shape = alone.stands.shape;
+    going = alone.stands.going;
+  };
+  children = alone.children;
+}
+
 -- behind parts that leave all of that alone
 pub alone_before : (s t u : State) (to : ℕ) → LeavesAlone s t → LeavesAlone (record t { moment = to }) u → LeavesAlone (record s { moment = to }) u
 alone_before s t u to before behind = record {
@@ -77,6 +93,26 @@ alone_before s t u to before behind = record {
   };
   children = behind.children ∙ before.children;
 }
+
+-- and before such
+pub alone_late : (s t u : State) → LeavesAlone (record s { moment = t.moment }) t → LeavesAlone t u → LeavesAlone (record s { moment = u.moment }) u
+alone_late s t u first behind = record {
+  stands = record {
+    moment = refl;
+    accepted = behind.stands.accepted ∙ first.stands.accepted;
+    newest = behind.stands.newest ∙ first.stands.newest;
+    shape = behind.stands.shape ∙ first.stands.shape;
+    going = behind.stands.going ∙ first.stands.going;
+  };
+  children = behind.children ∙ first.children;
+}
+
+-- the greater of two moments
+pub later_is : (m n : ℕ) → m < n → max m n ≡ n
+later_is m n less = omega (arith, less)
+
+pub present_is : (m n : ℕ) → n ≤ m → max m n ≡ m
+present_is m n less = omega (arith, less)
 
 -- late connections were let go of, and then time passed
 pub ticks : (to : ℕ) (a b c : View) → LetsGo IsLateWay a b → HadATurn (event.Tick to ∷ []) b c → c.row ≡ None → TicksTo to a c
@@ -200,3 +236,43 @@ taken_back child threads old new takes = ap (λ (q : View). q.credits) takes.tri
 -- one that wasn't stays
 pub not_taken_back : (child threads : ℕ) (old new : View) → TakesCreditBack child threads old false new → new.credits ≡ old.credits
 not_taken_back child threads old new takes = ap (λ (q : View). q.credits) takes.tried.0
+
+-- ## What was signalled, by an answer
+
+module _ {T E : Type 0} (r : Result T E) (slots : List ℕ) (old new : View) where
+  pub signalled_all : OnOk r (SignalsAll slots old new) → new.row ≡ None → OnOk r (Signals slots old new)
+  signalled_all all none = on_ok_weaker r (λ (turn : SignalsAll slots old new). did_turn _ None old new turn none) all
+
+  pub signalled_some : OnErr r (SignalsFirst slots old new) → new.row ≡ None → OnErr r (SignalsSome slots old new)
+  signalled_some first none =
+      on_err_weaker r
+      (λ (is : SignalsFirst slots old new).
+      record {
+        first = is.first;
+        slot = is.slot;
+        rest = is.rest;
+        slots_are = is.slots_are;
+        signals = did_turn _ None old new is.signals none;
+      })
+      first
+
+-- which slots were signalled in a turn
+pub record SignalsIn (old new : View) : Type 0 where
+  pub slots : List ℕ
+  pub turn : SignalsAll slots old new
+
+pub signals_in : {T E : Type 0} (r : Result T E) (slots : List ℕ) (old new : View) → OnOk r (SignalsAll slots old new) → OnErr r (SignalsFirst slots old new)
+    → SignalsIn old new
+signals_in (Ok x) slots old new all first = record { slots = slots; turn = all }
+signals_in (Err e) slots old new all is = record { slots = is.first; turn = is.signals }
+
+pub signalled_credits : {T E : Type 0} (r : Result T E) (slots : List ℕ) (old new : View) → OnOk r (SignalsAll slots old new) → OnErr r (SignalsFirst slots old new)
+    → new.credits ≡ old.credits
+signalled_credits r slots old new all first = (signals_in r slots old new all first).turn.1.stays.credits
+
+pub signalled_alone : {T E : Type 0} → OthersLeaveTheRestToTheListener → TurnsRestOn → (r : Result T E) (slots : List ℕ) (old new : View) → old.who.number ≡ 0
+    → OnOk r (SignalsAll slots old new) → OnErr r (SignalsFirst slots old new) → LeavesAlone (state_of old) (state_of new)
+signalled_alone law rests r slots old new number all first =
+    let signals = signals_in r slots old new all first in
+    turn_alone law rests (ready_events (length (state_of new).rows) signals.slots) old new number
+    (signals_of_conns (length (state_of new).rows) signals.slots) signals.turn
