@@ -2,6 +2,7 @@
 use Rattle.std.proofs.Common.{◌≡◌, ℕ, Bool, true, false, List, [], ◌∷◌, ◌++◌, map, if◌then◌else◌, Option, None, refl, sym, ap, subst, ◌∙◌, append-nil, append_assoc}
 use Rattle.std.proofs.lemmas.List.{map-append}
 use Rattle.std.proofs.lemmas.List.Elements.{filter-append}
+use Rattle.atomic_table.specs.Table.{Me}
 use Rattle.mpm_base.specs.declared.conn.ConnName.{ConnName}
 use Rattle.http_read.specs.declared.request.Limits.{Limits}
 use Rattle.file_table.specs.Site.{SeenSite}
@@ -18,7 +19,7 @@ use Rattle.table_rule.specs.Steps.{uncredited_view}
 use Rattle.idle_workers.specs.Found.{TakesCreditBack}
 use Rattle.board.specs.Editions.{GenerationsKeepTheirEditions, IsOfGeneration}
 use Rattle.board_turns.specs.Books.{book_of}
-use Rattle.board_turns.specs.Turns.{HadATurn, HadTurns, own_events}
+use Rattle.board_turns.specs.Turns.{HadATurn, HadTurns, IsListener, own_events}
 use Rattle.board_turns.proofs.TurnLemmas.{more_turns, no_turn, one_turn}
 use Rattle.listener_turns.specs.Credits.{HadCreditTurn}
 use Rattle.listener_turns.specs.Looks.{LooksIdle}
@@ -165,3 +166,15 @@ pub edition_on : GenerationsKeepTheirEditions → (known : Option KnownOutside) 
 edition_on law known events has old new generation limits site did is =
     law.goes_on known (book_of old) (book_of new) did.goes_on.0 generation limits site is (ap (λ (o : Origin). o.state) did.origin)
     (ap (λ (o : Origin). opening_record o.passes) did.origin) did.goes_on.1
+
+-- ## The listener
+
+-- pass 0 stays pass 0 where its credit is taken back
+pub listener_uncredited : {S : Type 0} (child threads : ℕ) (old new : Me S View) (done : Bool) → new.1 ≡ old.1 → TakesCreditBack child threads old.0 done new.0
+    → IsListener old → IsListener new
+listener_uncredited child threads old new done hand takes is =
+    let keeps = keeps_uncredited child threads old.0 new.0 done takes in
+    record {
+      turnless = record { hand = hand ∙ is.turnless.hand; turn = keeps.turn ∙ is.turnless.turn };
+      number = ap (λ (w : Who). w.number) keeps.who ∙ is.number;
+    }

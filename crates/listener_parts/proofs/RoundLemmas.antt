@@ -1,5 +1,5 @@
 -- How time passes, slots are signalled, and children start and go, in parts of some turns.
-use Rattle.std.proofs.Common.{◌≡◌, ℕ, zero, suc, ◌<◌, ◌≤◌, Bool, true, false, List, [], ◌∷◌, ◌++◌, map, max, nat_lt, length, None, Some, slice_set, if◌then◌else◌, refl, sym, ap, subst, ◌∙◌, append-nil, append_assoc, arith}
+use Rattle.std.proofs.Common.{◌≡◌, ◌⊎◌, inl, inr, ℕ, zero, suc, ◌+◌, ◌<◌, ◌≤◌, Bool, true, false, List, [], ◌∷◌, ◌++◌, map, max, nat_lt, length, None, Some, slice_set, slice_index, if◌then◌else◌, refl, sym, ap, subst, ◌∙◌, append-nil, append_assoc, arith}
 use Rattle.std.proofs.lemmas.Bool.Decides.{nat_tests}
 use Rattle.std.proofs.lemmas.List.{map-append}
 use Rattle.std.proofs.lemmas.Result.{on_err_weaker, on_ok_weaker}
@@ -10,18 +10,24 @@ use Rattle.conn_machine.specs.declared.event.Event.{Event}
 use Rattle.conn_machine.specs.declared.event.Event.TheVariants as event
 use Rattle.conn_machine.specs.declared.state.State.{State}
 use Rattle.conn_machine.specs.BetweenTurns.{OthersLeaveTheRestToTheListener}
-use Rattle.conn_machine.specs.Runs.{after}
+use Rattle.conn_machine.specs.Folds.{opening_record}
+use Rattle.conn_machine.specs.Passes.{EachHasItsOwn}
+use Rattle.conn_machine.specs.Runs.{after, first_row}
 use Rattle.conn_machine.specs.Table.{next}
+use Rattle.table_rule.specs.declared.view.Origin.{Origin}
 use Rattle.table_rule.specs.declared.view.View.{View}
 use Rattle.board_turns.specs.Books.{state_of}
 use Rattle.board_turns.specs.Rests.{TurnsRestOn}
 use Rattle.board_turns.specs.Turns.{HadATurn, HadTurn, state_found}
 use Rattle.idle_workers.specs.Found.{TakesCreditBack}
+use Rattle.board_book.specs.Finds.{startable}
+use Rattle.listener_turns.specs.Children.{AreStarted}
+use Rattle.listener_turns.specs.Looks.{IsAtRest}
 use Rattle.listener_turns.specs.Signals.{SignalsAll, SignalsFirst, ready_events}
 use Rattle.listener_parts.specs.Did.{AreOfConns, Did, LeavesAlone, StandsAs}
 use Rattle.listener_parts.specs.Letting.{IsLateWay, LetsGo, gone_events}
-use Rattle.listener_parts.specs.Rounds.{AreCredits, PassesTime, RetiresSome, Signals, SignalsSome, StartsSome, TicksTo, ticks_to, time_events}
-use Rattle.listener_parts.proofs.AloneLemmas.{alone_more, others_alone, ready_alone, state_behind, turn_alone}
+use Rattle.listener_parts.specs.Rounds.{AreCredits, IsStill, OpenedWithNone, PassesTime, RetiresSome, Signals, SignalsSome, StartsAtFirst, StartsSome, TicksTo, ticks_to, time_events}
+use Rattle.listener_parts.proofs.AloneLemmas.{alone_same, others_alone, ready_alone, state_behind, turn_alone}
 use Rattle.listener_parts.proofs.DidLemmas.{did_as, did_more, did_no_more, did_turn}
 
 -- ## Time
@@ -276,3 +282,112 @@ signalled_alone law rests r slots old new number all first =
     let signals = signals_in r slots old new all first in
     turn_alone law rests (ready_events (length (state_of new).rows) signals.slots) old new number
     (signals_of_conns (length (state_of new).rows) signals.slots) signals.turn
+
+-- ## Children without a credit
+
+-- none is below the first
+pub none_below : (credits : List ℕ) (child : ℕ) → child < 0 → slice_index credits child ≡ 0
+none_below credits child below = absurd (omega (arith, below))
+
+-- one that is set to nothing has none, and the others have what they had
+at_or_below : (child last : ℕ) → child < last + 1 → (child ≡ last) ⊎ (child < last)
+at_or_below zero zero below = inl refl
+at_or_below zero (suc last) below = inr (omega arith)
+at_or_below (suc child) zero below = absurd (omega (arith, below))
+at_or_below (suc child) (suc last) below =
+    elim (at_or_below child last (omega (arith, below))) [
+      | inl same ↦ inl (ap suc same)
+      | inr less ↦ inr (omega (arith, less))
+    ]
+
+set_at : (credits : List ℕ) (child : ℕ) → slice_index (slice_set credits child 0) child ≡ 0
+set_at [] child = refl
+set_at (x ∷ credits) zero = refl
+set_at (x ∷ credits) (suc child) = set_at credits child
+
+set_below : (credits : List ℕ) (child last : ℕ) → child < last → slice_index (slice_set credits last 0) child ≡ slice_index credits child
+set_below [] child last less = refl
+set_below (x ∷ credits) child zero less = absurd (omega (arith, less))
+set_below (x ∷ credits) zero (suc last) less = refl
+set_below (x ∷ credits) (suc child) (suc last) less = set_below credits child last (omega (arith, less))
+
+pub none_more : (credits credits' : List ℕ) (last : ℕ) → credits' ≡ slice_set credits last 0 → ((child : ℕ) → child < last → slice_index credits child ≡ 0)
+    → (child : ℕ) → child < last + 1 → slice_index credits' child ≡ 0
+none_more credits credits' last is none child below =
+    elim (at_or_below child last below) [
+      | inl same ↦ ap (λ (l : List ℕ). slice_index l child) is ∙ ap (λ (k : ℕ). slice_index (slice_set credits k 0) child) (sym same) ∙ set_at credits child
+      | inr less ↦ ap (λ (l : List ℕ). slice_index l child) is ∙ set_below credits child last less ∙ none child less
+    ]
+
+-- one that has none is one more
+pub none_same : (credits : List ℕ) (last : ℕ) → slice_index credits last ≡ 0 → ((child : ℕ) → child < last → slice_index credits child ≡ 0)
+    → (child : ℕ) → child < last + 1 → slice_index credits child ≡ 0
+none_same credits last is none child below =
+    elim (at_or_below child last below) [
+      | inl same ↦ ap (slice_index credits) same ∙ is
+      | inr less ↦ none child less
+    ]
+
+-- behind the last there is none
+beyond : (credits : List ℕ) (child : ℕ) → length credits ≤ child → slice_index credits child ≡ 0
+beyond [] child less = refl
+beyond (x ∷ credits) zero less = absurd (omega (arith, less))
+beyond (x ∷ credits) (suc child) less = beyond credits child (omega (arith, less))
+
+below_or_not : (child last : ℕ) → (child < last) ⊎ (last ≤ child)
+below_or_not child zero = inr (omega arith)
+below_or_not zero (suc last) = inl (omega arith)
+below_or_not (suc child) (suc last) =
+    elim (below_or_not child last) [
+      | inl less ↦ inl (omega (arith, less))
+      | inr more ↦ inr (omega (arith, more))
+    ]
+
+pub none_left : (credits : List ℕ) (last : ℕ) → ((child : ℕ) → child < last → slice_index credits child ≡ 0) → length credits ≡ 32 → 32 ≤ last
+    → (child : ℕ) → slice_index credits child ≡ 0
+none_left credits last none full all child =
+    elim (below_or_not child last) [
+      | inl less ↦ none child less
+      | inr more ↦ beyond credits child (omega (arith, full, all, more))
+    ]
+
+-- ## What stays so while nothing is seen
+
+pub opened_still : (old new : View) → new.origin ≡ old.origin → OpenedWithNone old → OpenedWithNone new
+opened_still old new origin opened =
+    subst (λ (o : Origin). EachHasItsOwn o.state (first_row (opening_record o.passes))) (sym origin) opened
+
+pub still_state : (old new : View) → new.origin ≡ old.origin → new.seen ≡ old.seen → state_of new ≡ state_of old
+still_state old new origin seen = ap (λ (o : Origin). after o.state new.seen) origin ∙ ap (after old.origin.state) seen
+
+pub rests_still : (old new : View) → new.origin ≡ old.origin → new.seen ≡ old.seen → IsAtRest (state_of old) → IsAtRest (state_of new)
+rests_still old new origin seen rest = subst IsAtRest (sym (still_state old new origin seen)) rest
+
+pub alone_still : (old new : View) → new.origin ≡ old.origin → new.seen ≡ old.seen → LeavesAlone (state_of old) (state_of new)
+alone_still old new origin seen = subst (LeavesAlone (state_of old)) (sym (still_state old new origin seen)) (alone_same (state_of old))
+
+pub is_still : (old new : View) → new.origin ≡ old.origin → new.seen ≡ old.seen → IsAtRest (state_of old) → IsStill old new
+is_still old new origin seen rest = record { seen = seen; rest = rests_still old new origin seen rest }
+
+-- ## The first children
+
+pub starts_turn : (children : List ℕ) (old new : View) → HadATurn (map event.StartChild children) old new → new.row ≡ None → StartsSome old new
+starts_turn children old new turn none = record {
+  children = children;
+  did = did_turn (map event.StartChild children) None old new turn none;
+}
+
+pub starts_at_first : (children : List ℕ) (found : List Entry) (a b c : View) → HadTurn found (map event.StartChild children) a b
+    → AreStarted (state_found a found) children → Did [] None b c → StartsAtFirst a c
+starts_at_first children found a b c turn started credited = record {
+  children = children;
+  found = found;
+  behind = b;
+  turn = turn;
+  started = started;
+  did = credited;
+}
+
+-- whether one may start depends on nothing but what the listener alone decides
+pub startable_still : (s t : State) → LeavesAlone s t → startable t ≡ startable s
+startable_still s t alone = rw (alone.stands.going, alone.stands.shape, alone.children) refl

@@ -71,4 +71,5 @@ pub stop_may : OthersLeaveTheRestToTheListener → TurnsRestOn → (reason : Why
 stop_may law rests reason true old new number own may turn stays = refl
 stop_may law rests reason false old new number own may turn stays =
     let same = allowed_still reason (state_of old) (state_of new) own (turn_alone law rests [] old new number tt turn) in
-    absurd (cc (sym same ∙ stays refl, may))
+    let refused : is_allowed (state_of old) (event.Command (Stop reason)) ≡ false = sym same ∙ stays refl in
+    absurd (cc (refused, may))

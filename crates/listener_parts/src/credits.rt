@@ -160,7 +160,7 @@ pub fn take_all_credits_back<L: Link, N: Known>(
     ensures none { result ≡ true → NoneHasCredit credits.new }
 {
     for child in 0..CHILDREN {
-        if credits.of(child) != 0 && !take_credit_back(shared, pass, credits, child) {
+        if !take_credit_back(shared, pass, credits, child) {
             return false;
         }
     }

@@ -1,5 +1,5 @@
 //! What the next wait of the front is told, and folds of the history.
-ghost use Rattle.std.specs.Prelude.{◌≡◌, [], None, true};
+ghost use Rattle.std.specs.Prelude.{◌≡◌, ◌<◌, [], None, true};
 ghost use Rattle.board_book.specs.Finds.{next_deadline_of};
 ghost use Rattle.board_turns.specs.Books.{state_of};
 ghost use Rattle.board_turns.specs.Turns.{IsListener};
@@ -50,10 +50,17 @@ pub fn rest_of<L: Link, N: Known>(
     ensures quiet { result.quiet ≡ true
         → IsStill pass.old.seat.me.0 pass.new.seat.me.0 }
 {
-    others_leave_the_rest_to_the_listener();
+    let at_rest = look.quiet;
+    if !at_rest {
+        return Rest {
+            until: look.until,
+            quiet: false,
+        };
+    }
+    let quiet = are_idle(shared, pass, credits);
     Rest {
         until: look.until,
-        quiet: look.quiet && are_idle(shared, pass, credits),
+        quiet,
     }
 }
 
@@ -76,12 +83,38 @@ fn are_idle<L: Link, N: Known>(
     ensures still { pass.new.seat.me.0.seen ≡ pass.old.seat.me.0.seen }
 {
     for child in 0..CHILDREN {
-        let threads = credits.of(child);
-        if threads != 0 && !is_idle(shared, pass, child, threads) {
+        if !are_idle_of(shared, pass, credits, child) {
             return false;
         }
     }
     true
+}
+
+/// Whether each worker of the child is idle. It looks at no idle word where the child has no credit.
+fn are_idle_of<L: Link, N: Known>(
+    shared: &Shared<Board<L, N>>,
+    pass: &mut Pass<Board<L, N>>,
+    credits: &Credits,
+    child: u32,
+) -> bool
+    requires own { pass.old.seat.table_id ≡ shared.now.table.shared.table_id }
+    requires listener { IsListener pass.old.seat.me }
+    requires none { pass.old.seat.me.0.row ≡ None }
+    requires credits { AreCredits credits.now pass.old.seat.me.0 }
+    requires opened { OpenedWithNone pass.old.seat.me.0 }
+    requires rest { IsAtRest (state_of pass.old.seat.me.0) }
+    requires child { child < 32 }
+    ensures own { pass.new.seat.table_id ≡ pass.old.seat.table_id }
+    ensures listener { IsListener pass.new.seat.me }
+    ensures did { Did [] None pass.old.seat.me.0 pass.new.seat.me.0 }
+    ensures credits { AreCredits credits.now pass.new.seat.me.0 }
+    ensures still { pass.new.seat.me.0.seen ≡ pass.old.seat.me.0.seen }
+{
+    let threads = credits.of(child);
+    if threads == 0 {
+        return true;
+    }
+    is_idle(shared, pass, child, threads)
 }
 
 /// Folds the history where it may be folded. Where memory lacks for that it stays as it is, until the next round.
