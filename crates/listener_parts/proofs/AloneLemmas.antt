@@ -1,5 +1,5 @@
 -- What a part leaves alone that the listener alone decides.
-use Rattle.std.proofs.Common.{◌≡◌, ℕ, List, [], ◌∷◌, map, refl, sym, ap, subst, ◌∙◌}
+use Rattle.std.proofs.Common.{◌≡◌, ℕ, Bool, true, false, List, [], ◌∷◌, map, if◌then◌else◌, refl, sym, ap, subst, ◌∙◌}
 use Rattle.std.specs.Prelude.{⊤}
 use Rattle.mpm_base.specs.declared.conn.Cause.{Cause}
 use Rattle.mpm_base.specs.declared.conn.ConnName.{ConnName}
@@ -167,3 +167,11 @@ turn_stands law rests events old new number all (found, t) =
     subst (StandsAs (state_of old)) (sym (state_behind rests found events old new t))
     (stands_more (state_of old) (state_found old found) (after (state_found old found) t.added) (others_alone law old found number t.made t.others).stands
     (stands_entries (state_found old found) t.added (subst AllStand (sym t.events_are) all)))
+
+-- one start, or one end, alone
+pub one_stands : (k : ℕ) → AllStand (event.StartChild k ∷ [])
+one_stands k = (starts_stand k, tt)
+
+pub gone_stands : (k : ℕ) (gone : Bool) → AllStand (if gone then event.Retire k ∷ [] else [])
+gone_stands k true = (retires_stand k, tt)
+gone_stands k false = tt

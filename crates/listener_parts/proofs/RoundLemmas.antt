@@ -189,25 +189,15 @@ starts_end a b c starts nothing = record {
 pub retires_none : (v : View) → Did [] None v v → RetiresSome v v
 retires_none v did = record { children = []; did = did }
 
--- the events by which a child was let go of, or none
-abbrev pub retired_events : ℕ → Bool → List Event
-retired_events k gone = if gone then event.Retire k ∷ [] else []
+-- a look finds out which
+pub retires_of : (old new : View) → HadATurn [] old new → new.row ≡ None → RetiresSome old new
+retires_of old new turn none = record { children = []; did = did_turn [] None old new turn none }
 
--- a look, a credit that is taken back, and the turn in which the child was let go of, or not
-pub retires_more : (a b c d e : View) (k : ℕ) (events : List Event) (gone : Bool) → RetiresSome a b → Did [] None b c → Did [] None c d → Did events None d e
-    → events ≡ retired_events k gone → RetiresSome a e
-retires_more a b c d e k events true retires looked back did is = record {
-  children = retires.children ++ k ∷ [];
-  did = did_as _ _ None a e (sym (map-append event.Retire retires.children (k ∷ [])))
-      (did_more (map event.Retire retires.children) (event.Retire k ∷ []) None None a d e
-      (did_no_more (map event.Retire retires.children) None None a c d (did_no_more (map event.Retire retires.children) None None a b c retires.did looked) back)
-      (did_as _ _ None d e is did));
-}
-retires_more a b c d e k events false retires looked back did is = record {
-  children = retires.children;
-  did = did_no_more (map event.Retire retires.children) None None a d e
-      (did_no_more (map event.Retire retires.children) None None a c d (did_no_more (map event.Retire retires.children) None None a b c retires.did looked) back)
-      (did_as _ _ None d e is did);
+pub retires_join : (a b c : View) → RetiresSome a b → RetiresSome b c → RetiresSome a c
+retires_join a b c first second = record {
+  children = first.children ++ second.children;
+  did = did_as _ _ None a c (sym (map-append event.Retire first.children second.children))
+      (did_more (map event.Retire first.children) (map event.Retire second.children) None None a b c first.did second.did);
 }
 
 pub retires_end : (a b c : View) → RetiresSome a b → Did [] None b c → RetiresSome a c
@@ -215,6 +205,14 @@ retires_end a b c retires nothing = record {
   children = retires.children;
   did = did_no_more (map event.Retire retires.children) None None a b c retires.did nothing;
 }
+
+-- a look, a credit that is taken back, and the turn in which the child was let go of, or not
+pub retires_one : (a b c d : View) (k : ℕ) (gone : Bool) → RetiresSome a b → Did [] None b c → HadATurn (if gone then event.Retire k ∷ [] else []) c d
+    → d.row ≡ None → RetiresSome a d
+retires_one a b c d k true looked back turn none =
+    retires_join a c d (retires_end a b c looked back)
+    (record { children = k ∷ []; did = did_turn (event.Retire k ∷ []) None c d turn none })
+retires_one a b c d k false looked back turn none = retires_join a c d (retires_end a b c looked back) (retires_of c d turn none)
 
 -- ## Credits
 
@@ -391,3 +389,15 @@ starts_at_first children found a b c turn started credited = record {
 -- whether one may start depends on nothing but what the listener alone decides
 pub startable_still : (s t : State) → LeavesAlone s t → startable t ≡ startable s
 startable_still s t alone = rw (alone.stands.going, alone.stands.shape, alone.children) refl
+
+-- a child whose credit was taken back has none
+pub credit_gone : (credits credits' : List ℕ) (child : ℕ) (v : View) → credits' ≡ slice_set credits child 0 → AreCredits credits' v
+    → slice_index v.credits child ≡ 0
+credit_gone credits credits' child v is are =
+    ap (λ (l : List ℕ). slice_index l child) (sym are.own) ∙ ap (λ (l : List ℕ). slice_index l child) is ∙ set_at credits child
+
+pub retires_turn : (children : List ℕ) (old new : View) → HadATurn (map event.Retire children) old new → new.row ≡ None → RetiresSome old new
+retires_turn children old new turn none = record {
+  children = children;
+  did = did_turn (map event.Retire children) None old new turn none;
+}

@@ -87,7 +87,7 @@ pub fn credit_all<R: Wait, L: Link, N: Known>(
 }
 
 /// The child gets the credit of its workers, where it has none.
-pub(crate) fn credit_one<R: Wait, L: Link, N: Known>(
+fn credit_one<R: Wait, L: Link, N: Known>(
     rt: &R,
     shared: &Shared<Board<L, N>>,
     pass: &mut Pass<Board<L, N>>,
@@ -112,6 +112,29 @@ pub(crate) fn credit_one<R: Wait, L: Link, N: Known>(
     }
     let threads = credit_child(rt, shared, pass, child);
     credits.set(child, threads);
+}
+
+/// A child that was started gets the credit of its workers, where it has none.
+pub(crate) fn credit_started<R: Wait, L: Link, N: Known>(
+    rt: &R,
+    shared: &Shared<Board<L, N>>,
+    pass: &mut Pass<Board<L, N>>,
+    credits: &mut Credits,
+    child: u32,
+)
+    requires own { pass.old.seat.table_id ≡ shared.now.table.shared.table_id }
+    requires listener { IsListener pass.old.seat.me }
+    requires none { pass.old.seat.me.0.row ≡ None }
+    requires credits { AreCredits credits.old pass.old.seat.me.0 }
+    ensures own { pass.new.seat.table_id ≡ pass.old.seat.table_id }
+    ensures listener { IsListener pass.new.seat.me }
+    ensures did { Did [] None pass.old.seat.me.0 pass.new.seat.me.0 }
+    ensures rest { LeavesAlone (state_of pass.old.seat.me.0) (state_of pass.new.seat.me.0) }
+    ensures credits { AreCredits credits.new pass.new.seat.me.0 }
+{
+    if child < CHILDREN {
+        credit_one(rt, shared, pass, credits, child);
+    }
 }
 
 /// The credit of the child is taken back, where nobody has a permit of it or tries for one: whether it has none now. It takes no turn.

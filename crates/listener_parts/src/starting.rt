@@ -8,7 +8,7 @@ ghost use Rattle.board_turns.specs.Turns.{IsListener};
 ghost use Rattle.listener_parts.specs.Did.{StandsAs};
 ghost use Rattle.listener_parts.specs.Rounds.{AreCredits, NoneHasCredit, RetiresSome, StartsAtFirst, StartsSome};
 
-use crate::credits::{CHILDREN, Credits, credit_all, credit_one, take_credit_back};
+use crate::credits::{CHILDREN, Credits, credit_all, credit_started, take_credit_back};
 use board::{Board, BoardFault};
 use board_lock::{Pass, Shared};
 use board_turns::turns_rest_on_these;
@@ -78,9 +78,7 @@ pub fn start_children<R: Wait, L: Link, N: Known>(
         let Some(child) = start_child(rt, shared, pass)? else {
             return Ok(());
         };
-        if child < CHILDREN {
-            credit_one(rt, shared, pass, credits, child);
-        }
+        credit_started(rt, shared, pass, credits, child);
     }
     unreachable!()
 }
@@ -107,16 +105,45 @@ pub fn retire_all<R: Wait, L: Link, N: Known, W: Workers>(
     turns_rest_on_these();
     others_leave_the_rest_to_the_listener();
     for _ in rt.forever() {
-        let Some(child) = take_look(rt, shared, pass).retires else {
-            return;
-        };
-        if child >= CHILDREN || !take_credit_back(shared, pass, credits, child) {
+        if !retire_one(rt, shared, pass, credits, workers) {
             return;
         }
-        workers.end(rt, child);
-        let _ = retire_child(rt, shared, pass, child);
     }
     unreachable!()
+}
+
+/// Lets go of the lowest of them: whether it may have been let go of, so that there may be a further one.
+fn retire_one<R: Wait, L: Link, N: Known, W: Workers>(
+    rt: &R,
+    shared: &Shared<Board<L, N>>,
+    pass: &mut Pass<Board<L, N>>,
+    credits: &mut Credits,
+    workers: &mut W,
+) -> bool
+    requires own { pass.old.seat.table_id ≡ shared.now.table.shared.table_id }
+    requires listener { IsListener pass.old.seat.me }
+    requires none { pass.old.seat.me.0.row ≡ None }
+    requires credits { AreCredits credits.old pass.old.seat.me.0 }
+    ensures own { pass.new.seat.table_id ≡ pass.old.seat.table_id }
+    ensures listener { IsListener pass.new.seat.me }
+    ensures retires { RetiresSome pass.old.seat.me.0 pass.new.seat.me.0 }
+    ensures rest { StandsAs (state_of pass.old.seat.me.0) (state_of pass.new.seat.me.0) }
+    ensures credits { AreCredits credits.new pass.new.seat.me.0 }
+{
+    turns_rest_on_these();
+    others_leave_the_rest_to_the_listener();
+    let look = take_look(rt, shared, pass);
+    let Some(child) = look.retires else {
+        return false;
+    };
+    if child >= CHILDREN {
+        return false;
+    }
+    if !take_credit_back(shared, pass, credits, child) {
+        return false;
+    }
+    workers.end(rt, child);
+    retire_child(rt, shared, pass, child)
 }
 
 /// Lets go of each child that stops and has no live connection, all in one turn, where none has a credit any more, and the workers of each
