@@ -180,5 +180,5 @@ lets_go_until f a b c d retiring cut until = record {
 -- ## Of an answer
 
 pub if_err_as : {T E : Type 0} (r : Result T E) (P Q : E → Type 0) → ((e : E) → P e → Q e) → IfErr r P → IfErr r Q
-if_err_as (Ok x) P Q as holds = tt
-if_err_as (Err e) P Q as holds = as e holds
+if_err_as (Ok x) P Q goes holds = tt
+if_err_as (Err e) P Q goes holds = goes e holds

@@ -1,6 +1,6 @@
 //! How a connection is taken: it is accepted in one turn, the front watches its link behind that, and in a further turn it begins to wait.
 //! Why it is so stands in docs/DECISIONS.md: 109, Turns of the listener.
-ghost use Rattle.std.specs.Prelude.{◌≡◌, ◌<◌, ℕ, [], ◌∷◌, None, true, false, IfErr, IfOk, IfSome, OnOk};
+ghost use Rattle.std.specs.Prelude.{◌≡◌, ◌<◌, ℕ, [], ◌∷◌, None, true, false, IfErr, IfNone, IfOk, IfSome, OnOk};
 ghost use Rattle.conn_machine.specs.declared.event.Event.TheVariants as event;
 ghost use Rattle.conn_state.specs.Conn.{IsFresh};
 ghost use Rattle.conn_state.specs.Known.{IsOfClient};
@@ -10,7 +10,7 @@ ghost use Rattle.worker_group.specs.Service.{give_up_events, left_events};
 ghost use Rattle.board_turns.specs.Books.{book_of, state_of};
 ghost use Rattle.board_turns.specs.Turns.{HadATurn, HadTurns, IsListener};
 ghost use Rattle.listener_turns.specs.Holds.{HasTaken};
-ghost use Rattle.listener_parts.specs.Did.{Did, LeavesAlone};
+ghost use Rattle.listener_parts.specs.Did.{LeavesAlone};
 ghost use Rattle.listener_parts.specs.Letting.{RefusedWait};
 ghost use Rattle.listener_parts.specs.Taking.{FailsTaking, IsNew, ServesNewest, TakesLink, way_of};
 
@@ -45,31 +45,58 @@ pub fn accept<R: Wait, L: Link, N: Known>(
     ensures taken { IfOk result
         (λ taken. HasTaken pass.new.seat.me.0 taken.name taken.child taken.generation
         (state_of pass.old.seat.me.0).accepted) }
-    ensures err { IfErr result (λ _. Did [] None pass.old.seat.me.0 pass.new.seat.me.0) }
+    ensures err { IfErr result (λ _. HadTurns [] pass.old.seat.me.0 pass.new.seat.me.0) }
+    ensures no_row { IfErr result (λ _. pass.new.seat.me.0.row ≡ None) }
     ensures stays { IfErr result
         (λ _. LeavesAlone (state_of pass.old.seat.me.0) (state_of pass.new.seat.me.0)) }
     ensures why { IfErr result (λ fault. IsRefusedFor fault (book_of pass.new.seat.me.0)) }
     ensures credits { pass.new.seat.me.0.credits ≡ pass.old.seat.me.0.credits }
-    ensures moment { (state_of pass.new.seat.me.0).moment
-        ≡ (state_of pass.old.seat.me.0).moment }
-    ensures newest { (state_of pass.new.seat.me.0).newest
-        ≡ (state_of pass.old.seat.me.0).newest }
-    ensures going { (state_of pass.new.seat.me.0).going ≡ (state_of pass.old.seat.me.0).going }
-    ensures children { (state_of pass.new.seat.me.0).children
-        ≡ (state_of pass.old.seat.me.0).children }
+    ensures rest { LeavesAlone (record (state_of pass.old.seat.me.0)
+        { accepted = (state_of pass.new.seat.me.0).accepted }) (state_of pass.new.seat.me.0) }
 {
     turns_rest_on_these();
     others_leave_the_rest_to_the_listener();
     for _ in rt.forever() {
-        match accept_once(rt, shared, pass) {
-            Ok(taken) => return Ok(taken),
-            Err(AcceptFault::Halted) => return Err(BoardFault::Halted),
-            Err(AcceptFault::NoMemory) => return Err(BoardFault::NoMemory),
-            Err(AcceptFault::NoChild) => (),
-            Err(AcceptFault::NoSlot) => (),
+        if let Some(taken) = try_accept(rt, shared, pass)? {
+            return Ok(taken);
         }
     }
     unreachable!()
+}
+
+/// Takes one in one turn. None where no child takes one in it, or no slot is vacant.
+fn try_accept<R: Wait, L: Link, N: Known>(
+    rt: &R,
+    shared: &Shared<Board<L, N>>,
+    pass: &mut Pass<Board<L, N>>,
+) -> Result<Option<Taken>, BoardFault>
+    requires own { pass.old.seat.table_id ≡ shared.now.table.shared.table_id }
+    requires listener { IsListener pass.old.seat.me }
+    requires none { pass.old.seat.me.0.row ≡ None }
+    ensures own { pass.new.seat.table_id ≡ pass.old.seat.table_id }
+    ensures listener { IsListener pass.new.seat.me }
+    ensures took { IfOk result
+        (λ o. IfSome o
+        (λ taken. HadATurn (event.Accept taken.name.slot ∷ []) pass.old.seat.me.0
+        pass.new.seat.me.0)) }
+    ensures taken { IfOk result
+        (λ o. IfSome o
+        (λ taken. HasTaken pass.new.seat.me.0 taken.name taken.child taken.generation
+        (state_of pass.old.seat.me.0).accepted)) }
+    ensures none { IfOk result
+        (λ o. IfNone o (HadATurn [] pass.old.seat.me.0 pass.new.seat.me.0)) }
+    ensures none_row { IfOk result (λ o. IfNone o (pass.new.seat.me.0.row ≡ None)) }
+    ensures err { IfErr result (λ _. HadATurn [] pass.old.seat.me.0 pass.new.seat.me.0) }
+    ensures err_row { IfErr result (λ _. pass.new.seat.me.0.row ≡ None) }
+    ensures why { IfErr result (λ fault. IsRefusedFor fault (book_of pass.new.seat.me.0)) }
+{
+    match accept_once(rt, shared, pass) {
+        Ok(taken) => Ok(Some(taken)),
+        Err(AcceptFault::Halted) => Err(BoardFault::Halted),
+        Err(AcceptFault::NoMemory) => Err(BoardFault::NoMemory),
+        Err(AcceptFault::NoChild) => Ok(None),
+        Err(AcceptFault::NoSlot) => Ok(None),
+    }
 }
 
 /// A connection that was just taken waits for its first request, where the front watches it; else it is closed. Where its wait is refused it is
@@ -158,13 +185,8 @@ pub fn take<R: Wait, L: Link, N: Known, F: Front<L = L>>(
         pass.old.seat.me.0 pass.new.seat.me.0) }
     ensures no_row { pass.new.seat.me.0.row ≡ None }
     ensures credits { pass.new.seat.me.0.credits ≡ pass.old.seat.me.0.credits }
-    ensures moment { (state_of pass.new.seat.me.0).moment
-        ≡ (state_of pass.old.seat.me.0).moment }
-    ensures newest { (state_of pass.new.seat.me.0).newest
-        ≡ (state_of pass.old.seat.me.0).newest }
-    ensures going { (state_of pass.new.seat.me.0).going ≡ (state_of pass.old.seat.me.0).going }
-    ensures children { (state_of pass.new.seat.me.0).children
-        ≡ (state_of pass.old.seat.me.0).children }
+    ensures rest { LeavesAlone (record (state_of pass.old.seat.me.0)
+        { accepted = (state_of pass.new.seat.me.0).accepted }) (state_of pass.new.seat.me.0) }
 {
     generations_keep_their_editions();
     let mut link = link;
