@@ -1,10 +1,10 @@
 -- A connection that waited and is held: how it may be left, whatever others do meanwhile.
-use Rattle.std.proofs.Common.{◌≡◌, ◌==◌, ℕ, Bool, true, false, not, ◌&&◌, length, nat_le, nat_lt, cond, [], Option, None, Some, IfSome, option_map, is_some, refl, sym, ap, subst, ◌∙◌, inl, inr, eq-eqb, arith}
+use Rattle.std.proofs.Common.{◌≡◌, ◌==◌, ℕ, Bool, true, false, not, ◌&&◌, length, nat_le, nat_lt, cond, Option, None, Some, IfSome, option_map, is_some, refl, sym, ap, subst, ◌∙◌, inl, inr, eq-eqb, arith}
 use Rattle.std.proofs.lemmas.Bool.Decides.{nat_tests}
 use Rattle.std.specs.Option.{option_and_then, option_map_or}
 use Rattle.std.specs.Prelude.{List}
 use Rattle.mpm_base.specs.Cause.{cause_number}
-use Rattle.mpm_base.specs.Count.{NeverFalls, RisesExactlyWhere}
+use Rattle.mpm_base.specs.Count.{RisesExactlyWhere}
 use Rattle.mpm_base.specs.Link.{LinkTold, with_received}
 use Rattle.mpm_base.specs.declared.conn.Cause.{Cause}
 use Rattle.mpm_base.specs.declared.conn.Cause.TheVariants as cause
@@ -15,11 +15,10 @@ use Rattle.mpm_base.specs.declared.conn.Tail.{Tail}
 use Rattle.mpm_base.specs.declared.conn.Tail.TheVariants as tail
 use Rattle.mpm_base.specs.declared.note.Note.{Note}
 use Rattle.conn_machine.specs.declared.event.Event.TheVariants as event
-use Rattle.conn_machine.specs.declared.row.Place.{Place}
 use Rattle.conn_machine.specs.declared.row.Row.{Row}
 use Rattle.conn_machine.specs.declared.state.State.{State}
 use Rattle.conn_machine.specs.Children.{is_stopping}
-use Rattle.conn_machine.specs.Rows.{is_from, is_held, is_linger_kind, is_lingering, is_working, kind_number, live_row}
+use Rattle.conn_machine.specs.Rows.{is_from, is_held, is_linger_kind, is_lingering, kind_number, live_row}
 use Rattle.conn_machine.specs.States.{child_of, is_halted, is_signalled}
 use Rattle.conn_machine.specs.Table.{end_fits, is_allowed, linger_cause_fits, linger_tail_fits, may_wait}
 use Rattle.conn_state.specs.declared.turn.LastLinger.{LastLinger}
@@ -31,13 +30,12 @@ use Rattle.conn_state.specs.declared.turn.LingerTurn.TheVariants as left
 use Rattle.conn_state.specs.Answered.{IsLeft, MayLinger, SentAll, ShowsCause, waits_on}
 use Rattle.conn_state.specs.Conn.{IsConn, IsWaiting, SeenConn, TurnFits, is_half_closed, is_usable, lingers}
 use Rattle.conn_state.specs.Known.{KnownOutside}
-use Rattle.conn_state.specs.Reader.{SeenReader}
 use Rattle.conn_state.specs.Turns.{LingersOn, ShutsOn, after_linger, is_linger_late}
 use Rattle.table_rule.specs.declared.view.View.{View}
 use Rattle.board.specs.Backed.{BacksWait, waits_to_read}
 use Rattle.board.specs.BoardLaws.{WaitsAreBackedByCalls}
 use Rattle.board.specs.Editions.{IsOfGeneration}
-use Rattle.board.specs.Fits.{FoundNoMore, IsOf, IsOnItsWay, IsSettled, LingersFor, NotesEnd, WaitsAs, WaitsForNext}
+use Rattle.board.specs.Fits.{FoundNoMore, IsOnItsWay, IsSettled, LingersFor, NotesEnd, WaitsAs, WaitsForNext}
 use Rattle.board_book.specs.declared.faults.BoardFault.{BoardFault}
 use Rattle.board_book.specs.declared.faults.BoardFault.TheVariants as fault
 use Rattle.board_book.specs.Finds.{cause_of}
@@ -48,8 +46,8 @@ use Rattle.worker_group.proofs.ServeLemmas.{closable, test-at}
 use Rattle.board_turns.specs.Books.{book_of, state_of}
 use Rattle.listener_turns.specs.declared.held.Due.{Due}
 use Rattle.listener_turns.specs.declared.held.Due.TheVariants as due
-use Rattle.listener_turns.specs.Holds.{Holds, HoldsFor, MayWait, is_held_for}
-use Rattle.listener_turns.proofs.ListenerLemmas.{and_true, not_set, parts_three}
+use Rattle.listener_turns.specs.Holds.{Holds, HoldsFor, MayWait}
+use Rattle.listener_turns.proofs.ListenerLemmas.{not_set, parts_three}
 use Rattle.listener_parts.specs.Letting.{IsLingeringFor, cause_of_late, given_up_tail, tail_of}
 
 -- ## What it is held for

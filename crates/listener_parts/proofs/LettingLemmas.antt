@@ -1,14 +1,14 @@
 -- How connections that wait are let go of, one behind the other.
-use Rattle.std.proofs.Common.{◌≡◌, ℕ, Bool, true, false, List, [], ◌∷◌, ◌++◌, None, Some, Option, refl, sym, ap, subst, ◌∙◌, append-nil, inl, inr}
+use Rattle.std.proofs.Common.{◌≡◌, List, [], ◌∷◌, ◌++◌, None, sym, ap, subst, ◌∙◌, append-nil}
 use Rattle.std.proofs.lemmas.Grind.{flat_map-append}
 use Rattle.std.specs.List.{flat_map}
 use Rattle.std.specs.Prelude.{Result, IfErr}
 use Rattle.std.specs.declared.result.Result.TheVariants.{Ok, Err}
 use Rattle.mpm_base.specs.declared.conn.Cause.{Cause}
 use Rattle.mpm_base.specs.declared.conn.ConnName.{ConnName}
+use Rattle.mpm_base.specs.declared.conn.Tail.{Tail}
 use Rattle.conn_machine.specs.declared.event.Event.{Event}
 use Rattle.conn_machine.specs.declared.event.Event.TheVariants as event
-use Rattle.conn_machine.specs.declared.state.State.{State}
 use Rattle.conn_machine.specs.BetweenTurns.{OthersLeaveTheRestToTheListener}
 use Rattle.conn_machine.specs.States.{is_halted}
 use Rattle.table_rule.specs.declared.view.View.{View}
@@ -21,14 +21,14 @@ use Rattle.worker_group.specs.Service.{left_events}
 use Rattle.board_turns.specs.Books.{book_of, state_of}
 use Rattle.board_turns.specs.Carries.{Lasts}
 use Rattle.board_turns.specs.Rests.{TurnsRestOn}
-use Rattle.board_turns.specs.Turns.{HadATurn, HadTurns}
+use Rattle.board_turns.specs.Turns.{HadATurn}
 use Rattle.board_turns.proofs.TurnLemmas.{more_turns, one_turn}
 use Rattle.listener_turns.specs.declared.held.Due.{Due}
 use Rattle.listener_turns.specs.Holds.{TookUpFor}
 use Rattle.listener_parts.specs.Did.{AreOfConns, Did, LeavesAlone}
-use Rattle.listener_parts.specs.Letting.{AllLeftBy, AreLetGo, Departure, Departures, DrainsUntil, GivesUpDrained, IsDrainedWay, IsLateWay, IsRetiringWay, LetsGo, LetsGoOfConns, LetsGoUntil, LetsOneGo, RefusedWait, departure_events, departures_events, given_up_tail, gone_events, lingering_give_up_events}
-use Rattle.listener_parts.proofs.AloneLemmas.{alone_more, closes_alone, holds_alone, left_alone, turn_alone}
-use Rattle.listener_parts.proofs.DidLemmas.{did_as, did_more, did_nothing, did_then, did_turns, two_turns}
+use Rattle.listener_parts.specs.Letting.{AllLeftBy, Departure, DrainsUntil, GivesUpDrained, IsDrainedWay, IsLateWay, IsRetiringWay, LetsGo, LetsGoOfConns, LetsGoUntil, LetsOneGo, RefusedWait, departure_events, given_up_tail, gone_events, lingering_give_up_events}
+use Rattle.listener_parts.proofs.AloneLemmas.{alone_more, closes_alone, holds_alone, turn_alone}
+use Rattle.listener_parts.proofs.DidLemmas.{did_as, did_more, did_nothing, did_turns, two_turns}
 
 -- ## One connection
 
@@ -182,3 +182,16 @@ lets_go_until f a b c d retiring cut until = record {
 pub if_err_as : {T E : Type 0} (r : Result T E) (P Q : E → Type 0) → ((e : E) → P e → Q e) → IfErr r P → IfErr r Q
 if_err_as (Ok x) P Q goes holds = tt
 if_err_as (Err e) P Q goes holds = goes e holds
+
+-- ## A close behind a refused wait
+
+pub refused_closed : OthersLeaveTheRestToTheListener → TurnsRestOn → (name : ConnName) (why : Cause) (how : Tail) (a b c : View) → a.who.number ≡ 0
+    → HadATurn [] a b → HadATurn (event.Close name why how ∷ []) b c → LeavesAlone (state_of a) (state_of c)
+refused_closed law rests name why how a b c number tried closed =
+    let number' : b.who.number ≡ 0 = ap (λ (w : Who). w.number) tried.1.stays.who ∙ number in
+    alone_more (state_of a) (state_of b) (state_of c) (turn_alone law rests [] a b number tt tried)
+    (turn_alone law rests (event.Close name why how ∷ []) b c number' (closes_alone name why how, tt) closed)
+
+pub if_err_both : {T E : Type 0} (r : Result T E) (P Q R : E → Type 0) → ((e : E) → P e → Q e → R e) → IfErr r P → IfErr r Q → IfErr r R
+if_err_both (Ok x) P Q R both first second = tt
+if_err_both (Err e) P Q R both first second = both e first second

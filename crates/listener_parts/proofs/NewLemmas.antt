@@ -24,7 +24,7 @@ use Rattle.board_book.specs.declared.faults.BoardFault.{BoardFault}
 use Rattle.board_book.specs.declared.faults.BoardFault.TheVariants as fault
 use Rattle.board_book.specs.Faults.{IsRefusedFor}
 use Rattle.board_book.specs.Finds.{cause_of}
-use Rattle.board.specs.Backed.{AreBacked, BacksWait}
+use Rattle.board.specs.Backed.{AreBacked}
 use Rattle.board.specs.BoardLaws.{WaitsAreBackedByCalls}
 use Rattle.board.specs.Editions.{GenerationsKeepTheirEditions, IsOfGeneration}
 use Rattle.board.specs.Fits.{Fits, IsOnItsWay}
@@ -243,3 +243,9 @@ takes_until name f a b c took refused none = record {
   given_up = one_turn (give_up_events f name) refused.between c refused.made;
   row = none;
 }
+
+-- what a caller of a new connection says of it
+pub taken_of : (known : Option KnownOutside) (v : View) (name : ConnName) (child generation : ℕ) (c : SeenConn)
+    → (said : (arrival : ℕ) × HasTaken v name child generation arrival × IfSome c.told (λ t. t.rank ≡ arrival)) → IsNew name child generation c
+    → ServesNewest known v c.reader.limits c.site → IsJustTaken known v name child generation said.0 c
+taken_of known v name child generation c said is_new serves = record { taken = said.1; rank = said.2; is_new = is_new; serves = serves }

@@ -1,5 +1,5 @@
 -- How time passes, slots are signalled, and children start and go, in parts of some turns.
-use Rattle.std.proofs.Common.{◌≡◌, ◌⊎◌, inl, inr, ℕ, zero, suc, ◌+◌, ◌<◌, ◌≤◌, Bool, true, false, List, [], ◌∷◌, ◌++◌, map, max, nat_lt, length, None, Some, slice_set, slice_index, if◌then◌else◌, refl, sym, ap, subst, ◌∙◌, append-nil, append_assoc, arith}
+use Rattle.std.proofs.Common.{◌≡◌, ◌⊎◌, inl, inr, ℕ, zero, suc, ◌+◌, ◌<◌, ◌≤◌, Bool, true, false, List, [], ◌∷◌, ◌++◌, map, max, nat_lt, length, None, slice_set, slice_index, if◌then◌else◌, refl, sym, ap, subst, ◌∙◌, append_assoc, arith}
 use Rattle.std.proofs.lemmas.Bool.Decides.{nat_tests}
 use Rattle.std.proofs.lemmas.List.{map-append}
 use Rattle.std.proofs.lemmas.Result.{on_err_weaker, on_ok_weaker}
@@ -24,7 +24,7 @@ use Rattle.board_book.specs.Finds.{startable}
 use Rattle.listener_turns.specs.Children.{AreStarted}
 use Rattle.listener_turns.specs.Looks.{IsAtRest}
 use Rattle.listener_turns.specs.Signals.{SignalsAll, SignalsFirst, ready_events}
-use Rattle.listener_parts.specs.Did.{AreOfConns, Did, LeavesAlone, StandsAs}
+use Rattle.listener_parts.specs.Did.{AreOfConns, Did, LeavesAlone}
 use Rattle.listener_parts.specs.Letting.{IsLateWay, LetsGo, gone_events}
 use Rattle.listener_parts.specs.Rounds.{AreCredits, IsStill, OpenedWithNone, PassesTime, RetiresSome, Signals, SignalsSome, StartsAtFirst, StartsSome, TicksTo, ticks_to, time_events}
 use Rattle.listener_parts.proofs.AloneLemmas.{alone_same, others_alone, ready_alone, state_behind, turn_alone}

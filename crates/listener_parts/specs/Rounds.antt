@@ -1,10 +1,9 @@
 -- The further parts of a round: time passes, slots are signalled, children are started and let go of, and what the next wait is told.
-use Rattle.std.specs.Prelude.{◌≡◌, ◌<◌, ℕ, true, false, List, [], ◌∷◌, ◌++◌, length, map, min, nat_lt, slice_index, None, if◌then◌else◌}
+use Rattle.std.specs.Prelude.{◌≡◌, ℕ, List, [], ◌∷◌, ◌++◌, length, map, min, nat_lt, slice_index, None, if◌then◌else◌}
 use Rattle.mpm_base.specs.Moment.{greatest_moment}
 use Rattle.conn_machine.specs.declared.event.Entry.{Entry}
 use Rattle.conn_machine.specs.declared.event.Event.{Event}
 use Rattle.conn_machine.specs.declared.event.Event.TheVariants as event
-use Rattle.conn_machine.specs.declared.state.State.{State}
 use Rattle.conn_machine.specs.Folds.{opening_record}
 use Rattle.conn_machine.specs.Passes.{EachHasItsOwn}
 use Rattle.conn_machine.specs.Runs.{first_row}
@@ -14,7 +13,7 @@ use Rattle.board_turns.specs.Turns.{HadTurn, state_found}
 use Rattle.listener_turns.specs.Children.{AreStarted}
 use Rattle.listener_turns.specs.Looks.{IsAtRest}
 use Rattle.listener_turns.specs.Signals.{ready_events}
-use Rattle.listener_parts.specs.Did.{Did, LeavesAlone}
+use Rattle.listener_parts.specs.Did.{Did}
 use Rattle.listener_parts.specs.Letting.{AllLeftBy, Departure, IsLateWay, gone_events}
 
 -- ## Time

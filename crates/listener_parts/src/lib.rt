@@ -23,6 +23,6 @@ pub use credits::{Credits, credit_all, take_all_credits_back, take_credit_back};
 pub use draining::drain_all;
 pub use letting::{let_go_late, let_go_retiring};
 pub use rest::{Rest, fold_history, rest_of};
-pub use starting::{Workers, retire_all, retire_rest, start_children, start_first};
-pub use taking::{accept, settle, take};
+pub use starting::{Workers, retire_all, retire_rest, start_first, start_further};
+pub use taking::{accept_one, settle, take};
 pub use time::{let_go_of_conns, let_time_pass, signal};

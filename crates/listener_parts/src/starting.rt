@@ -14,9 +14,7 @@ use board_lock::{Pass, Shared};
 use board_turns::turns_rest_on_these;
 use conn_machine::laws_between_turns::others_leave_the_rest_to_the_listener;
 use conn_state::Known;
-use listener_turns::{
-    retire_child, retire_children, start_child, start_children as start_all, take_look,
-};
+use listener_turns::{retire_child, retire_children, start_child, start_children, take_look};
 use mpm_base::Link;
 use std::sync::Wait;
 
@@ -48,13 +46,13 @@ pub fn start_first<R: Wait, L: Link, N: Known>(
 {
     turns_rest_on_these();
     others_leave_the_rest_to_the_listener();
-    start_all(rt, shared, pass)?;
+    start_children(rt, shared, pass)?;
     credit_all(rt, shared, pass, credits);
     Ok(())
 }
 
 /// Starts children, the lowest first, while fewer run than should, and gives each its credit in a turn behind its start.
-pub fn start_children<R: Wait, L: Link, N: Known>(
+pub fn start_further<R: Wait, L: Link, N: Known>(
     rt: &R,
     shared: &Shared<Board<L, N>>,
     pass: &mut Pass<Board<L, N>>,

@@ -22,14 +22,14 @@ use conn_machine::laws_between_turns::others_leave_the_rest_to_the_listener;
 use conn_state::{Conn, Known};
 use file_table::Site;
 use http_read::Limits;
-use listener_turns::{accept as accept_once, close, park};
+use listener_turns::{accept, close, park};
 use mpm_base::{Cause, Front, Kind, Link, Tail};
 use std::alloc::Global;
 use std::sync::{Arc, Wait};
 
 /// Takes a connection into a slot, for the child that takes one. Where none does in a turn, or no slot is vacant, it tries again in a further
 /// one: behind a look that found that one may be taken, that is so only until a worker has left what it was handed meanwhile.
-pub fn accept<R: Wait, L: Link, N: Known>(
+pub fn accept_one<R: Wait, L: Link, N: Known>(
     rt: &R,
     shared: &Shared<Board<L, N>>,
     pass: &mut Pass<Board<L, N>>,
@@ -90,7 +90,7 @@ fn try_accept<R: Wait, L: Link, N: Known>(
     ensures err_row { IfErr result (λ _. pass.new.seat.me.0.row ≡ None) }
     ensures why { IfErr result (λ fault. IsRefusedFor fault (book_of pass.new.seat.me.0)) }
 {
-    match accept_once(rt, shared, pass) {
+    match accept(rt, shared, pass) {
         Ok(taken) => Ok(Some(taken)),
         Err(AcceptFault::Halted) => Err(BoardFault::Halted),
         Err(AcceptFault::NoMemory) => Err(BoardFault::NoMemory),
@@ -190,7 +190,7 @@ pub fn take<R: Wait, L: Link, N: Known, F: Front<L = L>>(
 {
     generations_keep_their_editions();
     let mut link = link;
-    let taken = match accept(rt, shared, pass) {
+    let taken = match accept_one(rt, shared, pass) {
         Ok(taken) => taken,
         Err(fault) => {
             front.turn_away(link);

@@ -1,6 +1,5 @@
 //! How time passes, slots are signalled, and connections are let go of behind that.
-ghost use Rattle.std.specs.Prelude.{◌≡◌, ◌++◌, [], ◌∷◌, None, true, length, max, IfErr, OnErr, OnOk};
-ghost use Rattle.conn_machine.specs.declared.event.Event.TheVariants as event;
+ghost use Rattle.std.specs.Prelude.{◌≡◌, None, max, IfErr, OnErr, OnOk};
 ghost use Rattle.board_book.specs.Faults.{IsRefusedFor};
 ghost use Rattle.board_turns.specs.Books.{book_of, state_of};
 ghost use Rattle.board_turns.specs.Carries.{Lasts};

@@ -1,4 +1,4 @@
-use Rattle.std.proofs.Common.{◌≡◌, [], None, slice_index, List, ℕ, ap, sym, ◌∙◌}
+use Rattle.std.proofs.Common.{None, slice_index, List, ℕ, ap, sym, ◌∙◌}
 use Rattle.listener_parts.proofs.AloneLemmas.{alone_same, credit_alone}
 use Rattle.listener_parts.proofs.DidLemmas.{did_credit, did_nothing}
 use Rattle.listener_parts.proofs.RoundLemmas.{credits_given}

@@ -1,4 +1,4 @@
-use Rattle.std.proofs.Common.{◌≡◌, true, false, [], ◌∷◌, None, Some, inl, inr, refl, sym, ◌∙◌, true≢false}
+use Rattle.std.proofs.Common.{true, false, [], None, inl, inr, refl, sym, ◌∙◌, true≢false}
 use Rattle.mpm_base.specs.declared.conn.Tail.TheVariants as tail
 use Rattle.listener_turns.specs.declared.held.Due.TheVariants as due
 use Rattle.worker_group.specs.declared.service.Exit.TheVariants as exit

@@ -1,12 +1,10 @@
-use Rattle.std.proofs.Common.{◌≡◌, true, false, [], ◌∷◌, None, Some, ap, inl, inr, refl, sym, subst, ◌∙◌, true≢false}
+use Rattle.std.proofs.Common.{◌≡◌, true, false, [], None, inl, inr, refl, sym, subst, ◌∙◌, true≢false}
 use Rattle.mpm_base.specs.declared.conn.Cause.{Cause}
 use Rattle.mpm_base.specs.declared.conn.Tail.TheVariants as tail
 use Rattle.conn_machine.specs.declared.event.Event.TheVariants as event
 use Rattle.conn_machine.specs.Table.{is_allowed}
 use Rattle.conn_state.specs.Answered.{MayLinger}
-use Rattle.table_rule.specs.declared.view.View.{View}
 use Rattle.board_turns.specs.Books.{state_of}
-use Rattle.board_turns.specs.Turns.{StaysAs}
 use Rattle.listener_turns.specs.declared.held.Due.TheVariants as due
 use Rattle.worker_group.specs.declared.service.Exit.TheVariants as exit
 use Rattle.worker_group.specs.Service.{IsWayOut}
@@ -14,7 +12,7 @@ use Rattle.listener_parts.specs.Letting.{IsLateWay}
 use Rattle.listener_parts.proofs.AloneLemmas.{left_alone, turn_alone}
 use Rattle.listener_parts.proofs.DidLemmas.{did_turn}
 use Rattle.listener_parts.proofs.HeldLemmas.{held_hand, held_open, held_serves, late_by, late_closes, late_lingers, late_shows}
-use Rattle.listener_parts.proofs.LettingLemmas.{held_turn, lets_one, one_alone}
+use Rattle.listener_parts.proofs.LettingLemmas.{lets_one, one_alone}
 use Rattle.listener_parts.proofs.letting.let_go_late_one.Goals as goal
 
 -- ## None is late

@@ -1,4 +1,4 @@
-use Rattle.std.proofs.Common.{◌≡◌, true, false, [], ◌∷◌, inl, inr, refl, subst}
+use Rattle.std.proofs.Common.{[], ◌∷◌, inl, inr, refl, subst}
 use Rattle.mpm_base.specs.declared.conn.Cause.TheVariants as cause_of
 use Rattle.mpm_base.specs.declared.conn.ConnName.{ConnName}
 use Rattle.mpm_base.specs.declared.conn.Tail.TheVariants.{Direct}

@@ -1,4 +1,4 @@
-use Rattle.std.proofs.Common.{[], None, List, ℕ, slice_index, ap, refl, sym, ◌∙◌}
+use Rattle.std.proofs.Common.{None, List, ℕ, slice_index, ap, sym, ◌∙◌}
 use Rattle.listener_parts.proofs.DidLemmas.{did_look, did_nothing}
 use Rattle.listener_parts.proofs.RoundLemmas.{credits_stay}
 use Rattle.listener_parts.proofs.rest.are_idle_of.Goals as goal

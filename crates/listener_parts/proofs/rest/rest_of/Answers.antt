@@ -1,4 +1,4 @@
-use Rattle.std.proofs.Common.{[], None, sym, true≢false, ◌∙◌}
+use Rattle.std.proofs.Common.{None, sym, true≢false}
 use Rattle.listener_parts.proofs.AloneLemmas.{alone_same}
 use Rattle.listener_parts.proofs.DidLemmas.{did_nothing}
 use Rattle.listener_parts.proofs.RoundLemmas.{alone_still, is_still}

@@ -1,4 +1,4 @@
-use Rattle.std.proofs.Common.{None, ◌∙◌}
+use Rattle.std.proofs.Common.{◌∙◌}
 use Rattle.listener_parts.proofs.RoundLemmas.{signalled_all, signalled_alone, signalled_credits, signalled_some}
 use Rattle.listener_parts.proofs.time.signal.Goals as goal
 

@@ -4,7 +4,7 @@ use Rattle.board_turns.proofs.TurnLemmas.{more_turns, no_turn, one_turn}
 use Rattle.listener_turns.specs.Holds.{HasTaken}
 use Rattle.listener_parts.proofs.AloneLemmas.{alone_more, alone_same, turn_alone}
 use Rattle.listener_parts.proofs.NewLemmas.{accepts_behind, alone_accepted, alone_then_accepted}
-use Rattle.listener_parts.proofs.taking.accept.Goals as goal
+use Rattle.listener_parts.proofs.taking.accept_one.Goals as goal
 
 pub loop-init : goal.loop-init
 loop-init g c = record {

@@ -3,7 +3,7 @@ use Rattle.conn_machine.specs.declared.event.Event.TheVariants as event
 use Rattle.listener_parts.proofs.AloneLemmas.{one_stands, stands_more, stands_same, turn_stands}
 use Rattle.listener_parts.proofs.DidLemmas.{did_nothing, did_turn}
 use Rattle.listener_parts.proofs.RoundLemmas.{credits_stay, starts_end, starts_more, starts_none}
-use Rattle.listener_parts.proofs.starting.start_children.Goals as goal
+use Rattle.listener_parts.proofs.starting.start_further.Goals as goal
 
 pub loop-init : goal.loop-init
 loop-init g c = record {

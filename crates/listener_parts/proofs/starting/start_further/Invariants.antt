@@ -3,7 +3,7 @@ use Rattle.board_turns.specs.Books.{state_of}
 use Rattle.board_turns.specs.Turns.{IsListener}
 use Rattle.listener_parts.specs.Did.{StandsAs}
 use Rattle.listener_parts.specs.Rounds.{AreCredits, StartsSome}
-use Rattle.listener_parts.proofs.starting.start_children.Given as goal
+use Rattle.listener_parts.proofs.starting.start_further.Given as goal
 
 -- children were started, and each that has workers has its credit
 abbrev pub invariant-loop : goal.invariant-loop

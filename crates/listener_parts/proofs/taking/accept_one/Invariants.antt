@@ -2,7 +2,7 @@ use Rattle.std.proofs.Common.{◌≡◌, [], None}
 use Rattle.board_turns.specs.Books.{state_of}
 use Rattle.board_turns.specs.Turns.{HadTurns, IsListener}
 use Rattle.listener_parts.specs.Did.{LeavesAlone}
-use Rattle.listener_parts.proofs.taking.accept.Given as goal
+use Rattle.listener_parts.proofs.taking.accept_one.Given as goal
 
 -- none was taken so far, and nothing else was done
 abbrev pub invariant-loop : goal.invariant-loop
