@@ -2,6 +2,8 @@ pub mod AloneLemmas
 pub mod DidLemmas
 pub mod HeldLemmas
 pub mod LettingLemmas
+pub mod LingeringLemmas
+pub mod MadeLemmas
 pub mod NewLemmas
 pub mod RoundLemmas
 pub mod StopLemmas

@@ -1,5 +1,5 @@
 -- How the server stops in a turn, and when it may.
-use Rattle.std.proofs.Common.{◌≡◌, Bool, true, false, not, ◌&&◌, [], ◌∷◌, if◌then◌else◌, None, Some, refl, sym, ap, ◌∙◌}
+use Rattle.std.proofs.Common.{◌≡◌, Bool, true, false, not, ◌&&◌, [], ◌∷◌, map, if◌then◌else◌, None, Some, refl, sym, ap, ◌∙◌}
 use Rattle.conn_machine.specs.declared.event.Commanded.TheVariants.{Stop}
 use Rattle.conn_machine.specs.declared.event.Event.TheVariants as event
 use Rattle.conn_machine.specs.declared.event.Why.{Why}
@@ -13,10 +13,12 @@ use Rattle.table_rule.specs.declared.view.View.{View}
 use Rattle.board_turns.specs.Books.{state_of}
 use Rattle.board_turns.specs.Rests.{TurnsRestOn}
 use Rattle.board_turns.specs.Turns.{HadATurn, state_found}
-use Rattle.listener_parts.specs.Closing.{IsOwnReason, halts_for}
+use Rattle.listener_parts.specs.Closing.{ClosesDown, IsHaltedWay, IsOwnReason, halts_for}
 use Rattle.listener_parts.specs.Did.{Did, LeavesAlone}
+use Rattle.listener_parts.specs.Letting.{LetsGo, gone_events}
+use Rattle.listener_parts.specs.Rounds.{RetiresSome}
 use Rattle.listener_parts.proofs.AloneLemmas.{others_alone, turn_alone}
-use Rattle.listener_parts.proofs.DidLemmas.{did_turn}
+use Rattle.listener_parts.proofs.DidLemmas.{did_more, did_turn}
 use Rattle.listener_parts.proofs.RoundLemmas.{next_behind}
 
 pub stop_did : (reason : Why) (done : Bool) (old new : View) → HadATurn (if done then event.Command (Stop reason) ∷ [] else []) old new → new.row ≡ None
@@ -73,3 +75,13 @@ stop_may law rests reason false old new number own may turn stays =
     let same = allowed_still reason (state_of old) (state_of new) own (turn_alone law rests [] old new number tt turn) in
     let refused : is_allowed (state_of old) (event.Command (Stop reason)) ≡ false = sym same ∙ stays refl in
     absurd (cc (refused, may))
+
+-- ## Going down
+
+pub closes_down : (a b c : View) → LetsGo IsHaltedWay a b → RetiresSome b c → ClosesDown a c
+closes_down a b c lets retires = record {
+  gone = lets.gone;
+  ways = lets.ways;
+  children = retires.children;
+  did = did_more (gone_events lets.gone) (map event.Retire retires.children) None None a b c lets.did retires.did;
+}

@@ -1,7 +1,7 @@
 //! How the server stops, and how connections that wait are closed behind that.
-ghost use Rattle.std.specs.Prelude.{◌≡◌, [], None, Some, true, false, if◌then◌else◌};
+ghost use Rattle.std.specs.Prelude.{◌≡◌, ℕ, [], None, Some, true, false, if◌then◌else◌};
 ghost use Rattle.conn_machine.specs.States.{is_halted};
-ghost use Rattle.conn_machine.specs.Table.{is_allowed};
+ghost use Rattle.conn_machine.specs.Table.{is_allowed, may_retire};
 ghost use Rattle.conn_machine.specs.declared.event.Commanded.TheVariants.{Stop};
 ghost use Rattle.conn_machine.specs.declared.event.Event.TheVariants as event;
 ghost use Rattle.conn_machine.specs.declared.state.Going.TheVariants.{Halted};
@@ -10,10 +10,13 @@ ghost use Rattle.board_turns.specs.Books.{state_of};
 ghost use Rattle.board_turns.specs.Turns.{IsListener};
 ghost use Rattle.listener_turns.specs.Holds.{is_taken_for};
 ghost use Rattle.listener_turns.specs.declared.held.Due.TheVariants as due;
-ghost use Rattle.listener_parts.specs.Closing.{IsHaltedWay, IsOwnReason, halts_for};
-ghost use Rattle.listener_parts.specs.Did.{Did, LeavesAlone};
+ghost use Rattle.listener_parts.specs.Closing.{ClosesDown, IsHaltedWay, IsOwnReason, halts_for};
+ghost use Rattle.listener_parts.specs.Did.{Did, LeavesAlone, StandsAs};
 ghost use Rattle.listener_parts.specs.Letting.{LetsGo, LetsOneGo};
+ghost use Rattle.listener_parts.specs.Rounds.{AreCredits, NoneHasCredit};
 
+use crate::credits::{Credits, take_all_credits_back};
+use crate::starting::{Workers, retire_rest};
 use board::Board;
 use board_lock::{Pass, Shared};
 use board_turns::turns_rest_on_these;
@@ -124,4 +127,57 @@ fn close_one<R: Wait, L: Link, N: Known>(
         None => close(rt, shared, pass, Cause::Stopped, Tail::Direct, conn),
     }
     true
+}
+
+/// Goes down behind a stop: each connection that waits is closed, the workers of all children come back and end, what they left waiting is
+/// closed, the credits are taken back, and each child is let go of. Takes no memory.
+pub fn close_down<R: Wait, L: Link, N: Known, W: Workers>(
+    rt: &R,
+    shared: &Shared<Board<L, N>>,
+    pass: &mut Pass<Board<L, N>>,
+    credits: &mut Credits,
+    workers: &mut W,
+)
+    requires own { pass.old.seat.table_id ≡ shared.now.table.shared.table_id }
+    requires listener { IsListener pass.old.seat.me }
+    requires none { pass.old.seat.me.0.row ≡ None }
+    requires credits { AreCredits credits.old pass.old.seat.me.0 }
+    requires halted { is_halted (state_of pass.old.seat.me.0).going ≡ true }
+    ensures own { pass.new.seat.table_id ≡ pass.old.seat.table_id }
+    ensures listener { IsListener pass.new.seat.me }
+    ensures down { ClosesDown pass.old.seat.me.0 pass.new.seat.me.0 }
+    ensures rest { StandsAs (state_of pass.old.seat.me.0) (state_of pass.new.seat.me.0) }
+    ensures all { (child : ℕ) → may_retire (state_of pass.new.seat.me.0) child ≡ false }
+{
+    close_waiting(rt, shared, pass);
+    workers.finish(rt);
+    close_waiting(rt, shared, pass);
+    take_credits_back_at_last(rt, shared, pass, credits);
+    retire_rest(rt, shared, pass, &*credits);
+}
+
+/// The credit of each child is taken back, once no permit is out any more.
+fn take_credits_back_at_last<R: Wait, L: Link, N: Known>(
+    rt: &R,
+    shared: &Shared<Board<L, N>>,
+    pass: &mut Pass<Board<L, N>>,
+    credits: &mut Credits,
+)
+    requires own { pass.old.seat.table_id ≡ shared.now.table.shared.table_id }
+    requires listener { IsListener pass.old.seat.me }
+    requires none { pass.old.seat.me.0.row ≡ None }
+    requires credits { AreCredits credits.old pass.old.seat.me.0 }
+    ensures own { pass.new.seat.table_id ≡ pass.old.seat.table_id }
+    ensures listener { IsListener pass.new.seat.me }
+    ensures did { Did [] None pass.old.seat.me.0 pass.new.seat.me.0 }
+    ensures seen { pass.new.seat.me.0.seen ≡ pass.old.seat.me.0.seen }
+    ensures credits { AreCredits credits.new pass.new.seat.me.0 }
+    ensures taken_back { NoneHasCredit credits.new }
+{
+    for _ in rt.forever() {
+        if take_all_credits_back(shared, pass, credits) {
+            return;
+        }
+    }
+    unreachable!()
 }

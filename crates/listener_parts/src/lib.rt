@@ -18,7 +18,7 @@ mod starting;
 mod taking;
 mod time;
 
-pub use closing::{close_waiting, stop};
+pub use closing::{close_down, close_waiting, stop};
 pub use credits::{Credits, credit_all, take_all_credits_back, take_credit_back};
 pub use draining::drain_all;
 pub use letting::{let_go_late, let_go_retiring};

@@ -22,6 +22,9 @@ use std::sync::Wait;
 pub trait Workers {
     /// Ends the workers of the child, whose credit was taken back, so that no connection is on its way to them. It returns once they are gone.
     fn end<R: Wait>(&mut self, rt: &R, child: u32);
+
+    /// Ends the workers of all children, once the server has stopped: each leaves the connection that it has. It returns once they are gone.
+    fn finish<R: Wait>(&mut self, rt: &R);
 }
 
 /// Starts the first children, in order of number and all in one turn, and gives each its credit.

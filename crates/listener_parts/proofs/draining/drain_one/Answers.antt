@@ -6,7 +6,8 @@ use Rattle.board_turns.specs.Books.{state_of}
 use Rattle.listener_parts.specs.Letting.{IsDrainedWay}
 use Rattle.listener_parts.proofs.AloneLemmas.{alone_more, left_alone, turn_alone}
 use Rattle.listener_parts.proofs.DidLemmas.{did_turn}
-use Rattle.listener_parts.proofs.HeldLemmas.{after_not_ready, backs_turned, closes_turned, held_lingering, held_lingers, held_way, holds_turned, late_closes, lingering_some, lingers_turned, may_wait_on, not_ready}
+use Rattle.listener_parts.proofs.HeldLemmas.{held_lingering, held_lingers, held_way, holds_turned, late_closes, lingering_some}
+use Rattle.listener_parts.proofs.LingeringLemmas.{after_not_ready, backs_turned, closes_turned, lingers_turned, may_wait_on, not_ready}
 use Rattle.listener_parts.proofs.LettingLemmas.{drained_alone, gives_up_drained, held_alone, held_number, lets_named, lets_one, one_alone, refused_alone, refused_lasts}
 use Rattle.listener_parts.proofs.draining.drain_one.Goals as goal
 

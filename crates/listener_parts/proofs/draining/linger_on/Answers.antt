@@ -5,7 +5,8 @@ use Rattle.conn_state.specs.Conn.{SeenConn}
 use Rattle.board_turns.specs.Books.{state_of}
 use Rattle.board_turns.specs.Turns.{HadATurn}
 use Rattle.worker_group.specs.InHand.{IsClosable}
-use Rattle.listener_parts.proofs.HeldLemmas.{gives_up_lingering, lingering_stays, may_linger_on}
+use Rattle.listener_parts.proofs.HeldLemmas.{gives_up_lingering, lingering_stays}
+use Rattle.listener_parts.proofs.LingeringLemmas.{may_linger_on}
 use Rattle.listener_parts.proofs.NewLemmas.{halted_by}
 use Rattle.listener_parts.proofs.draining.linger_on.Goals as goal
 
