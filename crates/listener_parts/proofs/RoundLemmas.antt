@@ -1,5 +1,5 @@
 -- How time passes, slots are signalled, and children start and go, in parts of some turns.
-use Rattle.std.proofs.Common.{◌≡◌, ◌⊎◌, inl, inr, ℕ, zero, suc, ◌+◌, ◌<◌, ◌≤◌, Bool, true, false, List, [], ◌∷◌, ◌++◌, map, max, nat_lt, length, None, slice_set, slice_index, if◌then◌else◌, refl, sym, ap, subst, ◌∙◌, append_assoc, arith}
+use Rattle.std.proofs.Common.{◌≡◌, ◌⊎◌, inl, inr, ℕ, zero, suc, ◌+◌, ◌<◌, ◌≤◌, Bool, true, false, List, [], ◌∷◌, ◌++◌, map, max, nat_lt, length, None, replicate, slice_set, slice_index, if◌then◌else◌, refl, sym, ap, subst, ◌∙◌, append_assoc, arith}
 use Rattle.std.proofs.lemmas.Bool.Decides.{nat_tests}
 use Rattle.std.proofs.lemmas.List.{map-append}
 use Rattle.std.proofs.lemmas.Result.{on_err_weaker, on_ok_weaker}
@@ -401,3 +401,9 @@ retires_turn children old new turn none = record {
   children = children;
   did = did_turn (map event.Retire children) None old new turn none;
 }
+
+-- where no credit was given no child has one
+pub none_given : (count child : ℕ) → slice_index (replicate count 0) child ≡ 0
+none_given zero child = refl
+none_given (suc count) zero = refl
+none_given (suc count) (suc child) = none_given count child

@@ -33,6 +33,12 @@ returns-in_default-clause-quiet g c _ = c.in_default.ensures.quiet
 
 -- ## One that lingers
 
+pub close-requires-clause-hand : goal.close-requires-clause-hand
+close-requires-clause-hand g c = c.hold.ensures.listener.turnless.hand
+
+pub close-requires-clause-holds : goal.close-requires-clause-holds
+close-requires-clause-holds g c = c.in-Some.ensures.held.holds
+
 pub close-requires-clause-may : goal.close-requires-clause-may
 close-requires-clause-may g c =
     halted_closes g.N.Known.known _ c.in-Some.held.conn c.in-Some.held.kind c.in-Some.held.cause c.in-Some.held.late c.in-Some-cause.cause c.in-Some.ensures.held c.in-Some-cause.is
@@ -57,6 +63,12 @@ pub returns-in-Some-cause-clause-quiet : goal.returns-in-Some-cause-clause-quiet
 returns-in-Some-cause-clause-quiet g c z = absurd (true≢false z)
 
 -- ## One that doesn't
+
+pub close-requires-in-None-clause-hand : goal.close-requires-in-None-clause-hand
+close-requires-in-None-clause-hand g c = c.hold.ensures.listener.turnless.hand
+
+pub close-requires-in-None-clause-holds : goal.close-requires-in-None-clause-holds
+close-requires-in-None-clause-holds g c = c.in-Some.ensures.held.holds
 
 pub close-requires-in-None-clause-may : goal.close-requires-in-None-clause-may
 close-requires-in-None-clause-may g c =

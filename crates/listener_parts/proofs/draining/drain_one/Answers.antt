@@ -37,6 +37,12 @@ unreachable-requires g c =
 
 -- ## One whose time is over
 
+pub close-requires-clause-hand : goal.close-requires-clause-hand
+close-requires-clause-hand g c = c.hold.ensures.listener.turnless.hand
+
+pub close-requires-clause-holds : goal.close-requires-clause-holds
+close-requires-clause-holds g c = c.in-Some.ensures.held.holds
+
 pub close-requires-clause-may : goal.close-requires-clause-may
 close-requires-clause-may g c =
     let h = c.in-Some.ensures.held in
@@ -68,6 +74,9 @@ pub linger_turn-requires : goal.linger_turn-requires
 linger_turn-requires g c =
     (held_way due.Lingering g.N.Known.known _ c.in-Some.held.conn c.in-Some.held.kind c.in-Some.held.cause c.in-Some.held.late c.in-Some-cause.cause
     c.in-Some.ensures.held c.in-Some-cause.is).half_closed
+
+pub close-requires-in-Some-tail_of-clause-hand : goal.close-requires-in-Some-tail_of-clause-hand
+close-requires-in-Some-tail_of-clause-hand g c = c.hold.ensures.listener.turnless.hand
 
 pub close-requires-in-Some-tail_of-clause-holds : goal.close-requires-in-Some-tail_of-clause-holds
 close-requires-in-Some-tail_of-clause-holds g c = holds_turned g.N.Known.known _ c.in-Some.held.conn c.linger_turn.new.self c.linger_turn.result c.linger_turn.ensures c.in-Some.ensures.held.holds
@@ -107,6 +116,9 @@ pub returns-in-Some-tail_of-clause-quiet : goal.returns-in-Some-tail_of-clause-q
 returns-in-Some-tail_of-clause-quiet g c z = absurd (true≢false z)
 
 -- ## One that lingers on
+
+pub linger_on-requires-clause-hand : goal.linger_on-requires-clause-hand
+linger_on-requires-clause-hand g c = c.hold.ensures.listener.turnless.hand
 
 pub linger_on-requires-clause-holds : goal.linger_on-requires-clause-holds
 linger_on-requires-clause-holds g c = holds_turned g.N.Known.known _ c.in-Some.held.conn c.linger_turn.new.self c.linger_turn.result c.linger_turn.ensures c.in-Some.ensures.held.holds

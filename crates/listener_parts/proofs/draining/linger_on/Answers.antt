@@ -15,6 +15,12 @@ park-requires-clause-may g c =
     may_linger_on (state_of c.args.pass.now.seat.me.0) c.args.kind c.args.cause c.args.conn c.requires.lingers c.requires.kind c.requires.waits c.show.ensures.conn
     c.requires.backed c.requires.allowed
 
+pub close-requires-clause-hand : goal.close-requires-clause-hand
+close-requires-clause-hand g c = c.park.ensures.listener.turnless.hand
+
+pub close-requires-clause-holds : goal.close-requires-clause-holds
+close-requires-clause-holds g c = c.in-Err.ensures.held
+
 pub close-requires-clause-may : goal.close-requires-clause-may
 close-requires-clause-may g c =
     let s = state_of c.args.pass.now.seat.me.0 in

@@ -35,6 +35,12 @@ returns-in_default-clause-quiet g c _ = c.in_default.ensures.quiet
 
 -- ## One that lingers
 
+pub close-requires-clause-hand : goal.close-requires-clause-hand
+close-requires-clause-hand g c = c.hold.ensures.listener.turnless.hand
+
+pub close-requires-clause-holds : goal.close-requires-clause-holds
+close-requires-clause-holds g c = c.in-Some.ensures.held.holds
+
 pub close-requires-clause-may : goal.close-requires-clause-may
 close-requires-clause-may g c =
     let h = c.in-Some.ensures.held in
@@ -46,6 +52,12 @@ close-requires-clause-may g c =
 pub cause_of_late-requires : goal.cause_of_late-requires
 cause_of_late-requires g c =
     held_serves due.Late g.N.Known.known _ c.in-Some.held.conn c.in-Some.held.kind c.in-Some.held.cause c.in-Some.held.late c.in-Some.ensures.held c.in-None.is
+
+pub linger_for-requires-clause-hand : goal.linger_for-requires-clause-hand
+linger_for-requires-clause-hand g c = c.hold.ensures.listener.turnless.hand
+
+pub linger_for-requires-clause-holds : goal.linger_for-requires-clause-holds
+linger_for-requires-clause-holds g c = c.in-Some.ensures.held.holds
 
 pub linger_for-requires-clause-in_hand : goal.linger_for-requires-clause-in_hand
 linger_for-requires-clause-in_hand g c =

@@ -27,6 +27,12 @@ returns-in_default-clause-quiet g c _ = c.in_default.ensures.quiet
 
 -- ## One that does
 
+pub linger_for-requires-clause-hand : goal.linger_for-requires-clause-hand
+linger_for-requires-clause-hand g c = c.hold.ensures.listener.turnless.hand
+
+pub linger_for-requires-clause-holds : goal.linger_for-requires-clause-holds
+linger_for-requires-clause-holds g c = c.in-Some.ensures.held.holds
+
 pub linger_for-requires-clause-in_hand : goal.linger_for-requires-clause-in_hand
 linger_for-requires-clause-in_hand g c =
     let h = c.in-Some.ensures.held in

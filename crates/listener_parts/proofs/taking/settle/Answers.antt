@@ -19,6 +19,9 @@ use Rattle.listener_parts.proofs.taking.settle.Goals as goal
 
 -- ## Its watch failed
 
+pub close-requires-clause-hand : goal.close-requires-clause-hand
+close-requires-clause-hand g c = c.requires.listener.turnless.hand
+
 pub close-requires-clause-holds : goal.close-requires-clause-holds
 close-requires-clause-holds g c =
     let j = taken_of g.N.Known.known _ c.args.taken.name c.args.taken.child c.args.taken.generation c.args.conn c.requires.taken c.requires.is_new c.requires.serves in
@@ -45,6 +48,9 @@ returns-then-not-watched-clause-rest g c =
 
 -- ## It waits
 
+pub park-requires-clause-hand : goal.park-requires-clause-hand
+park-requires-clause-hand g c = c.requires.listener.turnless.hand
+
 pub park-requires-clause-holds : goal.park-requires-clause-holds
 park-requires-clause-holds g c =
     let j = taken_of g.N.Known.known _ c.args.taken.name c.args.taken.child c.args.taken.generation c.args.conn c.requires.taken c.requires.is_new c.requires.serves in
@@ -69,6 +75,12 @@ returns-in-Ok-clause-rest g c =
     (left_alone (exit.Park Reading) c.args.conn.name) c.in-Ok.ensures.turn
 
 -- ## Its wait was refused
+
+pub close-requires-in-Err-clause-hand : goal.close-requires-in-Err-clause-hand
+close-requires-in-Err-clause-hand g c = c.park.ensures.listener.turnless.hand
+
+pub close-requires-in-Err-clause-holds : goal.close-requires-in-Err-clause-holds
+close-requires-in-Err-clause-holds g c = c.in-Err.ensures.held
 
 pub close-requires-in-Err-clause-may : goal.close-requires-in-Err-clause-may
 close-requires-in-Err-clause-may g c =
