@@ -1,4 +1,5 @@
 //! How the server stops, and how connections that wait are closed behind that.
+//! Why it is so stands in docs/DECISIONS.md: 117, Parts of the listener's round.
 ghost use Rattle.std.specs.Prelude.{◌≡◌, ℕ, [], None, Some, true, false, if◌then◌else◌};
 ghost use Rattle.conn_machine.specs.States.{is_halted};
 ghost use Rattle.conn_machine.specs.Table.{is_allowed, may_retire};

@@ -1,4 +1,5 @@
 //! The credits that the listener gave: how many workers of each child nobody but those who reserve them may use.
+//! Why it is so stands in docs/DECISIONS.md: 117, Parts of the listener's round.
 ghost use Rattle.std.specs.Prelude.{◌≡◌, ◌<◌, [], None, true, false, length, slice_index, slice_set};
 ghost use Rattle.board_turns.specs.Books.{state_of};
 ghost use Rattle.board_turns.specs.Turns.{IsListener};

@@ -1,6 +1,7 @@
 //! How the listener lets go of connections that wait, that are late, or whose child stops.
 //!
 //! Each connection is held in one turn, its link is half-closed behind that, and it is let go of in a further turn.
+//! Why it is so stands in docs/DECISIONS.md: 117, Parts of the listener's round.
 ghost use Rattle.std.specs.Prelude.{◌≡◌, [], None, true, false};
 ghost use Rattle.conn_machine.specs.Rows.{is_linger_kind};
 ghost use Rattle.conn_machine.specs.Table.{is_allowed};

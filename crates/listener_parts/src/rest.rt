@@ -1,4 +1,5 @@
 //! What the next wait of the front is told, and folds of the history.
+//! Why it is so stands in docs/DECISIONS.md: 117, Parts of the listener's round.
 ghost use Rattle.std.specs.Prelude.{◌≡◌, ◌<◌, [], None, true};
 ghost use Rattle.board_book.specs.Finds.{next_deadline_of};
 ghost use Rattle.board_turns.specs.Books.{state_of};

@@ -1,5 +1,5 @@
 //! How a connection is taken: it is accepted in one turn, the front watches its link behind that, and in a further turn it begins to wait.
-//! Why it is so stands in docs/DECISIONS.md: 109, Turns of the listener.
+//! Why it is so stands in docs/DECISIONS.md: 117, Parts of the listener's round.
 ghost use Rattle.std.specs.Prelude.{◌≡◌, ◌<◌, ℕ, [], ◌∷◌, None, true, false, IfErr, IfNone, IfOk, IfSome, OnOk};
 ghost use Rattle.conn_machine.specs.declared.event.Event.TheVariants as event;
 ghost use Rattle.conn_state.specs.Conn.{IsFresh};

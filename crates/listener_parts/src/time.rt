@@ -1,4 +1,5 @@
 //! How time passes, slots are signalled, and connections are let go of behind that.
+//! Why it is so stands in docs/DECISIONS.md: 117, Parts of the listener's round.
 ghost use Rattle.std.specs.Prelude.{◌≡◌, None, max, IfErr, OnErr, OnOk};
 ghost use Rattle.board_book.specs.Faults.{IsRefusedFor};
 ghost use Rattle.board_turns.specs.Books.{book_of, state_of};
