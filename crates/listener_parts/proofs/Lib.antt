@@ -5,5 +5,6 @@ pub mod LettingLemmas
 pub mod LingeringLemmas
 pub mod MadeLemmas
 pub mod NewLemmas
+pub mod RestLemmas
 pub mod RoundLemmas
 pub mod StopLemmas

@@ -1,6 +1,6 @@
 mod ChildrenLemmas
 mod HeldLemmas
 pub mod ListenerLemmas
-mod LookLemmas
+pub mod LookLemmas
 mod ManyLemmas
 mod TakenLemmas
