@@ -32,17 +32,17 @@ use Rattle.listener_parts.proofs.DidLemmas.{did_as, did_more, did_no_more, did_t
 
 -- ## Time
 
+one_entry : (e : Event) (s : State) (added : List Entry) → map (λ (x : Entry). x.event) added ≡ e ∷ [] → after s added ≡ next s e
+one_entry e s [] is = absurd (cc)
+one_entry e s (x ∷ []) is =
+    let same : x.event ≡ e = cc in
+    ap (next s) same
+one_entry e s (x ∷ y ∷ added) is = absurd (cc)
+
 -- the state behind a turn in which one event was made, of which is known what it makes of each state
 pub next_behind : TurnsRestOn → (found : List Entry) (e : Event) (old new : View) → HadTurn found (e ∷ []) old new → state_of new ≡ next (state_found old found) e
 next_behind rests found e old new t =
-    state_behind rests found (e ∷ []) old new t ∙ one_entry (state_found old found) t.added t.events_are
-  where
-    one_entry : (s : State) (added : List Entry) → map (λ (x : Entry). x.event) added ≡ e ∷ [] → after s added ≡ next s e
-    one_entry s [] is = absurd (cc)
-    one_entry s (x ∷ []) is =
-        let same : x.event ≡ e = cc in
-        ap (next s) same
-    one_entry s (x ∷ y ∷ added) is = absurd (cc)
+    state_behind rests found (e ∷ []) old new t ∙ one_entry e (state_found old found) t.added t.events_are
 
 -- time passed to the moment, and nothing else the listener decides was done
 pub tick_behind : OthersLeaveTheRestToTheListener → TurnsRestOn → (to : ℕ) (old new : View) → old.who.number ≡ 0 → HadATurn (event.Tick to ∷ []) old new

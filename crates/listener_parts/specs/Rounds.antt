@@ -1,5 +1,5 @@
 -- The further parts of a round: time passes, slots are signalled, children are started and let go of, and what the next wait is told.
-use Rattle.std.specs.Prelude.{◌≡◌, ℕ, List, [], ◌∷◌, ◌++◌, length, map, min, nat_lt, slice_index, None, if◌then◌else◌}
+use Rattle.std.specs.Prelude.{◌≡◌, ℕ, true, List, [], ◌∷◌, ◌++◌, length, map, min, nat_lt, slice_index, None, if◌then◌else◌}
 use Rattle.mpm_base.specs.Moment.{greatest_moment}
 use Rattle.conn_machine.specs.declared.event.Entry.{Entry}
 use Rattle.conn_machine.specs.declared.event.Event.{Event}
@@ -7,6 +7,7 @@ use Rattle.conn_machine.specs.declared.event.Event.TheVariants as event
 use Rattle.conn_machine.specs.Folds.{opening_record}
 use Rattle.conn_machine.specs.Passes.{EachHasItsOwn}
 use Rattle.conn_machine.specs.Runs.{first_row}
+use Rattle.conn_machine.specs.Table.{is_allowed}
 use Rattle.table_rule.specs.declared.view.View.{View}
 use Rattle.board_turns.specs.Books.{state_of}
 use Rattle.board_turns.specs.Turns.{HadTurn, state_found}
@@ -15,6 +16,12 @@ use Rattle.listener_turns.specs.Looks.{IsAtRest}
 use Rattle.listener_turns.specs.Signals.{ready_events}
 use Rattle.listener_parts.specs.Did.{Did}
 use Rattle.listener_parts.specs.Letting.{AllLeftBy, Departure, IsLateWay, gone_events}
+
+-- ## A rest
+
+-- no pass had a connection as the server opened
+abbrev pub OpenedWithNone : View → Type 0
+OpenedWithNone v = EachHasItsOwn v.origin.state (first_row (opening_record v.origin.passes))
 
 -- ## Time
 
@@ -43,6 +50,20 @@ pub record TicksTo (to : ℕ) (old new : View) : Type 0 where
   pub early : List Departure
   pub early_ways : AllLeftBy IsLateWay early
   pub did : Did (gone_events early ++ event.Tick to ∷ []) None old new
+
+-- no pass had a connection as the server opened, and in the state of all that the pass has seen nothing is left to be done, and time may
+-- pass to that moment
+pub record IsRestedFor (to : ℕ) (v : View) : Type 0 where
+  pub opened : OpenedWithNone v
+  pub at_rest : IsAtRest (state_of v)
+  pub allowed : is_allowed (state_of v) (event.Tick to) ≡ true
+
+-- the first entry that was added to what the pass had seen is that of the time that passed: nobody did anything before
+pub record TicksAtOnce (to : ℕ) (old new : View) : Type 0 where
+  pub tick : Entry
+  pub rest : List Entry
+  pub seen : new.seen ≡ old.seen ++ tick ∷ rest
+  pub event_is : tick.event ≡ event.Tick to
 
 -- ## Signals
 
@@ -89,10 +110,6 @@ abbrev pub NoneHasCredit : List ℕ → Type 0
 NoneHasCredit credits = (child : ℕ) → slice_index credits child ≡ 0
 
 -- ## The rest
-
--- no pass had a connection as the server opened
-abbrev pub OpenedWithNone : View → Type 0
-OpenedWithNone v = EachHasItsOwn v.origin.state (first_row (opening_record v.origin.passes))
 
 -- nothing is left to be done in the state of all that the pass has seen, which is what it had seen before
 pub record IsStill (old new : View) : Type 0 where

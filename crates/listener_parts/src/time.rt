@@ -7,14 +7,16 @@ ghost use Rattle.board_turns.specs.Carries.{Lasts};
 ghost use Rattle.board_turns.specs.Turns.{IsListener};
 ghost use Rattle.listener_parts.specs.Did.{LeavesAlone};
 ghost use Rattle.listener_parts.specs.Letting.{IsLateWay, LetsGo, LetsGoOfConns, LetsGoUntil};
-ghost use Rattle.listener_parts.specs.Rounds.{PassesTime, Signals, SignalsSome, TicksTo, moment_for};
+ghost use Rattle.listener_parts.specs.Rounds.{IsRestedFor, PassesTime, Signals, SignalsSome, TicksAtOnce, TicksTo, moment_for};
 
 use crate::draining::drain_all;
 use crate::letting::{let_go_late, let_go_retiring};
 use board::{Board, BoardFault};
 use board_lock::{Pass, Shared};
 use board_turns::turns_rest_on_these;
-use conn_machine::laws_between_turns::others_leave_the_rest_to_the_listener;
+use conn_machine::laws_between_turns::{
+    others_leave_the_rest_to_the_listener, quiet_tables_are_the_listeners,
+};
 use conn_state::Known;
 use listener_turns::{pass_time, signal_all};
 use mpm_base::{GREATEST_MOMENT, Link, Moment};
@@ -42,6 +44,9 @@ pub fn let_time_pass<R: Wait, L: Link, N: Known>(
     ensures why { IfErr result (λ fault. IsRefusedFor fault (book_of pass.new.seat.me.0)) }
     ensures no_row { pass.new.seat.me.0.row ≡ None }
     ensures credits { pass.new.seat.me.0.credits ≡ pass.old.seat.me.0.credits }
+    ensures at_once { OnOk result
+        (IsRestedFor (moment_for moment) pass.old.seat.me.0
+        → TicksAtOnce (moment_for moment) pass.old.seat.me.0 pass.new.seat.me.0) }
     ensures moment { OnOk result
         ((state_of pass.new.seat.me.0).moment
         ≡ max (state_of pass.old.seat.me.0).moment (moment_for moment)) }
@@ -80,12 +85,16 @@ fn tick<R: Wait, L: Link, N: Known>(
     ensures why { IfErr result (λ fault. IsRefusedFor fault (book_of pass.new.seat.me.0)) }
     ensures no_row { pass.new.seat.me.0.row ≡ None }
     ensures credits { pass.new.seat.me.0.credits ≡ pass.old.seat.me.0.credits }
+    ensures at_once { OnOk result
+        (IsRestedFor moment pass.old.seat.me.0
+        → TicksAtOnce moment pass.old.seat.me.0 pass.new.seat.me.0) }
     ensures moment { OnOk result ((state_of pass.new.seat.me.0).moment ≡ moment) }
     ensures rest { LeavesAlone (record (state_of pass.old.seat.me.0)
         { moment = (state_of pass.new.seat.me.0).moment }) (state_of pass.new.seat.me.0) }
     ensures stays { OnErr result
         (LeavesAlone (state_of pass.old.seat.me.0) (state_of pass.new.seat.me.0)) }
 {
+    quiet_tables_are_the_listeners();
     turns_rest_on_these();
     others_leave_the_rest_to_the_listener();
     for _ in rt.forever() {

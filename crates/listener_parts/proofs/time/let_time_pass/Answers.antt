@@ -1,6 +1,7 @@
 use Rattle.std.proofs.Common.{◌≡◌, sym, ◌∙◌, subst, nat_lt, true, false, arith}
 use Rattle.board_turns.specs.Books.{state_of}
-use Rattle.listener_parts.specs.Rounds.{TicksTo, moment_for}
+use Rattle.listener_parts.specs.Rounds.{IsRestedFor, TicksAtOnce, TicksTo, moment_for}
+use Rattle.listener_parts.proofs.RestLemmas.{rested_later, ticks_on}
 use Rattle.listener_parts.proofs.RoundLemmas.{alone_late, alone_moment, is_below, later_is, not_below, passes_later, passes_none, present_is}
 use Rattle.listener_parts.proofs.time.let_time_pass.Goals as goal
 
@@ -13,6 +14,13 @@ returns-in_ok-tick-clause-passes g c =
     let later : nat_lt now to ≡ true = is_below now to (omega (arith, c.requires.present, c.min-moment.ensures, c.if-moment.true)) in
     passes_later to _ _ _ later (subst (λ m. TicksTo m c.args.pass.now.seat.me.0 c.tick.new.pass.seat.me.0) c.min-moment.ensures c.in_ok-tick.ensures.ticks)
     c.let_go_late.ensures.gone
+
+pub returns-in_ok-tick-clause-at_once : goal.returns-in_ok-tick-clause-at_once
+returns-in_ok-tick-clause-at_once g c rested =
+    let once =
+    subst (λ m. IsRestedFor m c.args.pass.now.seat.me.0 → TicksAtOnce m c.args.pass.now.seat.me.0 c.tick.new.pass.seat.me.0) c.min-moment.ensures
+    c.in_ok-tick.ensures.at_once in
+    ticks_on (moment_for c.args.moment) _ _ _ (once rested) c.let_go_late.ensures.gone.did.goes_on
 
 pub returns-in_ok-tick-clause-moment : goal.returns-in_ok-tick-clause-moment
 returns-in_ok-tick-clause-moment g c =
@@ -37,6 +45,13 @@ returns-else-moment-clause-passes g c =
     let now = (state_of c.args.pass.now.seat.me.0).moment in
     let early : nat_lt now to ≡ false = not_below now to (omega (arith, c.requires.present, c.min-moment.ensures, c.if-moment.false)) in
     passes_none to _ _ early c.let_go_late.ensures.gone
+
+pub returns-else-moment-clause-at_once : goal.returns-else-moment-clause-at_once
+returns-else-moment-clause-at_once g c rested =
+    let to = moment_for c.args.moment in
+    let now = (state_of c.args.pass.now.seat.me.0).moment in
+    let early : nat_lt now to ≡ false = not_below now to (omega (arith, c.requires.present, c.min-moment.ensures, c.if-moment.false)) in
+    absurd (rested_later to c.args.pass.now.seat.me.0 rested early)
 
 pub returns-else-moment-clause-moment : goal.returns-else-moment-clause-moment
 returns-else-moment-clause-moment g c =

@@ -4,6 +4,7 @@ use Rattle.listener_parts.specs.Letting.{IsLateWay}
 use Rattle.listener_parts.proofs.AloneLemmas.{alone_more, alone_same, turn_alone}
 use Rattle.listener_parts.proofs.DidLemmas.{did_turn, turn_by}
 use Rattle.listener_parts.proofs.LettingLemmas.{lets_end, lets_join, lets_none}
+use Rattle.listener_parts.proofs.RestLemmas.{ticks_at_once, ticks_not}
 use Rattle.listener_parts.proofs.RoundLemmas.{alone_as, alone_before, alone_moment, tick_behind, ticks}
 use Rattle.listener_parts.proofs.time.tick.Goals as goal
 
@@ -14,6 +15,7 @@ loop-init g c = record {
   gone = lets_none IsLateWay c.args.pass.now.seat.me.0 c.requires.none;
   credits = refl;
   rest = alone_same _;
+  first = λ rested. refl;
 }
 
 -- ## Time didn't pass
@@ -36,6 +38,9 @@ loop-preserved g c =
           alone_more _ _ _ c.loop.invariant.rest
           (alone_more _ _ _
           (turn_alone c.others_leave_the_rest_to_the_listener.ensures c.turns_rest_on_these.ensures [] _ _ c.loop.invariant.listener.number tt none) c.let_go_late.ensures.rest);
+      first = λ rested.
+          absurd (ticks_not c.quiet_tables_are_the_listeners.ensures c.turns_rest_on_these.ensures c.args.moment _ _ _ c.loop.invariant.listener.number rested
+          (c.loop.invariant.first rested) none (c.in_ok-pass_time.ensures.stays c.if-pass_time.false));
     }
 
 -- ## Time passed
@@ -44,6 +49,11 @@ pub returns-then-pass_time-clause-ticks : goal.returns-then-pass_time-clause-tic
 returns-then-pass_time-clause-ticks g c =
     ticks c.args.moment _ _ _ c.loop.invariant.gone (turn_by true (event.Tick c.args.moment ∷ []) _ _ _ c.if-pass_time.true c.in_ok-pass_time.ensures.turn)
     (c.pass_time.ensures.row ∙ c.loop.invariant.gone.did.row)
+
+pub returns-then-pass_time-clause-at_once : goal.returns-then-pass_time-clause-at_once
+returns-then-pass_time-clause-at_once g c rested =
+    ticks_at_once c.quiet_tables_are_the_listeners.ensures c.args.moment _ _ _ c.loop.invariant.listener.number rested (c.loop.invariant.first rested)
+    (turn_by true (event.Tick c.args.moment ∷ []) _ _ _ c.if-pass_time.true c.in_ok-pass_time.ensures.turn)
 
 pub returns-then-pass_time-clause-no_row : goal.returns-then-pass_time-clause-no_row
 returns-then-pass_time-clause-no_row g c = c.pass_time.ensures.row ∙ c.loop.invariant.gone.did.row
