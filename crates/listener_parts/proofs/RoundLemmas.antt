@@ -1,5 +1,5 @@
 -- How time passes, slots are signalled, and children start and go, in parts of some turns.
-use Rattle.std.proofs.Common.{◌≡◌, ◌⊎◌, inl, inr, ℕ, zero, suc, ◌+◌, ◌<◌, ◌≤◌, Bool, true, false, List, [], ◌∷◌, ◌++◌, map, max, nat_lt, length, None, replicate, slice_set, slice_index, if◌then◌else◌, refl, sym, ap, subst, ◌∙◌, append_assoc, arith}
+use Rattle.std.proofs.Common.{◌≡◌, ◌⊎◌, inl, inr, ℕ, zero, suc, ◌+◌, ◌<◌, ◌≤◌, Bool, true, false, List, [], ◌∷◌, ◌++◌, map, max, nat_lt, length, None, Some, replicate, slice_set, slice_index, if◌then◌else◌, refl, sym, ap, subst, ◌∙◌, append_assoc, arith}
 use Rattle.std.proofs.lemmas.Bool.Decides.{nat_tests}
 use Rattle.std.proofs.lemmas.List.{map-append}
 use Rattle.std.proofs.lemmas.Result.{on_err_weaker, on_ok_weaker}
@@ -26,9 +26,9 @@ use Rattle.listener_turns.specs.Looks.{IsAtRest}
 use Rattle.listener_turns.specs.Signals.{SignalsAll, SignalsFirst, ready_events}
 use Rattle.listener_parts.specs.Did.{AreOfConns, Did, LeavesAlone}
 use Rattle.listener_parts.specs.Letting.{IsLateWay, LetsGo, gone_events}
-use Rattle.listener_parts.specs.Rounds.{AreCredits, IsStill, OpenedWithNone, PassesTime, RetiresSome, Signals, SignalsSome, StartsAtFirst, StartsSome, TicksTo, ticks_to, time_events}
+use Rattle.listener_parts.specs.Rounds.{AreAsked, AreCredits, IsStill, OpenedWithNone, PassesTime, RetiresSome, Signals, SignalsSome, StartsAsked, StartsAtFirst, StartsEach, StartsSome, TicksTo, ticks_to, time_events}
 use Rattle.listener_parts.proofs.AloneLemmas.{alone_same, others_alone, ready_alone, state_behind, turn_alone}
-use Rattle.listener_parts.proofs.DidLemmas.{did_as, did_more, did_no_more, did_turn}
+use Rattle.listener_parts.proofs.DidLemmas.{did_as, did_more, did_no_more, did_nothing, did_turn}
 
 -- ## Time
 
@@ -407,3 +407,52 @@ pub none_given : (count child : ℕ) → slice_index (replicate count 0) child �
 none_given zero child = refl
 none_given (suc count) zero = refl
 none_given (suc count) (suc child) = none_given count child
+
+-- ## Further children
+
+asked_more : (a b c : View) (children : List ℕ) (k : ℕ) → AreAsked a children b → StartsAsked k b c → AreAsked a (children ++ k ∷ []) c
+asked_more a b c [] k did one = (
+  c,
+  record {
+    before = one.before;
+    waits = did_no_more [] None None a b one.before did one.waits;
+    found = one.found;
+    behind = one.behind;
+    turn = one.turn;
+    asked = one.asked;
+    rest = one.rest;
+  },
+  did_nothing c None one.rest.row,
+)
+asked_more a b c (x ∷ children) k asked one = (asked.0, asked.1, asked_more asked.0 b c children k asked.2 one)
+
+asked_end : (a b c : View) (children : List ℕ) → AreAsked a children b → Did [] None b c → AreAsked a children c
+asked_end a b c [] did nothing = did_no_more [] None None a b c did nothing
+asked_end a b c (x ∷ children) asked nothing = (asked.0, asked.1, asked_end asked.0 b c children asked.2 nothing)
+
+pub each_none : (v : View) → Did [] None v v → StartsEach v v
+each_none v did = record { children = []; asked = did; did = did }
+
+pub each_more : (a b c d : View) (k : ℕ) (found : List Entry) → StartsEach a b → HadTurn found (event.StartChild k ∷ []) b c
+    → startable (state_found b found) ≡ Some k → c.row ≡ None → Did [] None c d → StartsEach a d
+each_more a b c d k found starts turn asked none credited = record {
+  children = starts.children ++ k ∷ [];
+  asked = asked_more a b d starts.children k starts.asked
+      (record {
+        before = b;
+        waits = did_nothing b None starts.did.row;
+        found = found;
+        behind = c;
+        turn = turn;
+        asked = asked;
+        rest = credited;
+      });
+  did = (starts_more a b c d k (record { children = starts.children; did = starts.did }) (found, turn) none credited).did;
+}
+
+pub each_end : (a b c : View) → StartsEach a b → Did [] None b c → StartsEach a c
+each_end a b c starts nothing = record {
+  children = starts.children;
+  asked = asked_end a b c starts.children starts.asked nothing;
+  did = did_no_more (map event.StartChild starts.children) None None a b c starts.did nothing;
+}

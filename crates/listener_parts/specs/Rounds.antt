@@ -1,5 +1,5 @@
 -- The further parts of a round: time passes, slots are signalled, children are started and let go of, and what the next wait is told.
-use Rattle.std.specs.Prelude.{◌≡◌, ℕ, true, List, [], ◌∷◌, ◌++◌, length, map, min, nat_lt, slice_index, None, if◌then◌else◌}
+use Rattle.std.specs.Prelude.{◌≡◌, ℕ, true, List, [], ◌∷◌, ◌++◌, length, map, min, nat_lt, slice_index, None, Some, if◌then◌else◌}
 use Rattle.mpm_base.specs.Moment.{greatest_moment}
 use Rattle.conn_machine.specs.declared.event.Entry.{Entry}
 use Rattle.conn_machine.specs.declared.event.Event.{Event}
@@ -9,6 +9,7 @@ use Rattle.conn_machine.specs.Passes.{EachHasItsOwn}
 use Rattle.conn_machine.specs.Runs.{first_row}
 use Rattle.conn_machine.specs.Table.{is_allowed}
 use Rattle.table_rule.specs.declared.view.View.{View}
+use Rattle.board_book.specs.Finds.{startable}
 use Rattle.board_turns.specs.Books.{state_of}
 use Rattle.board_turns.specs.Turns.{HadTurn, state_found}
 use Rattle.listener_turns.specs.Children.{AreStarted}
@@ -89,6 +90,28 @@ pub record AreCredits (credits : List ℕ) (v : View) : Type 0 where
 -- children were started, and nothing else was done
 pub record StartsSome (old new : View) : Type 0 where
   pub children : List ℕ
+  pub did : Did (map event.StartChild children) None old new
+
+-- the child was started in a turn that found it to be the lowest that is gone, while fewer run than should; before and behind that the pass
+-- did nothing else
+pub record StartsAsked (child : ℕ) (old new : View) : Type 0 where
+  pub before : View
+  pub waits : Did [] None old before
+  pub found : List Entry
+  pub behind : View
+  pub turn : HadTurn found (event.StartChild child ∷ []) before behind
+  pub asked : startable (state_found before found) ≡ Some child
+  pub rest : Did [] None behind new
+
+-- these were, one behind the other
+abbrev pub AreAsked : View → List ℕ → View → Type 0
+AreAsked old [] new = Did [] None old new
+AreAsked old (k ∷ children) new = (between : View) × StartsAsked k old between × AreAsked between children new
+
+-- children were started, each as it is asked for in the state that its turn found, and nothing else was done
+pub record StartsEach (old new : View) : Type 0 where
+  pub children : List ℕ
+  pub asked : AreAsked old children new
   pub did : Did (map event.StartChild children) None old new
 
 -- in the first turn that added an entry children were started, each the lowest that is gone then, from the state that the turn found on

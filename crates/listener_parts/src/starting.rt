@@ -6,7 +6,7 @@ ghost use Rattle.board_book.specs.Finds.{startable};
 ghost use Rattle.board_turns.specs.Books.{book_of, state_of};
 ghost use Rattle.board_turns.specs.Turns.{IsListener};
 ghost use Rattle.listener_parts.specs.Did.{StandsAs};
-ghost use Rattle.listener_parts.specs.Rounds.{AreCredits, NoneHasCredit, RetiresSome, StartsAtFirst, StartsSome};
+ghost use Rattle.listener_parts.specs.Rounds.{AreCredits, NoneHasCredit, RetiresSome, StartsAtFirst, StartsEach, StartsSome};
 
 use crate::credits::{CHILDREN, Credits, credit_all, credit_started, take_credit_back};
 use board::{Board, BoardFault};
@@ -67,7 +67,7 @@ pub fn start_further<R: Wait, L: Link, N: Known>(
     requires credits { AreCredits credits.old pass.old.seat.me.0 }
     ensures own { pass.new.seat.table_id ≡ pass.old.seat.table_id }
     ensures listener { IsListener pass.new.seat.me }
-    ensures starts { StartsSome pass.old.seat.me.0 pass.new.seat.me.0 }
+    ensures starts { StartsEach pass.old.seat.me.0 pass.new.seat.me.0 }
     ensures rest { StandsAs (state_of pass.old.seat.me.0) (state_of pass.new.seat.me.0) }
     ensures credits { AreCredits credits.new pass.new.seat.me.0 }
     ensures all { OnOk result (startable (state_of pass.new.seat.me.0) ≡ None) }

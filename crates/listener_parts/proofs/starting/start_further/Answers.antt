@@ -2,14 +2,14 @@ use Rattle.std.proofs.Common.{[], ◌∷◌, None, refl, ◌∙◌}
 use Rattle.conn_machine.specs.declared.event.Event.TheVariants as event
 use Rattle.listener_parts.proofs.AloneLemmas.{one_stands, stands_more, stands_same, turn_stands}
 use Rattle.listener_parts.proofs.DidLemmas.{did_nothing, did_turn}
-use Rattle.listener_parts.proofs.RoundLemmas.{credits_stay, starts_end, starts_more, starts_none}
+use Rattle.listener_parts.proofs.RoundLemmas.{credits_stay, each_end, each_more, each_none}
 use Rattle.listener_parts.proofs.starting.start_further.Goals as goal
 
 pub loop-init : goal.loop-init
 loop-init g c = record {
   own = refl;
   listener = c.requires.listener;
-  starts = starts_none _ (did_nothing c.args.pass.now.seat.me.0 None c.requires.none);
+  starts = each_none _ (did_nothing c.args.pass.now.seat.me.0 None c.requires.none);
   rest = stands_same _;
   credits = c.requires.credits;
 }
@@ -29,7 +29,7 @@ loop-preserved g c =
       own = c.credit_started.ensures.own ∙ c.start_child.ensures.own ∙ c.loop.invariant.own;
       listener = c.credit_started.ensures.listener;
       starts =
-          starts_more _ _ _ _ c.in-Some-start_child.child c.loop.invariant.starts (some.0, some.1) (c.start_child.ensures.row ∙ c.loop.invariant.starts.did.row)
+          each_more _ _ _ _ c.in-Some-start_child.child some.0 c.loop.invariant.starts some.1 some.2 (c.start_child.ensures.row ∙ c.loop.invariant.starts.did.row)
           c.credit_started.ensures.did;
       rest =
           stands_more _ _ _ c.loop.invariant.rest
@@ -43,7 +43,7 @@ loop-preserved g c =
 
 pub returns-in_default-start_child-clause-starts : goal.returns-in_default-start_child-clause-starts
 returns-in_default-start_child-clause-starts g c =
-    starts_end _ _ _ c.loop.invariant.starts
+    each_end _ _ _ c.loop.invariant.starts
     (did_turn [] None _ _ c.in_default-start_child.ensures.none.0 (c.start_child.ensures.row ∙ c.loop.invariant.starts.did.row))
 
 pub returns-in_default-start_child-clause-rest : goal.returns-in_default-start_child-clause-rest
@@ -61,7 +61,7 @@ returns-in_default-start_child-clause-all g c = c.in_default-start_child.ensures
 
 pub returns-in_err-start_child-clause-starts : goal.returns-in_err-start_child-clause-starts
 returns-in_err-start_child-clause-starts g c =
-    starts_end _ _ _ c.loop.invariant.starts (did_turn [] None _ _ c.in_err-start_child.ensures.err (c.start_child.ensures.row ∙ c.loop.invariant.starts.did.row))
+    each_end _ _ _ c.loop.invariant.starts (did_turn [] None _ _ c.in_err-start_child.ensures.err (c.start_child.ensures.row ∙ c.loop.invariant.starts.did.row))
 
 pub returns-in_err-start_child-clause-rest : goal.returns-in_err-start_child-clause-rest
 returns-in_err-start_child-clause-rest g c =
