@@ -6,17 +6,17 @@ use Rattle.listener_parts.proofs.credits.credit_one.Goals as goal
 
 -- ## It has one
 
-pub returns-then-of-clause-did : goal.returns-then-of-clause-did
-returns-then-of-clause-did g c = did_nothing c.args.pass.now.seat.me.0 None c.requires.none
+pub returns-then-of-ne0-clause-did : goal.returns-then-of-ne0-clause-did
+returns-then-of-ne0-clause-did g c = did_nothing c.args.pass.now.seat.me.0 None c.requires.none
 
-pub returns-then-of-clause-rest : goal.returns-then-of-clause-rest
-returns-then-of-clause-rest g c = alone_same _
+pub returns-then-of-ne0-clause-rest : goal.returns-then-of-ne0-clause-rest
+returns-then-of-ne0-clause-rest g c = alone_same _
 
 -- ## It has none
 
 pub credit_child-requires-clause-none : goal.credit_child-requires-clause-none
 credit_child-requires-clause-none g c =
-    ap (λ (l : List ℕ). slice_index l c.args.child) (sym c.requires.credits.own) ∙ sym c.of.ensures ∙ c.if-of.false
+    ap (λ (l : List ℕ). slice_index l c.args.child) (sym c.requires.credits.own) ∙ sym c.of.ensures ∙ c.if-of-ne0.false
 
 pub returns-clause-did : goal.returns-clause-did
 returns-clause-did g c =

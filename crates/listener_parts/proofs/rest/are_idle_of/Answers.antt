@@ -5,8 +5,8 @@ use Rattle.listener_parts.proofs.rest.are_idle_of.Goals as goal
 
 -- ## It has no credit
 
-pub returns-then-threads-clause-did : goal.returns-then-threads-clause-did
-returns-then-threads-clause-did g c = did_nothing c.args.pass.now.seat.me.0 None c.requires.none
+pub returns-then-threads-eq0-clause-did : goal.returns-then-threads-eq0-clause-did
+returns-then-threads-eq0-clause-did g c = did_nothing c.args.pass.now.seat.me.0 None c.requires.none
 
 -- ## It has one
 
