@@ -11,6 +11,6 @@ invariant-loop-child g l =
       own : l.pass.seat.table_id ≡ l.initial.pass.seat.table_id;
       listener : IsListener l.pass.seat.me;
       did : Did [] None l.initial.pass.seat.me.0 l.pass.seat.me.0;
-      credits : AreCredits l.credits.now l.pass.seat.me.0;
+      credits : AreCredits l.credits l.pass.seat.me.0;
       still : l.pass.seat.me.0.seen ≡ l.initial.pass.seat.me.0.seen;
     }
