@@ -1,5 +1,5 @@
 //! The clients of the boards, and the site from which they are served.
-ghost use Rattle.std.specs.Prelude.{◌≡◌, IfOk, IsUtf8};
+ghost use Rattle.std.specs.Prelude.{◌≡◌, IfOk};
 ghost use Rattle.conn_state.specs.Conn.{IsFresh};
 
 use file_table::{LoadFault, Site, SiteOrder, load};
@@ -24,23 +24,10 @@ const TEXTS: [&[u8]; 6] = [
     b"",
 ];
 
-/// A folder and an index, of which there is nothing.
-fn nowhere(alloc: Global) -> Result<SiteOrder, NoMemory>
-    ensures { IfOk result (λ order. IsUtf8 order.root × IsUtf8 order.index) }
-{
-    let root = Octets::of(alloc, "htdocs".as_bytes())?;
-    let index = Octets::of(alloc, "index.html".as_bytes())?;
-    Ok(SiteOrder {
-        root,
-        index,
-        status: true,
-    })
-}
-
 /// A site without a file.
 pub fn empty_site(alloc: Global) -> Result<Site, LoadFault> {
     let mut store = MemStore::make(alloc, Files::make(alloc), Calls::make(alloc));
-    let order = nowhere(alloc)?;
+    let order = SiteOrder::one_host(alloc, "htdocs", "index.html", true)?;
     load(alloc, &mut store, &order)
 }
 

@@ -58,10 +58,11 @@ conf_answer_for (conf.Unclosed line) = conf_line line (config_word Unclosed)
 conf_answer_for (conf.TooDeep line) = conf_line line (config_word TooDeep)
 conf_answer_for conf.NoMemory = memory_answer
 
--- the name that is told of a site that is refused for the fault, whose folder is that root: that of the file that is too large, and else
--- that of the folder
+-- the name that is told of a site that is refused for the fault, where the outer root is that one: that of the file that is too large, or that
+-- of the root with whose files they are too many
 abbrev pub name_for : LoadFault → List ℕ → List ℕ
 name_for (load.TooLarge name size) root = name
+name_for (load.TooMany name) root = name
 name_for other root = root
 
 -- a restart made no plan, for the fault

@@ -41,6 +41,7 @@ pub fn refused_answer(fault: &ReloadFault) -> AnswerText
         ReloadFault::Absent => AnswerText::of(b"refused: absent\n"),
         ReloadFault::Conf(fault) => conf_answer(*fault),
         ReloadFault::Load(LoadFault::TooLarge(name, _), _) => site_answer(name.as_slice()),
+        ReloadFault::Load(LoadFault::TooMany(name), _) => site_answer(name.as_slice()),
         ReloadFault::Load(_, root) => site_answer(root.as_slice()),
         ReloadFault::StoreFault => AnswerText::of(b"refused: store\n"),
         ReloadFault::NoMemory => memory_answer(),

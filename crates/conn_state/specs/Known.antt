@@ -4,7 +4,7 @@ use Rattle.mpm_base.specs.declared.store.File.{File}
 use Rattle.mpm_base.specs.Front.{client_at}
 use Rattle.mpm_base.specs.Link.{LinkTold}
 use Rattle.http_read.specs.declared.request.Limits.{Limits}
-use Rattle.file_table.specs.declared.site.SiteOrder.{SiteOrder}
+use Rattle.file_table.specs.declared.site_order.SiteOrder.{SiteOrder}
 use Rattle.file_table.specs.Site.{SeenSite, IsSiteOf}
 
 -- of what the site of an edition is made: it is this one, or it is what the order makes of the files of a store

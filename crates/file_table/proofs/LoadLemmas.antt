@@ -17,12 +17,10 @@ use Rattle.mpm_base.specs.declared.store.File.{File}
 use Rattle.mpm_base.specs.Store.{StoreTold, lies_under, names_under}
 use Rattle.file_table.specs.declared.load_fault.LoadFault.{LoadFault}
 use Rattle.file_table.specs.declared.load_fault.LoadFault.TheVariants as fault
-use Rattle.file_table.specs.declared.site.SiteOrder.{SiteOrder}
-use Rattle.std.specs.Prelude.{Ok, Err}
+use Rattle.std.specs.Prelude.{Err, Result, MatchResult}
 use Rattle.file_table.specs.Order.{IsInOrder}
-use Rattle.file_table.specs.Site.{SeenSite, IsSiteOf, file_within, first_too_large, is_too_large, name_within, size_of}
-use Rattle.file_table.specs.Load.{IsTooLargeFile, MayLoad}
-use Rattle.file_table.specs.LoadInside.{HasReadFiles, MayNotRead, MayReadNext}
+use Rattle.file_table.specs.Site.{AreUnder, file_within, first_too_large, is_too_large, most_bytes_together, most_files, name_within, size_of}
+use Rattle.file_table.specs.LoadInside.{HasReadFiles, IsTooLargeUnder, MayListFiles, MayNotRead, MayNotReadRoot, MayReadNext}
 
 -- ---- the names under a root
 
@@ -96,22 +94,24 @@ module _ (root : List ℕ) (names : List (List ℕ)) (files : List File) (named 
 
 -- ---- the files that were read
 
-pub nothing_read : (root : List ℕ) (told : Option StoreTold) → HasReadFiles root told [] [] 0
-nothing_read root None = record { named = refl; judged = λ more. refl; bounded = omega arith; known = tt }
-nothing_read root (Some t) = record { named = refl; judged = λ more. refl; bounded = omega arith; known = refl }
+pub nothing_read : (root : List ℕ) (told : Option StoreTold) (before : ℕ) → before ≤ most_bytes_together → HasReadFiles root told [] before [] before
+nothing_read root None before h = record { named = refl; counted = record { judged = λ more. refl; bounded = h }; known = tt }
+nothing_read root (Some t) before h = record { named = refl; counted = record { judged = λ more. refl; bounded = h }; known = refl }
 
-module _ (root : List ℕ) (names : List (List ℕ)) (i : ℕ) (name : List ℕ) (within : i < length names) (is_name : name ≡ get_or names i []) where
+module _ (root : List ℕ) (names : List (List ℕ)) (before i : ℕ) (name : List ℕ) (within : i < length names) (is_name : name ≡ get_or names i []) where
   next_name : take (i + 1) names ≡ take i names ++ name ∷ []
   next_name = take_more names i [] within ∙ ap (λ n. take i names ++ n ∷ []) (sym is_name)
 
-  one_read : (told : Option StoreTold) (files : List File) (sum : ℕ) (file : File) → HasReadFiles root told (take i names) files sum
+  one_read : (told : Option StoreTold) (files : List File) (sum : ℕ) (file : File) → HasReadFiles root told (take i names) before files sum
       → file.name ≡ name_within root name → is_too_large sum file ≡ false → IfSome told (λ t. file ≡ file_within root t.files name)
-      → HasReadFiles root told (take (i + 1) names) (files ++ file ∷ []) (sum + size_of file)
+      → HasReadFiles root told (take (i + 1) names) before (files ++ file ∷ []) (sum + size_of file)
   one_read told files sum file h named small known = record {
     named = map-append (λ (f : File). f.name) files (file ∷ []) ∙ ap (λ l. l ++ file.name ∷ []) h.named ∙ ap (λ n. map (name_within root) (take i names) ++ n ∷ []) named
         ∙ sym (map-append (name_within root) (take i names) (name ∷ [])) ∙ ap (map (name_within root)) (sym next_name);
-    judged = λ more. ap (first_too_large 0) (append_assoc files (file ∷ []) more) ∙ h.judged (file ∷ more) ∙ rw small refl;
-    bounded = grind (arith, nat_tests);
+    counted = record {
+      judged = λ more. ap (first_too_large before) (append_assoc files (file ∷ []) more) ∙ h.counted.judged (file ∷ more) ∙ rw small refl;
+      bounded = grind (arith, nat_tests);
+    };
     known = more_known told h.known known;
   } where
     more_known : (told : Option StoreTold) → IfSome told (λ t. files ≡ map (file_within root t.files) (take i names)) → IfSome told (λ t. file ≡ file_within root t.files name)
@@ -121,73 +121,58 @@ module _ (root : List ℕ) (names : List (List ℕ)) (i : ℕ) (name : List ℕ)
         ap (λ l. l ++ file ∷ []) a ∙ ap (λ f. map (file_within root t.files) (take i names) ++ f ∷ []) b
         ∙ sym (map-append (file_within root t.files) (take i names) (name ∷ [])) ∙ ap (map (file_within root t.files)) (sym next_name)
 
-  first_here : (given files : List File) (sum : ℕ) → ((more : List File) → first_too_large 0 (files ++ more) ≡ first_too_large sum more)
+  first_here : (given files : List File) (sum : ℕ) → ((more : List File) → first_too_large before (files ++ more) ≡ first_too_large sum more)
       → files ≡ map (file_within root given) (take i names) → is_too_large sum (file_within root given name) ≡ true
-      → first_too_large 0 (map (file_within root given) names) ≡ Some (file_within root given name)
+      → first_too_large before (map (file_within root given) names) ≡ Some (file_within root given name)
   first_here given files sum judged known large =
       let rest = map (file_within root given) (drop (i + 1) names) in
       let parts : names ≡ take i names ++ name ∷ drop (i + 1) names =
       sym (take-append-drop i names) ∙ ap (λ l. take i names ++ l) (drop_more names i [] within ∙ ap (λ n. n ∷ drop (i + 1) names) (sym is_name)) in
-      ap (λ l. first_too_large 0 (map (file_within root given) l)) parts
-      ∙ ap (first_too_large 0) (map-append (file_within root given) (take i names) (name ∷ drop (i + 1) names) ∙ ap (λ l. l ++ file_within root given name ∷ rest) (sym known))
+      ap (λ l. first_too_large before (map (file_within root given) l)) parts
+      ∙ ap (first_too_large before) (map-append (file_within root given) (take i names) (name ∷ drop (i + 1) names) ∙ ap (λ l. l ++ file_within root given name ∷ rest) (sym known))
       ∙ judged (file_within root given name ∷ rest) ∙ rw large refl
 
-  why_not : (given files : List File) (sum : ℕ) (e : LoadFault) → ((more : List File) → first_too_large 0 (files ++ more) ≡ first_too_large sum more)
+  why_not : (given files : List File) (sum : ℕ) (e : LoadFault) → ((more : List File) → first_too_large before (files ++ more) ≡ first_too_large sum more)
       → files ≡ map (file_within root given) (take i names) → lies_under root name ≡ true
-      → MayReadNext (file_within root given name) name sum (Err e) → MayNotRead root given names e
+      → MayReadNext (file_within root given name) name sum (Err e) → MayNotRead root given names before e
   why_not given files sum fault.StoreFault judged known under m = tt
-  why_not given files sum fault.TooMany judged known under m = m
+  why_not given files sum (fault.TooMany r) judged known under m = m
   why_not given files sum (fault.TooLarge n s) judged known under m =
-      subst (λ w. (first_too_large 0 (map (file_within root given) names) ≡ Some (file_within root given w)) × (s ≡ size_of (file_within root given w)) × (lies_under root w ≡ true))
+      subst (λ w. (first_too_large before (map (file_within root given) names) ≡ Some (file_within root given w)) × (s ≡ size_of (file_within root given w)) × (lies_under root w ≡ true))
       (sym m.0) (first_here given files sum judged known m.2, m.1, under)
   why_not given files sum fault.NoMemory judged known under m = tt
 
-  not_read : (told : Option StoreTold) (files : List File) (sum : ℕ) (e : LoadFault) → HasReadFiles root told (take i names) files sum
-      → lies_under root name ≡ true → IfSome told (λ t. MayReadNext (file_within root t.files name) name sum (Err e)) → IfSome told (λ t. MayNotRead root t.files names e)
+  not_read : (told : Option StoreTold) (files : List File) (sum : ℕ) (e : LoadFault) → HasReadFiles root told (take i names) before files sum
+      → lies_under root name ≡ true → IfSome told (λ t. MayReadNext (file_within root t.files name) name sum (Err e)) → IfSome told (λ t. MayNotRead root t.files names before e)
   not_read None files sum e h under m = tt
-  not_read (Some t) files sum e h under m = why_not t.files files sum e h.judged h.known under m
+  not_read (Some t) files sum e h under m = why_not t.files files sum e h.counted.judged h.known under m
 
   -- the same of a store that tells what it told before
-  pub one_more_read : (told told' : Option StoreTold) (files : List File) (sum : ℕ) (file : File) → told' ≡ told → HasReadFiles root told (take i names) files sum
+  pub one_more_read : (told told' : Option StoreTold) (files : List File) (sum : ℕ) (file : File) → told' ≡ told → HasReadFiles root told (take i names) before files sum
       → file.name ≡ name_within root name → is_too_large sum file ≡ false → IfSome told' (λ t. file ≡ file_within root t.files name)
-      → HasReadFiles root told (take (i + 1) names) (files ++ file ∷ []) (sum + size_of file)
+      → HasReadFiles root told (take (i + 1) names) before (files ++ file ∷ []) (sum + size_of file)
   one_more_read told told' files sum file e h named small known =
       one_read told files sum file h named small (subst (λ o. IfSome o (λ t. file ≡ file_within root t.files name)) e known)
 
-  pub none_read : (told told' : Option StoreTold) (files : List File) (sum : ℕ) (e : LoadFault) → told' ≡ told → HasReadFiles root told (take i names) files sum
-      → lies_under root name ≡ true → IfSome told' (λ t. MayReadNext (file_within root t.files name) name sum (Err e)) → IfSome told (λ t. MayNotRead root t.files names e)
+  pub none_read : (told told' : Option StoreTold) (files : List File) (sum : ℕ) (e : LoadFault) → told' ≡ told → HasReadFiles root told (take i names) before files sum
+      → lies_under root name ≡ true → IfSome told' (λ t. MayReadNext (file_within root t.files name) name sum (Err e)) → IfSome told (λ t. MayNotRead root t.files names before e)
   none_read told told' files sum e same h under m =
       not_read told files sum e h under (subst (λ o. IfSome o (λ t. MayReadNext (file_within root t.files name) name sum (Err e))) same m)
 
--- ---- the site
+-- ---- the files of a root
 
-pub is_site : (order : SiteOrder) (given : List File) (listed names : List (List ℕ)) (site : SeenSite) → listed ≡ names_under order.root given
-    → IsPermutation (filter (lies_under order.root) listed) names → site.index ≡ order.index → site.status ≡ order.status
-    → site.files ≡ map (file_within order.root given) names → IsInOrder site.files → IsSiteOf order given site
-is_site order given listed names site e all index status files in_order = record {
-  index = index;
-  status = status;
+pub is_under : (root : List ℕ) (given : List File) (listed names : List (List ℕ)) (files : List File) → listed ≡ names_under root given
+    → IsPermutation (filter (lies_under root) listed) names → files ≡ map (file_within root given) names → IsInOrder files → AreUnder root given files
+is_under root given listed names files e all are in_order = record {
   names = names;
-  all = subst (λ l. IsPermutation l names) (ap (filter (lies_under order.root)) e ∙ filter_same (lies_under order.root) _) all;
-  files = files;
+  all = subst (λ l. IsPermutation l names) (ap (filter (lies_under root)) e ∙ filter_same (lies_under root) _) all;
+  are = are;
   in_order = in_order;
 }
 
 named_within : (root : List ℕ) (given : List File) (names : List (List ℕ)) → map (λ (file : File). file.name) (map (file_within root given) names) ≡ map (name_within root) names
 named_within root given [] = refl
 named_within root given (name ∷ names) = ap (λ l. name_within root name ∷ l) (named_within root given names)
-
-pub too_large : (order : SiteOrder) (given : List File) (listed names : List (List ℕ)) (name : List ℕ) (size : ℕ) → listed ≡ names_under order.root given
-    → IsPermutation (filter (lies_under order.root) listed) names → All (λ n. lies_under order.root n ≡ true) names
-    → IsSortedByKey (λ n. n) (slice_cmp nat_cmp) names → MayNotRead order.root given names (fault.TooLarge name size) → IsTooLargeFile order given name size
-too_large order given listed names name size e all under in_order m = record {
-  site = record { index = order.index; status = order.status; files = map (file_within order.root given) names };
-  is_site = is_site order given listed names _ e all refl refl refl (in_order_within order.root names _ (named_within order.root given names) under in_order);
-  file = file_within order.root given name;
-  first = m.0;
-  named = whole_name order.root name m.2;
-  sized = m.1;
-}
 
 filter_short : (p : List ℕ → Bool) (xs : List (List ℕ)) → length (filter p xs) ≤ length xs
 filter_short p [] = omega arith
@@ -197,10 +182,10 @@ filter_short p (x ∷ xs) = by_test (p x) (filter_short p xs) where
   by_test false h = omega (arith, h)
 
 -- no more files than names that were listed
-pub few_files : (p : List ℕ → Bool) (root : List ℕ) (listed names : List (List ℕ)) (files : List File) (most : ℕ) → IsPermutation (filter p listed) names
-    → map (λ (file : File). file.name) files ≡ map (name_within root) names → length listed ≤ most → length files ≤ most
-few_files p root listed names files most all named few =
-    omega (arith, same_length root names files named, length_permutation _ _ all, filter_short p listed, few)
+pub few_files : (p : List ℕ → Bool) (root : List ℕ) (listed names : List (List ℕ)) (files : List File) → IsPermutation (filter p listed) names
+    → map (λ (file : File). file.name) files ≡ map (name_within root) names → length files ≤ length listed
+few_files p root listed names files all named =
+    omega (arith, same_length root names files named, length_permutation _ _ all, filter_short p listed)
 
 -- the names that were sorted lie under the root, and are texts where all are
 pub sorted_under : (root : List ℕ) (listed names : List (List ℕ)) → IsPermutation (filter (lies_under root) listed) names → All (λ n. lies_under root n ≡ true) names
@@ -209,28 +194,62 @@ sorted_under root listed names all = All-permutation (λ n. lies_under root n �
 pub sorted_texts : (root : List ℕ) (listed names : List (List ℕ)) → IsPermutation (filter (lies_under root) listed) names → All IsUtf8 listed → All IsUtf8 names
 sorted_texts root listed names all texts = All-permutation IsUtf8 _ _ all (All-filter (lies_under root) IsUtf8 listed texts)
 
-module _ (order : SiteOrder) (root : List ℕ) (is_root : root ≡ order.root) (listed names : List (List ℕ)) (all : IsPermutation (filter (lies_under root) listed) names) where
-  all_of_order : IsPermutation (filter (lies_under order.root) listed) names
-  all_of_order = subst (λ r. IsPermutation (filter (lies_under r) listed) names) is_root all
+module _ (root : List ℕ) (listed names : List (List ℕ)) (all : IsPermutation (filter (lies_under root) listed) names) where
+  -- the files of the names that were listed are those under the root
+  pub listed_under : (told : Option StoreTold) (files : List File) → IsInOrder files → IfSome told (λ t. files ≡ map (file_within root t.files) names)
+      → IfSome told (λ t. (count : ℕ) → count + length listed ≤ most_files → listed ≡ names_under root t.files → AreUnder root t.files files)
+  listed_under None files in_order known = tt
+  listed_under (Some t) files in_order known = λ count few e. is_under root t.files listed names files e all known in_order
 
-  pub loaded_site : (told : Option StoreTold) (files : List File) (site : SeenSite) → site.index ≡ order.index → site.status ≡ order.status
-      → site.files ≡ files → IsInOrder files
-      → IfSome told (λ t. files ≡ map (file_within root t.files) names)
-      → IfSome told (λ t. listed ≡ names_under order.root t.files → MayLoad order t.files (Ok site))
-  loaded_site None files site index status is_files in_order known = tt
-  loaded_site (Some t) files site index status is_files in_order known = λ e.
-      is_site order t.files listed names site e all_of_order index status
-      (is_files ∙ known ∙ ap (λ r. map (file_within r t.files) names) is_root) (subst IsInOrder (sym is_files) in_order)
+  too_large : (given : List File) (count before : ℕ) (name : List ℕ) (size : ℕ) → count + length listed ≤ most_files → listed ≡ names_under root given
+      → IsSortedByKey (λ n. n) (slice_cmp nat_cmp) names → MayNotRead root given names before (fault.TooLarge name size) → IsTooLargeUnder root given count before name size
+  too_large given count before name size few e in_order m =
+      let files = map (file_within root given) names in
+      let named = named_within root given names in
+      record {
+        files = files;
+        under = is_under root given listed names files e all refl (in_order_within root names files named (sorted_under root listed names all) in_order);
+        few = omega (arith, few, few_files (lies_under root) root listed names files all named);
+        file = file_within root given name;
+        first = m.0;
+        named = whole_name root name m.2;
+        sized = m.1;
+      }
 
-  by_fault : (given : List File) (e : LoadFault) → length listed ≤ 65536 → IsSortedByKey (λ n. n) (slice_cmp nat_cmp) names → MayNotRead order.root given names e
-      → listed ≡ names_under order.root given → MayLoad order given (Err e)
-  by_fault given fault.StoreFault few in_order m e = tt
-  by_fault given fault.TooMany few in_order m e = absurd m
-  by_fault given (fault.TooLarge name size) few in_order m e =
-      (rw (← e) few, too_large order given listed names name size e all_of_order (sorted_under order.root listed names all_of_order) in_order m)
-  by_fault given fault.NoMemory few in_order m e = tt
+  by_fault : (given : List File) (count before : ℕ) (e : LoadFault) → count + length listed ≤ most_files → listed ≡ names_under root given
+      → IsSortedByKey (λ n. n) (slice_cmp nat_cmp) names → MayNotRead root given names before e → MayNotReadRoot root given count before e
+  by_fault given count before fault.StoreFault few e in_order m = tt
+  by_fault given count before (fault.TooMany r) few e in_order m = absurd m
+  by_fault given count before (fault.TooLarge name size) few e in_order m = too_large given count before name size few e in_order m
+  by_fault given count before fault.NoMemory few e in_order m = tt
 
-  pub no_site : (told : Option StoreTold) (e : LoadFault) → length listed ≤ 65536 → IsSortedByKey (λ n. n) (slice_cmp nat_cmp) names
-      → IfSome told (λ t. MayNotRead root t.files names e) → IfSome told (λ t. listed ≡ names_under order.root t.files → MayLoad order t.files (Err e))
-  no_site None e few in_order m = tt
-  no_site (Some t) e few in_order m = by_fault t.files e few in_order (subst (λ r. MayNotRead r t.files names e) is_root m)
+  -- why they weren't read
+  pub listed_not : (told : Option StoreTold) (before : ℕ) (e : LoadFault) → IsSortedByKey (λ n. n) (slice_cmp nat_cmp) names
+      → IfSome told (λ t. MayNotRead root t.files names before e)
+      → IfSome told (λ t. (count : ℕ) → count + length listed ≤ most_files → listed ≡ names_under root t.files → MayNotReadRoot root t.files count before e)
+  listed_not None before e in_order m = tt
+  listed_not (Some t) before e in_order m = λ count few same. by_fault t.files count before e few same in_order m
+
+-- why a root's files weren't listed
+not_listed : (root : List ℕ) (given : List File) (count before : ℕ) (e : LoadFault) → MayListFiles root count (names_under root given) (Err e)
+    → MayNotReadRoot root given count before e
+not_listed root given count before fault.StoreFault m = tt
+not_listed root given count before (fault.TooMany r) m = m
+not_listed root given count before (fault.TooLarge name size) m = absurd m
+not_listed root given count before fault.NoMemory m = tt
+
+pub unlisted : (told : Option StoreTold) (root : List ℕ) (count before : ℕ) (e : LoadFault)
+    → IfSome told (λ t. MayListFiles root count (names_under root t.files) (Err e)) → IfSome told (λ t. MayNotReadRoot root t.files count before e)
+unlisted None root count before e m = tt
+unlisted (Some t) root count before e m = not_listed root t.files count before e m
+
+-- what was read of a root whose names were listed
+pub read_of_listed : {X : Type 0} (files_of : X → List File) (answer : Result X LoadFault) (told told' : Option StoreTold) (root : List ℕ) (count before : ℕ) (listed : List (List ℕ))
+    → told' ≡ told → count + length listed ≤ most_files → IfSome told (λ t. listed ≡ names_under root t.files)
+    → IfSome told' (λ t. (count : ℕ) → count + length listed ≤ most_files → listed ≡ names_under root t.files
+    → MatchResult answer (λ read. AreUnder root t.files (files_of read)) (MayNotReadRoot root t.files count before))
+    → IfSome told (λ t. MatchResult answer (λ read. AreUnder root t.files (files_of read)) (MayNotReadRoot root t.files count before))
+read_of_listed files_of answer None told' root count before listed e few known h = tt
+read_of_listed files_of answer (Some t) told' root count before listed e few known h =
+    (subst (λ o. IfSome o (λ t. (count : ℕ) → count + length listed ≤ most_files → listed ≡ names_under root t.files
+    → MatchResult answer (λ read. AreUnder root t.files (files_of read)) (MayNotReadRoot root t.files count before))) e h) count few known

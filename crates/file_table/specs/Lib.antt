@@ -1,4 +1,5 @@
 pub mod ContentType
+pub mod HostFiles
 pub mod Load
 pub mod LoadInside
 pub mod Order
@@ -6,3 +7,4 @@ pub mod Path
 pub mod PathInside
 pub mod Resource
 pub mod Site
+pub mod SiteInside

@@ -8,11 +8,11 @@ pub enum LoadFault {
     /// A call of the store failed.
     #[error("the store failed")]
     StoreFault,
-    /// There are more than 65,536 files.
+    /// There are more than 65,536 files: the root of the first host with which it is so.
     #[error("too many files")]
-    TooMany,
-    /// The first file, by the order of names, of more than 16,777,216 bytes or with which the files have more than
-    /// 67,108,864: its name in the store, and how many bytes it has.
+    TooMany(Octets),
+    /// The first file, by the order of roots and then of names, of more than 16,777,216 bytes or with which the files have more
+    /// than 67,108,864: its name in the store, and how many bytes it has.
     #[error("a file is too large: it has {1} bytes")]
     TooLarge(Octets, u64),
     /// Memory was wanted and not found.

@@ -1,71 +1,51 @@
-//! The files of a site.
-ghost use Rattle.std.specs.Prelude.{◌≡◌, ◌<◌, ◌≤◌, ◌∷◌, length, Some, IfOk, slice_get, option_map};
+//! The files of a site, and what each host has of them.
+ghost use Rattle.std.specs.Prelude.{◌≡◌, ◌+◌, ◌<◌, ◌≤◌, ◌^◌, ◌∷◌, length, Some, IfOk, slice_get, option_map};
 ghost use Rattle.file_table.specs.Order.{IsInOrder};
-ghost use Rattle.file_table.specs.Site.{most_files};
+ghost use Rattle.file_table.specs.Site.{folder_at, host_at, most_files};
+ghost use Rattle.file_table.specs.SiteInside.{AreHosts};
 
+use crate::part::Part;
 use mpm_base::{File, NoMemory, Octets};
+use name_hosts::HostList;
 use std::alloc::Global;
 use std::marker::Model;
 
-/// What a site is made of: the folder whose files it has, the name of the file that stands for a folder, and whether it has the status page.
+/// What a host has of a site.
 #[derive(Debug, Drop)]
-pub struct SiteOrder {
-    /// The name of the folder, without a slash at its end; UTF-8.
-    pub root: Octets,
-    /// The name of the file; UTF-8.
-    pub index: Octets,
-    /// Whether the status page is served.
-    pub status: bool,
-}
-
-/// The files under a folder by their names in it, at most 65,536.
-#[derive(Debug, Drop)]
-pub struct Site {
+pub struct Host {
     index: Octets,
     slash_index: Octets,
-    status: bool,
-    files: Vec<File>,
+    part: Part,
 }
 
-impl Model for Site {
-    ghost use Rattle.std.specs.Prelude.{◌≡◌, ◌≤◌, ◌∷◌, length};
-    ghost use Rattle.file_table.specs.Order.{IsInOrder};
-    ghost use Rattle.file_table.specs.Site.{SeenSite, most_files};
+impl Model for Host {
+    ghost use Rattle.std.specs.Prelude.{◌≡◌, ◌∷◌};
+    ghost use Rattle.file_table.specs.Site.{SeenHost};
 
-    ghost Value = { SeenSite };
+    ghost Value = { SeenHost };
 
-    ghost view = { λ s. record { index = s.index; status = s.status; files = s.files.items } };
+    ghost view = { λ h. record { index = h.index; part = h.part } };
 
-    ghost invariant = { λ s. (s.slash_index ≡ 47 ∷ s.index) × IsInOrder s.files.items
-        × (length s.files.items ≤ most_files) };
+    ghost invariant = { λ h. h.slash_index ≡ 47 ∷ h.index };
 }
 
-impl Site {
-    /// A site of these files.
-    pub(crate) fn of(
-        alloc: Global,
-        index: &[u8],
-        status: bool,
-        files: Vec<File>,
-    ) -> Result<Site, NoMemory>
-        requires in_order { IsInOrder files.items }
-        requires few { length files.items ≤ most_files }
-        ensures { IfOk result (λ site. site
-            ≡ record { index = index.now; status = status; files = files.items }) }
+impl Host {
+    /// A host with that index, whose root has this part of the files.
+    pub(crate) fn of(alloc: Global, index: &[u8], part: Part) -> Result<Host, NoMemory>
+        ensures { IfOk result (λ host. host ≡ record { index = index.now; part = part }) }
     {
         let mut slash_index = Octets::of(alloc, b"/")?;
         slash_index.add(index)?;
         let index = Octets::of(alloc, index)?;
-        Ok(Site {
+        Ok(Host {
             index,
             slash_index,
-            status,
-            files,
+            part,
         })
     }
 
     /// The name of the file that stands for a folder.
-    pub fn index(&self) -> &[u8]
+    pub(crate) fn index(&self) -> &[u8]
         ensures { result.now ≡ self.now.index }
     {
         self.index.as_slice()
@@ -78,6 +58,54 @@ impl Site {
         self.slash_index.as_slice()
     }
 
+    /// Which of the files lie under its root.
+    pub(crate) fn part(&self) -> Part
+        ensures { result ≡ self.now.part }
+    {
+        self.part
+    }
+}
+
+/// The files under the roots of the hosts, at most 65,536.
+#[derive(Debug, Drop)]
+pub struct Site {
+    names: HostList,
+    hosts: Vec<Host>,
+    status: bool,
+    files: Vec<File>,
+}
+
+impl Model for Site {
+    ghost use Rattle.file_table.specs.Site.{SeenSite};
+    ghost use Rattle.file_table.specs.SiteInside.{AreHosts};
+
+    ghost Value = { SeenSite };
+
+    ghost view = { λ s. record {
+      names = s.names;
+      hosts = s.hosts.items;
+      status = s.status;
+      files = s.files.items;
+    } };
+
+    ghost invariant = { λ s. AreHosts s.names s.hosts.items s.files.items };
+}
+
+impl Site {
+    /// A site of these hosts and files.
+    pub(crate) fn of(names: HostList, hosts: Vec<Host>, status: bool, files: Vec<File>) -> Site
+        requires { AreHosts names hosts.items files.items }
+        ensures { result
+            ≡ record { names = names; hosts = hosts.items; status = status; files = files.items } }
+    {
+        Site {
+            names,
+            hosts,
+            status,
+            files,
+        }
+    }
+
     /// Whether the status page is served.
     pub fn has_status(&self) -> bool
         ensures { result ≡ self.now.status }
@@ -85,14 +113,55 @@ impl Site {
         self.status
     }
 
-    /// The files, in the order of their names.
+    /// The files, those of one root behind those of another, in the order of their names there.
     pub fn files(&self) -> &[File]
         ensures files { result.now ≡ self.now.files }
-        ensures in_order { IsInOrder self.now.files }
         ensures few { length self.now.files ≤ most_files }
     {
         self.files.as_slice()
     }
+
+    /// What the host at the place has.
+    pub(crate) fn host(&self, host: u32) -> &Host
+        requires { host < length self.now.hosts }
+        ensures { result.now ≡ host_at self.now host }
+    {
+        &self.hosts[host as usize]
+    }
+
+    /// Which of the files the host has.
+    pub(crate) fn part_of(&self, host: u32) -> Part
+        requires { host < length self.now.hosts }
+        ensures part { result ≡ (host_at self.now host).part }
+        ensures within { result.first + result.count ≤ length self.now.files }
+        ensures few { length self.now.files ≤ most_files }
+        ensures in_order { IsInOrder (folder_at self.now host).files }
+    {
+        self.hosts[host as usize].part()
+    }
+
+    /// The files that the host has, in the order of their names.
+    pub(crate) fn files_of(&self, host: u32) -> &[File]
+        requires { host < length self.now.hosts }
+        ensures files { result.now ≡ (folder_at self.now host).files }
+        ensures in_order { IsInOrder (folder_at self.now host).files }
+        ensures few { length result.now ≤ most_files }
+    {
+        let part = self.part_of(host);
+        let (_, rest) = self.files.as_slice().split_at(part.first as usize);
+        let (own, _) = rest.split_at(part.count as usize);
+        own
+    }
+}
+
+/// The names of each host, in order. There is a host.
+pub fn hosts(site: &Site) -> &HostList
+    ensures names { result.now ≡ site.now.names }
+    ensures same { length site.now.names ≡ length site.now.hosts }
+    ensures some { 0 < length site.now.hosts }
+    ensures most { length site.now.hosts < 2 ^ 32 }
+{
+    &site.names
 }
 
 /// The bytes of a file of the site, which are not copied. Takes no memory.

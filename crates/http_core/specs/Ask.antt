@@ -1,8 +1,10 @@
 -- What is asked of the table for a request, and the plan of its response.
-use Rattle.std.specs.Prelude.{◌<◌, ◌≤◌, false, length, ⊤}
+use Rattle.std.specs.Prelude.{ℕ, ◌<◌, ◌≤◌, false, length, ⊤}
 use Rattle.mpm_base.specs.declared.conn.Ask.{Ask}
 use Rattle.http_read.specs.RequestParts.{RequestParts}
+use Rattle.file_table.specs.Resource.{IsFoundFor}
 use Rattle.file_table.specs.Site.{SeenSite}
+use Rattle.file_table.specs.declared.found.Found.TheVariants as resource
 use Rattle.http_core.specs.Code.{number_of}
 use Rattle.http_core.specs.Served.{code_of, is_head, is_page, served_to, size_at}
 use Rattle.http_core.specs.declared.plan.Plan.{Plan}
@@ -38,3 +40,13 @@ IsServedOf site (served.Moved path) = ⊤
 IsServedOf site served.Options = ⊤
 IsServedOf site (served.Page auto) = ⊤
 IsServedOf site (served.Refused code) = ⊤
+
+-- a file that is served, whole or in part, is one that the host has
+abbrev pub IsServedFor : SeenSite → ℕ → Served → Type 0
+IsServedFor site host (served.Whole part) = IsFoundFor site host (resource.File part.file)
+IsServedFor site host (served.Part part) = IsFoundFor site host (resource.File part.file)
+IsServedFor site host (served.Unsatisfied size) = ⊤
+IsServedFor site host (served.Moved path) = ⊤
+IsServedFor site host served.Options = ⊤
+IsServedFor site host (served.Page auto) = ⊤
+IsServedFor site host (served.Refused code) = ⊤

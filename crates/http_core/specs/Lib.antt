@@ -4,6 +4,7 @@ pub mod Range
 pub mod RangeInside
 pub mod Reply
 pub mod Served
+pub mod ServedInside
 pub mod StatusPage
 pub mod Target
 pub mod Location

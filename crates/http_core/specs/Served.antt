@@ -10,7 +10,8 @@ use Rattle.file_table.specs.declared.found.Found.TheVariants as resource
 use Rattle.http_core.specs.Location.{location_of}
 use Rattle.http_core.specs.Range.{range_in_value, selection_of}
 use Rattle.http_core.specs.StatusPage.{asks_for_text, is_status_path}
-use Rattle.http_core.specs.Target.{path_of}
+use Rattle.http_core.specs.Target.{named_host, path_of}
+use Rattle.name_hosts.specs.Host.{choose}
 use Rattle.http_core.specs.declared.code.Code.{Code}
 use Rattle.http_core.specs.declared.code.Code.TheVariants as code
 use Rattle.http_core.specs.declared.range.Range.{Range}
@@ -36,14 +37,18 @@ abbrev pub is_disallowed : List ℕ → Bool
 is_disallowed method =
     bytes_eq method (codes "POST") || bytes_eq method (codes "PUT") || bytes_eq method (codes "DELETE") || bytes_eq method (codes "PATCH")
 
--- what the path of a target names in the site
-abbrev pub resource_at : SeenSite → Option (List ℕ) → Found
-resource_at site None = resource.BadPath
-resource_at site (Some path) = resource_of site path
+-- the host that a request is for: the first that has the name by which it asks, else the first of the site
+abbrev pub chosen_host : SeenSite → RequestParts → ℕ
+chosen_host site r = choose site.names (named_host r.target r.host)
 
--- what a target names in the site
-abbrev pub resource_of_target : SeenSite → List ℕ → Found
-resource_of_target site target = resource_at site (path_of target)
+-- what the path of a target names in the site, for the host
+abbrev pub resource_at : SeenSite → ℕ → Option (List ℕ) → Found
+resource_at site host None = resource.BadPath
+resource_at site host (Some path) = resource_of site host path
+
+-- what a target names in the site, for the host
+abbrev pub resource_of_target : SeenSite → ℕ → List ℕ → Found
+resource_of_target site host target = resource_at site host (path_of target)
 
 -- how many bytes a file has; none where there is no file
 abbrev pub size_of_file : Option File → ℕ
@@ -85,18 +90,18 @@ served_of site get range target resource.Missing = served.Refused code.NotFound
 served_of site get range target (resource.File place) = served_range place (size_at site place) (range_for get (size_at site place) range)
 
 -- what a target serves to GET, or else to HEAD: the status page, where its path is that and the site has the page, for which no range
--- counts; or what it names in the site
-abbrev pub served_at : SeenSite → Bool → Option (List ℕ) → List ℕ → Served
-served_at site get range target =
+-- counts; or what it names in the site, for the host
+abbrev pub served_at : SeenSite → ℕ → Bool → Option (List ℕ) → List ℕ → Served
+served_at site host get range target =
     if site.status && is_status_path (path_of target) then served.Page (asks_for_text target)
-    else served_of site get range target (resource_of_target site target)
+    else served_of site get range target (resource_of_target site host target)
 
 -- what a request is served
 abbrev pub served_to : SeenSite → RequestParts → Served
 served_to site r =
-    if is_get r.method || is_head r.method then served_at site (is_get r.method) r.range r.target
+    if is_get r.method || is_head r.method then served_at site (chosen_host site r) (is_get r.method) r.range r.target
     else (if is_options r.method
-    then (if bytes_eq r.target (codes "*") then served.Options else options_of (resource_of_target site r.target))
+    then (if bytes_eq r.target (codes "*") then served.Options else options_of (resource_of_target site (chosen_host site r) r.target))
     else (if is_disallowed r.method then served.Refused code.MethodNotAllowed else served.Refused code.NotImplemented))
 
 -- the code of what is served

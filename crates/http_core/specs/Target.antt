@@ -33,6 +33,11 @@ path_or_root path = if length path == 0 then 47 ∷ [] else path
 abbrev pub authority_of : List ℕ → List ℕ
 authority_of text = before_first begins_path text
 
+-- the name by which a request asks for its host: the authority of a target in absolute form, whatever its Host says (RFC 9112, section
+-- 3.2.2), else the value of its Host
+abbrev pub named_host : List ℕ → List ℕ → List ℕ
+named_host target host = if has_scheme target then authority_of (before_query (drop 7 target)) else host
+
 -- the path behind an authority, which is a host with or without a port (RFC 9110, section 4.2.1)
 abbrev pub path_behind : List ℕ → Option (List ℕ)
 path_behind text =

@@ -2,31 +2,48 @@
 ghost use Rattle.std.specs.Prelude.{◌≡◌, ◌<◌, IfOk, IfSome, codes, length, option_map, if◌then◌else◌};
 ghost use Rattle.std.specs.Option.{ForSome};
 ghost use Rattle.std.specs.Str.{bytes_eq};
-ghost use Rattle.file_table.specs.Resource.{IsFoundIn};
+ghost use Rattle.file_table.specs.Resource.{IsFoundFor};
+ghost use Rattle.http_core.specs.ServedInside.{IsPlaceOf};
 ghost use Rattle.http_core.specs.Ask as spec;
-ghost use Rattle.http_core.specs.Ask.{IsServedOf};
+ghost use Rattle.http_core.specs.Ask.{IsServedFor, IsServedOf};
 ghost use Rattle.http_core.specs.RangeInside.{HasSmallBound, IsPartWithin};
-ghost use Rattle.http_core.specs.Served.{is_disallowed, is_get, is_head, is_options, options_of, range_for, served_range, resource_at, resource_of_target, served_at, served_of, served_to, size_at};
+ghost use Rattle.http_core.specs.Served.{is_disallowed, is_get, is_head, is_options, chosen_host, options_of, range_for, served_range, resource_at, resource_of_target, served_at, served_of, served_to, size_at};
 
 use crate::code::Code;
+use crate::laws::served_files_are_of_the_chosen_host;
 use crate::location::location_of;
 use crate::plan::{FilePart, Plan, Served};
 use crate::range::{Range, Selection, range_of, selection_of};
 use crate::status_page::{asks_for_text, is_status_path};
-use crate::target::path_of;
-use file_table::{Found, Site, bytes, find};
+use crate::target::{named_host, path_of};
+use file_table::{Found, Site, bytes, find, hosts};
 use http_read::Request;
 use mpm_base::{Ask, NoMemory};
+use name_hosts::choose;
 use std::alloc::Global;
 
-/// What the path of a target names.
-fn resource_at(alloc: Global, site: &Site, path: Option<&[u8]>) -> Result<Found, NoMemory>
+/// The host that the request is for.
+fn chosen_host(site: &Site, request: &Request) -> u32
+    ensures which { result ≡ chosen_host site.now request.now }
+    ensures there { result < length site.now.hosts }
+{
+    choose(hosts(site), named_host(request.target(), request.host()))
+}
+
+/// What the path of a target names for the host.
+fn resource_at(
+    alloc: Global,
+    site: &Site,
+    host: u32,
+    path: Option<&[u8]>,
+) -> Result<Found, NoMemory>
+    requires { host < length site.now.hosts }
     ensures resource { IfOk result
-        (λ found. found ≡ resource_at site.now (option_map (λ p. p.now) path.entry)) }
-    ensures there { IfOk result (IsFoundIn site.now) }
+        (λ found. found ≡ resource_at site.now host (option_map (λ p. p.now) path.entry)) }
+    ensures there { IfOk result (IsFoundFor site.now host) }
 {
     match path {
-        Some(path) => find(alloc, site, path),
+        Some(path) => find(alloc, site, host, path),
         None => Ok(Found::BadPath),
     }
 }
@@ -85,7 +102,7 @@ fn served_of(
     target: &[u8],
     found: Found,
 ) -> Result<Served, NoMemory>
-    requires { IsFoundIn site.now found }
+    requires { IsPlaceOf site.now found }
     ensures value { IfOk result (λ served. served
         ≡ served_of site.now get (option_map (λ t. t.now) range.entry) target.now found) }
     ensures of { IfOk result (IsServedOf site.now) }
@@ -145,7 +162,8 @@ fn is_disallowed(method: &[u8]) -> bool
 /// What is served to a GET, or else to a HEAD.
 fn served_at(alloc: Global, site: &Site, request: &Request, get: bool) -> Result<Served, NoMemory>
     ensures value { IfOk result
-        (λ served. served ≡ served_at site.now get request.now.range request.now.target) }
+        (λ served. served ≡ served_at site.now (chosen_host site.now request.now) get
+        request.now.range request.now.target) }
     ensures of { IfOk result (IsServedOf site.now) }
 {
     let target = request.target();
@@ -153,21 +171,23 @@ fn served_at(alloc: Global, site: &Site, request: &Request, get: bool) -> Result
     if site.has_status() && is_status_path(path) {
         return Ok(Served::Page(asks_for_text(target)));
     }
-    let found = resource_at(alloc, site, path)?;
+    let found = resource_at(alloc, site, chosen_host(site, request), path)?;
     served_of(site, get, request.range(), target, found)
 }
 
 /// What is served to OPTIONS.
-fn serve_options(alloc: Global, site: &Site, target: &[u8]) -> Result<Served, NoMemory>
+fn serve_options(alloc: Global, site: &Site, request: &Request) -> Result<Served, NoMemory>
     ensures value { IfOk result (λ served. served
-        ≡ (if bytes_eq target.now (codes "*") then Served.Options
-        else options_of (resource_of_target site.now target.now))) }
+        ≡ (if bytes_eq request.now.target (codes "*") then Served.Options
+        else options_of (resource_of_target site.now (chosen_host site.now request.now)
+        request.now.target))) }
     ensures of { IfOk result (IsServedOf site.now) }
 {
+    let target = request.target();
     if matches!(target, b"*") {
         return Ok(Served::Options);
     }
-    let found = resource_at(alloc, site, path_of(target))?;
+    let found = resource_at(alloc, site, chosen_host(site, request), path_of(target))?;
     Ok(options_of(found))
 }
 
@@ -181,7 +201,7 @@ fn served_to(alloc: Global, site: &Site, request: &Request) -> Result<Served, No
     if get || is_head(method) {
         served_at(alloc, site, request, get)
     } else if is_options(method) {
-        serve_options(alloc, site, request.target())
+        serve_options(alloc, site, request)
     } else if is_disallowed(method) {
         Ok(Served::Refused(Code::MethodNotAllowed))
     } else {
@@ -189,12 +209,16 @@ fn served_to(alloc: Global, site: &Site, request: &Request) -> Result<Served, No
     }
 }
 
-/// What a request asks for, and the plan of its response. NoMemory where memory lacks for its path.
+/// What a request asks for, and the plan of its response: a file that is served is one that the host has which the request is for.
+/// NoMemory where memory lacks for its path.
 pub fn ask_of(alloc: Global, site: &Site, request: &Request) -> Result<(Ask, Plan), NoMemory>
     ensures ask { IfOk result (λ asked. asked.0 ≡ spec.ask_for site.now request.now) }
     ensures plan { IfOk result (λ asked. asked.1 ≡ spec.plan_for site.now request.now) }
     ensures of { IfOk result (λ asked. IsServedOf site.now asked.1.served) }
+    ensures host { IfOk result (λ asked.
+        IsServedFor site.now (chosen_host site.now request.now) asked.1.served) }
 {
+    served_files_are_of_the_chosen_host();
     let served = served_to(alloc, site, request)?;
     let ask = Ask {
         asked_close: request.asked_close(),

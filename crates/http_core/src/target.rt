@@ -1,7 +1,7 @@
 //! The path of a target.
 ghost use Rattle.std.specs.Prelude.{◌≡◌, ◌==◌, slice_index, option_map};
 ghost use Rattle.std.specs.List.{after_first, before_first, list_any};
-ghost use Rattle.http_core.specs.Target.{begins_fragment, begins_path, begins_query, has_scheme, path_behind, path_of, path_or_root, query_of};
+ghost use Rattle.http_core.specs.Target.{begins_fragment, begins_path, begins_query, has_scheme, named_host, path_behind, path_of, path_or_root, query_of};
 
 use http_read::{is_authority, place_of_byte};
 use mpm_base::is_same_ignoring_case;
@@ -51,6 +51,18 @@ fn path_or_root(path: &[u8]) -> &[u8]
     ensures { result.now ≡ path_or_root path.now }
 {
     if path.is_empty() { b"/" } else { path }
+}
+
+/// The name by which a request asks for its host: the authority of a target in absolute form (RFC 9112, section 3.2.2), else the value
+/// of its Host.
+pub fn named_host<'a>(target: &'a [u8], host: &'a [u8]) -> &'a [u8]
+    ensures { result.now ≡ named_host target.now host.now }
+{
+    if has_scheme(target) {
+        before_byte(before_byte(&target[7..], b'?'), b'/')
+    } else {
+        host
+    }
 }
 
 /// The path behind an authority.

@@ -1,31 +1,19 @@
 //! Responses by example.
 ghost use Rattle.std.specs.Prelude.{◌≡◌, true, IfOk, IsUtf8};
+ghost use Rattle.file_table.specs.Site.{IsLoadable};
 ghost use Rattle.mpm_base.specs.Moment.{IsSecond};
 ghost use Rattle.http_core.specs.Ask.{IsServedOf};
 ghost use Rattle.http_core.specs.Code.{refuses_head};
 
 use crate::heads::LIMITS;
 use crate::pages::page_where;
-use file_table::{LoadFault, Site, SiteOrder, bytes, load};
+use file_table::{HostOrder, HostOrders, LoadFault, Site, SiteOrder, bytes, load};
 use http_core::{Body, Plan, ask_of, continue_text, refusal, response};
 use http_read::{HeadAnswer, Request, next_head};
-use mpm_base::{Ask, NoMemory, Note, Octets, Page};
+use mpm_base::{Ask, Names, NoMemory, Note, Octets, Page};
 use stand_ins::{Calls, Files, MemStore};
 use std::alloc::Global;
 use test_rows::{Marks, Sheet, number_of, text_of, words};
-
-/// A site of the folder `htdocs`, whose index is `index.html`, with the status page or without.
-fn htdocs(alloc: Global, status: bool) -> Result<SiteOrder, NoMemory>
-    ensures { IfOk result (λ order. IsUtf8 order.root × IsUtf8 order.index) }
-{
-    let root = Octets::of(alloc, "htdocs".as_bytes())?;
-    let index = Octets::of(alloc, "index.html".as_bytes())?;
-    Ok(SiteOrder {
-        root,
-        index,
-        status,
-    })
-}
 
 /// A site of an index, ten digits, an empty file and a folder, with the status page or without.
 pub fn digits_site(alloc: Global, status: bool) -> Result<Site, LoadFault> {
@@ -42,6 +30,46 @@ fn set_digits(files: &mut Files) -> Result<(), NoMemory> {
     files.set("htdocs/empty.gif", b"")
 }
 
+/// A host of these names, whose root is this folder.
+fn host_of(alloc: Global, names: &[&str], root: &str) -> Result<HostOrder, NoMemory>
+    ensures { IfOk result (λ order. IsUtf8 order.root) }
+{
+    let mut list = Names::make(alloc);
+    for name in names {
+        list.push(Octets::of(alloc, name.as_bytes())?)?;
+    }
+    Ok(HostOrder {
+        names: list,
+        root: Octets::of(alloc, root.as_bytes())?,
+        index: Octets::of(alloc, b"index.html")?,
+    })
+}
+
+/// The hosts `a.example`, and `b.example` with `www.b.example`.
+fn two_hosts(alloc: Global) -> Result<SiteOrder, NoMemory>
+    ensures { IfOk result IsLoadable }
+{
+    let mut hosts = HostOrders::make(alloc);
+    hosts.push(host_of(alloc, &["a.example"], "sites/a")?)?;
+    hosts.push(host_of(alloc, &["b.example", "www.b.example"], "sites/b")?)?;
+    Ok(SiteOrder {
+        hosts,
+        status: true,
+    })
+}
+
+/// A site of these two hosts, each with an index and a file of its own.
+fn hosts_site(alloc: Global) -> Result<Site, LoadFault> {
+    let mut files = Files::make(alloc);
+    files.set("sites/a/index.html", b"A\n")?;
+    files.set("sites/a/a.txt", b"of a\n")?;
+    files.set("sites/b/docs/b.txt", b"of b\n")?;
+    files.set("sites/b/index.html", b"B\n")?;
+    let order = two_hosts(alloc)?;
+    let mut store = MemStore::make(alloc, files, Calls::make(alloc));
+    load(alloc, &mut store, &order)
+}
+
 /// A site of one file, `large.bin`, with these bytes.
 pub fn large_site(alloc: Global, bytes: &[u8]) -> Result<Site, LoadFault> {
     let mut files = Files::make(alloc);
@@ -51,7 +79,7 @@ pub fn large_site(alloc: Global, bytes: &[u8]) -> Result<Site, LoadFault> {
 
 /// A site of these files, with the status page or without.
 fn site_with(alloc: Global, files: Files, status: bool) -> Result<Site, LoadFault> {
-    let order = htdocs(alloc, status)?;
+    let order = SiteOrder::one_host(alloc, "htdocs", "index.html", status)?;
     let mut store = MemStore::make(alloc, files, Calls::make(alloc));
     load(alloc, &mut store, &order)
 }
@@ -131,7 +159,7 @@ struct Dated {
 }
 
 /// Shows the response to each head. The words of the section say the second of its date, whether it is the last, and whether the site
-/// hides its status page.
+/// hides its status page or has two hosts.
 pub fn show_answers(
     sheet: &mut Sheet,
     alloc: Global,
@@ -144,7 +172,12 @@ pub fn show_answers(
         second: number_of(second),
         last: last == "last",
     };
-    match digits_site(alloc, hidden != "hidden") {
+    let answer = if hidden == "hosts" {
+        hosts_site(alloc)
+    } else {
+        digits_site(alloc, hidden != "hidden")
+    };
+    match answer {
         Ok(site) => show_answers_of(sheet, alloc, &site, dated, rows),
         Err(_) => Err(NoMemory),
     }

@@ -197,7 +197,7 @@ conf-says o edition next name counts counts' f is named (inr bad) =
 no-site : (files : List File) (c : Configuration) (f : LoadFault) (root : List ℕ) → root ≡ c.root → is_limit f ≡ true → MayLoad (order_of c) files (Err f)
     → IsSiteRefusedOf files c (name_for f root)
 no-site files c load.StoreFault root root_is limit lacks = absurd (cc limit)
-no-site files c load.TooMany root root_is limit lacks = inl (record { many = lacks; named = root_is })
+no-site files c (load.TooMany name) root root_is limit lacks = inl (record { many = lacks })
 no-site files c (load.TooLarge name size) root root_is limit lacks = inr (record { size = size; large = lacks })
 no-site files c load.NoMemory root root_is limit lacks = absurd (cc limit)
 

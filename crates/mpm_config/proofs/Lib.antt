@@ -7,3 +7,4 @@ pub mod PieceLemmas
 pub mod RangeLemmas
 pub mod TextLemmas
 pub mod WordLemmas
+pub mod HostLemmas

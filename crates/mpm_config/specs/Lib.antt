@@ -5,6 +5,7 @@ pub mod Directive
 pub mod DirectiveInside
 pub mod FirstInside
 pub mod Form
+pub mod HostName
 pub mod Line
 pub mod Numbers
 pub mod Range

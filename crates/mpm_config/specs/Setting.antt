@@ -1,12 +1,13 @@
 -- What the line of a directive sets.
 use Rattle.std.specs.Prelude.{ℕ, List, [], ◌∷◌, Option, Some, None, option_map, if◌then◌else◌, Result, Ok, Err}
 use Rattle.mpm_config.specs.declared.directive.Directive.{Directive}
-use Rattle.mpm_config.specs.declared.directive.Directive.TheVariants.{Number, KeepAlive, Listen, ControlListen, DocumentRoot, DirectoryIndex, ServerStatus, ServerName}
+use Rattle.mpm_config.specs.declared.directive.Directive.TheVariants.{Number, KeepAlive, Listen, ControlListen, DocumentRoot, DirectoryIndex, ServerStatus, ServerName, ServerAlias}
 use Rattle.mpm_config.specs.declared.setting.Setting.{Setting}
 use Rattle.mpm_config.specs.declared.setting.Setting.TheVariants as sets
 use Rattle.mpm_config.specs.declared.setting.Wrong.{Wrong}
 use Rattle.mpm_config.specs.declared.setting.Wrong.TheVariants.{Name, Value}
 use Rattle.mpm_config.specs.Directive.{directive_of}
+use Rattle.mpm_config.specs.HostName.{are_aliases, is_server_name}
 use Rattle.mpm_config.specs.Range.{port_range}
 use Rattle.mpm_config.specs.Value.{number, number_of, switch, address, is_folder, is_file}
 use Rattle.mpm_config.specs.Words.{Word, Closed, words}
@@ -20,22 +21,28 @@ setting_of ControlListen v = option_map (λ p. sets.ControlListen p) (number por
 setting_of DocumentRoot v = if is_folder v then Some sets.DocumentRoot else None
 setting_of DirectoryIndex v = if is_file v then Some sets.DirectoryIndex else None
 setting_of ServerStatus v = option_map (λ b. sets.ServerStatus b) (switch v)
-setting_of ServerName v = Some sets.ServerName
+setting_of ServerName v = if is_server_name v then Some sets.ServerName else None
+setting_of ServerAlias v = None
 
--- a setting, and the value that spells it
-pub record Assignment : Type 0 where
-  pub setting : Setting
-  pub value : List ℕ
+-- what the line of a directive does: it sets what the value spells, or adds the words to the names of a host
+pub data Assignment : Type 0 where
+  Sets : Setting → List ℕ → Assignment
+  AddsNames : List Word → Assignment
 
 -- what the value sets, or that the directive may not have it
 abbrev pub assignment_of : List ℕ → Option Setting → Result Assignment Wrong
 assignment_of v None = Err Value
-assignment_of v (Some s) = Ok (record { setting = s; value = v })
+assignment_of v (Some s) = Ok (Sets s v)
 
 -- the words after the name of a directive: exactly one value
+abbrev pub of_value : Directive → List Word → Result Assignment Wrong
+of_value d (Closed v ∷ []) = assignment_of v (setting_of d v)
+of_value d ws = Err Value
+
+-- ServerAlias has one or more
 abbrev pub of_words : Directive → List Word → Result Assignment Wrong
-of_words d (Closed v ∷ []) = assignment_of v (setting_of d v)
-of_words d ws = Err Value
+of_words ServerAlias ws = if are_aliases ws then Ok (AddsNames ws) else Err Value
+of_words d ws = of_value d ws
 
 -- the words after a name
 abbrev pub of_name : Option Directive → List Word → Result Assignment Wrong

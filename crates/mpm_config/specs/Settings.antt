@@ -4,10 +4,34 @@ use Rattle.mpm_base.specs.declared.addr.Addr.{Addr}
 use Rattle.mpm_config.specs.declared.numbers.Numbers.{Numbers}
 use Rattle.mpm_config.specs.declared.setting.Setting.{Setting}
 use Rattle.mpm_config.specs.declared.setting.Setting.TheVariants.{Number, KeepAlive, Listen, ControlListen, DocumentRoot, DirectoryIndex, ServerStatus, ServerName}
+use Rattle.mpm_config.specs.HostName.{server_name}
 use Rattle.mpm_config.specs.Numbers.{initial_numbers, with_number}
 
--- the numbers, the address to listen at, the port of the control line, the folder of the files, a folder's own file, and whether the
--- status page is served
+-- what the section of a host sets: its name, where it has one, its further names, and where they are set the folder of its files and
+-- the name of a folder's own file
+pub record HostSettings : Type 0 where
+  pub name : List (List ℕ)
+  pub aliases : List (List ℕ)
+  pub root : Option (List ℕ)
+  pub index : Option (List ℕ)
+
+-- those of a section in which nothing stands
+abbrev pub empty_host : HostSettings
+empty_host = record { name = []; aliases = []; root = None; index = None }
+
+-- those after one more setting, which that value spells, where it may stand in such a section
+abbrev pub with_host_setting : HostSettings → List ℕ → Setting → Option HostSettings
+with_host_setting h v DocumentRoot = Some (record h { root = Some v })
+with_host_setting h v DirectoryIndex = Some (record h { index = Some v })
+with_host_setting h v ServerName = Some (record h { name = server_name v ∷ [] })
+with_host_setting h v (Number q n) = None
+with_host_setting h v (KeepAlive b) = None
+with_host_setting h v (Listen a) = None
+with_host_setting h v (ControlListen p) = None
+with_host_setting h v (ServerStatus b) = None
+
+-- the numbers, the address to listen at, the port of the control line, the folder of the files, a folder's own file, whether the
+-- status page is served, the name of the server, where it has one, and the hosts whose sections were closed
 pub record Settings : Type 0 where
   pub numbers : Numbers
   pub listen : Addr
@@ -15,6 +39,8 @@ pub record Settings : Type 0 where
   pub root : List ℕ
   pub index : List ℕ
   pub status : Bool
+  pub name : List (List ℕ)
+  pub hosts : List HostSettings
 
 -- the settings of the empty text
 abbrev pub initial_settings : Settings
@@ -25,6 +51,8 @@ initial_settings = record {
   root = codes "htdocs";
   index = codes "index.html";
   status = true;
+  name = [];
+  hosts = [];
 }
 
 -- the settings after one more, which that value spells
@@ -36,7 +64,7 @@ with_setting s v (ControlListen p) = record s { control = Some p }
 with_setting s v DocumentRoot = record s { root = v }
 with_setting s v DirectoryIndex = record s { index = v }
 with_setting s v (ServerStatus b) = record s { status = b }
-with_setting s v ServerName = s
+with_setting s v ServerName = record s { name = server_name v ∷ [] }
 
 -- both settings are of one directive
 abbrev pub IsSameDirective : Setting → Setting → Type 0

@@ -2,6 +2,7 @@
 ghost use Rattle.std.specs.Prelude.{◌≡◌, ◌≤◌, true};
 
 use crate::correction::correct;
+use crate::host_conf::HostConfs;
 use crate::numbers::Numbers;
 use mpm_base::{Addr, Octets, Shape};
 use std::marker::Model;
@@ -24,6 +25,8 @@ pub struct Config {
     pub index: Octets,
     /// ServerStatus: whether the status page is served.
     pub status: bool,
+    /// The hosts: those of the sections, or else the one outside of such sections; 1 to 64.
+    pub hosts: HostConfs,
 }
 
 impl Model for Config {
@@ -39,9 +42,10 @@ impl Model for Config {
       root = c.root;
       index = c.index;
       status = c.status;
+      hosts = c.hosts;
     } };
 
-    ghost invariant = { λ c. IsConfiguration c.written c.now c.root c.index };
+    ghost invariant = { λ c. IsConfiguration c.written c.now c.root c.index c.hosts };
 }
 
 ghost use Rattle.mpm_config.specs.Config.{with_limits, IsConfiguration};
@@ -51,7 +55,8 @@ ghost use Rattle.mpm_config.specs.Shape.{shape_of_numbers};
 impl Config {
     /// What every configuration keeps, for callers that see it as one value. It does nothing.
     pub fn show(&self)
-        ensures { let c = self.entry.now in IsConfiguration c.written c.current c.root c.index }
+        ensures { let c = self.entry.now in
+            IsConfiguration c.written c.current c.root c.index c.hosts }
     {
         let _ = &self.written;
     }

@@ -39,6 +39,7 @@ pub enum Directive {
     DirectoryIndex,
     ServerStatus,
     ServerName,
+    ServerAlias,
 }
 
 /// A name, and the directive that it stands for.
@@ -49,7 +50,7 @@ pub struct Spelling {
 }
 
 /// Every name of the language, the first spelling of a directive before the others.
-pub const SPELLINGS: [Spelling; 26] = [
+pub const SPELLINGS: [Spelling; 27] = [
     Spelling {
         name: "ServerLimit",
         directive: Directive::Number(Quantity::ServerLimit),
@@ -153,6 +154,10 @@ pub const SPELLINGS: [Spelling; 26] = [
     Spelling {
         name: "ServerName",
         directive: Directive::ServerName,
+    },
+    Spelling {
+        name: "ServerAlias",
+        directive: Directive::ServerAlias,
     },
 ];
 

@@ -1,16 +1,20 @@
 //! The settings of a text as it is read.
-ghost use Rattle.std.specs.Prelude.{◌≡◌, IfOk, OnOk};
-ghost use Rattle.mpm_config.specs.Reading.{configuration_of, ConfigAndWarnings};
+ghost use Rattle.std.specs.Prelude.{◌≡◌, ◌==◌, ◌<◌, if◌then◌else◌, ◌∷◌, [], ◌++◌, length, map, unwrap_or, IfOk, OnOk};
+ghost use Rattle.mpm_config.specs.Config.{most_hosts};
+ghost use Rattle.mpm_config.specs.Reading.{configuration_of, confs_by, host_conf_by, ConfigAndWarnings};
 ghost use Rattle.mpm_config.specs.SettingInside.{IsSettable};
 ghost use Rattle.mpm_config.specs.Settings.{initial_settings, with_setting};
 
 use crate::config::Config;
 use crate::correction::{correct, warnings_of};
+use crate::host_conf::{HostConf, HostConfs};
+use crate::host_draft::HostDraft;
+use crate::host_name::server_name;
 use crate::numbers::Numbers;
 use crate::range::PORT;
 use crate::setting::Setting;
 use crate::warning::Warnings;
-use mpm_base::{Addr, NoMemory, Octets};
+use mpm_base::{Addr, Names, NoMemory, Octets};
 use std::alloc::Global;
 use std::marker::Model;
 
@@ -23,6 +27,8 @@ pub struct Draft {
     root: Octets,
     index: Octets,
     status: bool,
+    name: Names,
+    hosts: Vec<HostDraft>,
 }
 
 impl Model for Draft {
@@ -38,9 +44,11 @@ impl Model for Draft {
       root = d.root;
       index = d.index;
       status = d.status;
+      name = d.name;
+      hosts = d.hosts.items;
     } };
 
-    ghost invariant = { λ d. AreKept d.numbers d.root d.index };
+    ghost invariant = { λ d. AreKept d.numbers d.root d.index d.hosts.items };
 }
 
 impl Draft {
@@ -58,6 +66,8 @@ impl Draft {
             root: Octets::of(alloc, "htdocs".as_bytes())?,
             index: Octets::of(alloc, "index.html".as_bytes())?,
             status: true,
+            name: Names::make(alloc),
+            hosts: Vec::new(alloc),
         })
     }
 
@@ -74,9 +84,31 @@ impl Draft {
             Setting::DocumentRoot => self.root = Octets::of(alloc, value.as_bytes())?,
             Setting::DirectoryIndex => self.index = Octets::of(alloc, value.as_bytes())?,
             Setting::ServerStatus(status) => self.status = status,
-            Setting::ServerName => (),
+            Setting::ServerName => {
+                let mut name = Names::make(alloc);
+                name.push(Octets::of(alloc, server_name(value.as_bytes()))?)?;
+                self.name = name;
+            }
         }
         Ok(())
+    }
+
+    /// How many sections of hosts were closed.
+    pub fn host_count(&self) -> usize
+        ensures { result ≡ length self.now.hosts }
+    {
+        self.hosts.len()
+    }
+
+    /// Puts the host of a section that was closed behind the others, of which there are fewer than there may be.
+    pub fn add_host(&mut self, host: HostDraft) -> Result<(), NoMemory>
+        requires { length self.old.hosts < most_hosts }
+        ensures { OnOk result (self.new ≡ record self.old { hosts = self.old.hosts ++ host ∷ [] }) }
+    {
+        match self.hosts.push(host) {
+            Ok(()) => Ok(()),
+            Err(_) => Err(NoMemory),
+        }
     }
 
     /// The configuration of the settings, and its warnings.
@@ -91,7 +123,16 @@ impl Draft {
             root,
             index,
             status,
+            name,
+            hosts,
         } = self;
+        let hosts = confs_of(
+            alloc,
+            hosts.as_slice(),
+            name,
+            root.as_slice(),
+            index.as_slice(),
+        )?;
         let warnings = warnings_of(alloc, &numbers)?;
         let config = Config {
             written: numbers,
@@ -101,7 +142,54 @@ impl Draft {
             root,
             index,
             status,
+            hosts,
         };
         Ok((config, warnings))
     }
+}
+
+/// The one host where there is no section.
+fn outer_conf(alloc: Global, names: Names, root: &[u8], index: &[u8]) -> Result<HostConf, NoMemory>
+    ensures { IfOk result (λ conf. conf
+        ≡ record { names = names; root = root.now; index = index.now }) }
+{
+    let root = Octets::of(alloc, root)?;
+    let index = Octets::of(alloc, index)?;
+    Ok(HostConf { names, root, index })
+}
+
+/// The hosts of these sections.
+fn section_confs(
+    alloc: Global,
+    hosts: &[HostDraft],
+    root: &[u8],
+    index: &[u8],
+) -> Result<HostConfs, NoMemory>
+    ensures { IfOk result (λ confs. confs ≡ map (host_conf_by root.now index.now) hosts.now) }
+{
+    let mut confs = HostConfs::make(alloc);
+    for host in hosts {
+        let conf = host.conf(alloc, root, index)?;
+        confs.push(conf)?;
+    }
+    Ok(confs)
+}
+
+/// The hosts of these sections; without one the outer one.
+fn confs_of(
+    alloc: Global,
+    hosts: &[HostDraft],
+    name: Names,
+    root: &[u8],
+    index: &[u8],
+) -> Result<HostConfs, NoMemory>
+    ensures { IfOk result (λ confs. confs ≡ confs_by name root.now index.now hosts.now) }
+{
+    if !hosts.is_empty() {
+        return section_confs(alloc, hosts, root, index);
+    }
+    let mut confs = HostConfs::make(alloc);
+    let outer = outer_conf(alloc, name, root, index)?;
+    confs.push(outer)?;
+    Ok(confs)
 }

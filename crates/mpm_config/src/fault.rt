@@ -15,7 +15,8 @@ pub enum ConfFault {
     /// The directive of the line has not exactly one value, or may not have that value.
     #[error("line {0} has a bad value")]
     BadValue(u64),
-    /// The line begins with `<` and is no section, or closes none.
+    /// The line begins with `<` and is no section, or closes none of that kind, or opens the section of a host where none may be; or
+    /// its directive may not stand in the section of a host, or outside of one.
     #[error("line {0} is no section")]
     BadSection(u64),
     /// The section that the line opens is not closed; of several it is the innermost.

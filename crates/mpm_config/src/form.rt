@@ -1,21 +1,33 @@
 //! What kind of line a line is: nothing, a section's opening or closing, or a directive.
 ghost use Rattle.std.specs.Prelude.{◌≡◌, ◌==◌, ◌&&◌, ◌+◌, ◌<◌, drop, length, option_map, slice_index};
 ghost use Rattle.std.specs.List.{list_all};
-ghost use Rattle.mpm_config.specs.Form.{arguments, before_end, section_closing, form_of, guard, guard_of, is_present, of_inside, of_section};
+ghost use Rattle.mpm_config.specs.Form.{before_end, closing_of, form_of, guard, guard_of, is_any_address, is_present, kind_of, of_inside, of_section, opening_of, section_closing, section_opening, takes_hosts};
 ghost use Rattle.mpm_config.specs.Words.{is_blank, words};
 
+use crate::value::{around, port};
 use crate::word::{First, at_blank, first_word, is_blank, past_first, skip_blanks};
 use mpm_base::is_same_ignoring_case;
+
+/// The kind of a section.
+#[derive(Clone, Copy, Debug, PartialEq, Eq)]
+pub enum Kind {
+    /// IfModule.
+    Module,
+    /// VirtualHost.
+    Host,
+}
 
 /// The kind of a line.
 #[derive(Clone, Copy, Debug, PartialEq, Eq)]
 pub enum Form {
     /// An empty line or a comment.
     Blank,
-    /// The opening of a section, and whether its guard holds; without a guard it has not exactly one name.
+    /// The opening of a section of modules, and whether its guard holds; without a guard it has not exactly one name.
     Opening(Option<bool>),
-    /// The closing of a section.
-    Closing,
+    /// The opening of the section of a host, and whether its argument is right.
+    OpeningHost(bool),
+    /// The closing of a section of the kind.
+    Closing(Kind),
     /// A closing with a word after its kind.
     ClosingWithWord,
     /// Any other line that begins with `<`.
@@ -55,25 +67,81 @@ fn guard(line: &str) -> Option<bool>
     guard_of(argument.as_bytes())
 }
 
-/// What follows the kind of a section, where that is IfModule. The kind stands without quotes.
-fn arguments(text: &str) -> Option<&str>
-    ensures { option_map (λ rest. words rest.now) result ≡ arguments text.now }
+/// Whether it is any address: an asterisk, or one, a colon and a port.
+fn is_any_address(value: &[u8]) -> bool
+    ensures { result ≡ is_any_address value.now }
 {
-    let (kind, after) = at_blank(text);
-    if is_same_ignoring_case(kind.as_bytes(), b"IfModule") {
-        Some(after)
+    match around(value, b':') {
+        Some((before, after)) => before == b"*".as_slice() && port(after).is_some(),
+        None => value == b"*".as_slice(),
+    }
+}
+
+/// Whether it is the argument of the section of a host: exactly one such word.
+fn takes_hosts(line: &str) -> bool
+    ensures { result ≡ takes_hosts (words line.now) }
+{
+    let First::Closed(argument, after) = first_word(line) else {
+        return false;
+    };
+    let First::End = first_word(after) else {
+        return false;
+    };
+    is_any_address(argument.as_bytes())
+}
+
+/// The kind of a section that the word names, which stands without quotes.
+fn kind_of(word: &[u8]) -> Option<Kind>
+    ensures { result ≡ kind_of word.now }
+{
+    if is_same_ignoring_case(word, b"IfModule") {
+        Some(Kind::Module)
+    } else if is_same_ignoring_case(word, b"VirtualHost") {
+        Some(Kind::Host)
     } else {
         None
     }
 }
 
-/// The kind of a closing, by what follows its kind.
-fn closing(line: &str) -> Form
-    ensures { result ≡ section_closing (words line.now) }
+/// The opening of a section of the kind, by what follows that.
+fn opening(line: &str, kind: Kind) -> Form
+    ensures { result ≡ section_opening (words line.now) kind }
+{
+    match kind {
+        Kind::Module => Form::Opening(guard(line)),
+        Kind::Host => Form::OpeningHost(takes_hosts(line)),
+    }
+}
+
+/// The closing of a section of the kind, by what follows that.
+fn closing(line: &str, kind: Kind) -> Form
+    ensures { result ≡ section_closing (words line.now) kind }
 {
     match first_word(line) {
-        First::End => Form::Closing,
+        First::End => Form::Closing(kind),
         _ => Form::ClosingWithWord,
+    }
+}
+
+/// The form of an opening.
+fn opening_of(text: &str) -> Form
+    ensures { result ≡ opening_of text.now }
+{
+    let (word, after) = at_blank(text);
+    match kind_of(word.as_bytes()) {
+        Some(kind) => opening(after, kind),
+        None => Form::OtherSection,
+    }
+}
+
+/// The form of a closing, by what follows its slash.
+fn closing_of(text: &str) -> Form
+    ensures { result ≡ closing_of text.now }
+{
+    let (word, after) = at_blank(text);
+    match kind_of(word.as_bytes()) {
+        Some(kind) => closing(after, kind),
+        None => Form::OtherSection,
     }
 }
 
@@ -85,15 +153,9 @@ fn of_inside(inside: &str) -> Form
         return Form::OtherSection;
     }
     if inside.as_bytes()[0] == b'/' {
-        match arguments(past_first(inside)) {
-            Some(rest) => closing(rest),
-            None => Form::OtherSection,
-        }
+        closing_of(past_first(inside))
     } else {
-        match arguments(inside) {
-            Some(rest) => Form::Opening(guard(rest)),
-            None => Form::OtherSection,
-        }
+        opening_of(inside)
     }
 }
 

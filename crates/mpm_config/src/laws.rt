@@ -5,24 +5,26 @@ ghost use Rattle.std.specs.Str.Lines.{lines};
 ghost use Rattle.mpm_config.specs.Correction.{after_corrections};
 ghost use Rattle.mpm_config.specs.Line.{logical_lines, Line, Rise};
 ghost use Rattle.mpm_config.specs.Numbers.{IsInRange};
-ghost use Rattle.mpm_config.specs.Reading.{after_line, after_lines, and_then, hides, settings_of, IsAtLine, Progress};
-ghost use Rattle.mpm_config.specs.Settings.{with_setting, IsSameDirective, Settings};
+ghost use Rattle.mpm_config.specs.Reading.{after_line, after_lines, and_then, hides, settings_of, IsAtLine, Progress, ReplacesInHost, SetsNothing};
+ghost use Rattle.mpm_config.specs.Settings.{with_setting, HostSettings, IsSameDirective, Settings};
 ghost use Rattle.mpm_base.specs.Shape.{is_in_bounds};
 ghost use Rattle.mpm_config.specs.Shape.{shape_of_numbers};
 ghost use Rattle.mpm_config.specs.declared.fault.ConfFault.{ConfFault};
 ghost use Rattle.mpm_config.specs.declared.numbers.Numbers.{Numbers};
 ghost use Rattle.mpm_config.specs.declared.setting.Setting.{Setting};
 
-/// A later setting of a directive replaces an earlier one.
+/// A later setting of a directive replaces an earlier one, outside of the sections of hosts and in one of them.
 pub fn later_settings_replace()
-    ensures { (s : Settings) (v w : List ℕ) (a b : Setting) → IsSameDirective a b
+    ensures outer { (s : Settings) (v w : List ℕ) (a b : Setting) → IsSameDirective a b
         → with_setting (with_setting s v a) w b ≡ with_setting s w b }
+    ensures host { (h : HostSettings) (v w : List ℕ) (a b : Setting) → IsSameDirective a b
+        → ReplacesInHost h v w a b }
 {}
 
-/// A line in a part that is skipped sets nothing.
+/// A line in a part that is skipped sets nothing, neither outside of the sections of hosts nor in one of them.
 pub fn skipped_lines_set_nothing()
     ensures { (p : Progress) (l : Line) → hides p.sections ≡ true
-        → IfOk (after_line p l) (λ q. q.settings ≡ p.settings) }
+        → IfOk (after_line p l) (SetsNothing p) }
 {}
 
 /// The lines of a text are numbered upwards from 1, a line is refused by its own number, and the first line that

@@ -5,7 +5,8 @@
 //! number that was corrected; else it names the first fault with its line. `carry_limits` keeps the two limits
 //! over a restart, and `shape_of` gives the shape of a configuration, which is in its bounds.
 //! The definition is `config_of` in `specs/Reading.antt`: the lines of a text (`Line`), the kind of each (`Form`), its words (`Words`), what they set (`Directive`, `Value`, `NumberRange`, `Setting`, `Settings`) and the corrections
-//! (`Correction`). `laws` says what these come to.
+//! (`Correction`). The section of a host sets what it has of its own (`HostName`, `HostSettings` in `Settings`), and the hosts are made of these
+//! once the text is read (`confs_by`; `HostConf`, `Config`). `laws` says what these come to.
 #![tactic(auto)]
 
 mod config;
@@ -14,6 +15,9 @@ mod directive;
 mod draft;
 mod fault;
 mod form;
+mod host_conf;
+mod host_draft;
+mod host_name;
 mod laws;
 mod line;
 mod numbers;
@@ -28,6 +32,7 @@ mod word;
 pub use config::{Config, carry_limits, shape_of};
 pub use correction::warning_text;
 pub use fault::ConfFault;
+pub use host_conf::{HostConf, HostConfs};
 pub use laws::{
     corrected_numbers_are_in_bounds, first_refusal_decides, later_settings_replace,
     skipped_lines_set_nothing,

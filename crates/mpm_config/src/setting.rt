@@ -1,10 +1,11 @@
 //! What the line of a directive sets.
 ghost use Rattle.std.specs.Prelude.{◌≡◌, IfSome, IfOk, MatchResult, Ok, Err};
-ghost use Rattle.mpm_config.specs.Setting.{assignment, of_words, setting_of, Assignment};
-ghost use Rattle.mpm_config.specs.SettingInside.{IsSettable};
+ghost use Rattle.mpm_config.specs.Setting.{assignment, of_value, of_words, setting_of};
+ghost use Rattle.mpm_config.specs.SettingInside.{IsSettable, IsSettableOne, assignment_shown};
 ghost use Rattle.mpm_config.specs.Words.{words};
 
 use crate::directive::{Directive, Quantity, named};
+use crate::host_name::{are_aliases, is_server_name};
 use crate::value::{address, is_file, is_folder, port, switch};
 use crate::word::{First, first_word};
 use mpm_base::Addr;
@@ -20,6 +21,15 @@ pub enum Setting {
     DirectoryIndex,
     ServerStatus(bool),
     ServerName,
+}
+
+/// What the line of a directive does.
+#[derive(Clone, Copy, Debug)]
+pub enum Assigned<'a> {
+    /// It sets what the value spells.
+    One(Setting, &'a str),
+    /// It adds the words to the names of a host.
+    Names(&'a str),
 }
 
 /// What is wrong with the line of a directive.
@@ -57,16 +67,23 @@ impl Directive {
                 }
             }
             Directive::ServerStatus => Some(Setting::ServerStatus(switch(value)?)),
-            Directive::ServerName => Some(Setting::ServerName),
+            Directive::ServerName => {
+                if is_server_name(value) {
+                    Some(Setting::ServerName)
+                } else {
+                    None
+                }
+            }
+            Directive::ServerAlias => None,
         }
     }
 
-    /// What the words after the name set, and the value.
-    fn assigned(self, line: &str) -> Result<(Setting, &str), Wrong>
+    /// What the words after the name set, where there is exactly one.
+    fn assigned_one(self, line: &str) -> Result<Assigned<'_>, Wrong>
         ensures value { MatchResult result
-            (λ a. of_words self (words line.now) ≡ Ok (record { setting = a.0; value = a.1.now }))
-            (λ wrong. of_words self (words line.now) ≡ Err wrong) }
-        ensures settable { IfOk result (λ a. IsSettable a.0) }
+            (λ a. of_value self (words line.now) ≡ Ok (assignment_shown a))
+            (λ wrong. of_value self (words line.now) ≡ Err wrong) }
+        ensures settable { IfOk result IsSettableOne }
     {
         let First::Closed(value, after) = first_word(line) else {
             return Err(Wrong::Value);
@@ -75,18 +92,37 @@ impl Directive {
             return Err(Wrong::Value);
         };
         match self.setting(value.as_bytes()) {
-            Some(setting) => Ok((setting, value)),
+            Some(setting) => Ok(Assigned::One(setting, value)),
             None => Err(Wrong::Value),
+        }
+    }
+
+    /// What the words after the name set.
+    fn assigned(self, line: &str) -> Result<Assigned<'_>, Wrong>
+        ensures value { MatchResult result
+            (λ a. of_words self (words line.now) ≡ Ok (assignment_shown a))
+            (λ wrong. of_words self (words line.now) ≡ Err wrong) }
+        ensures settable { IfOk result IsSettableOne }
+    {
+        match self {
+            Directive::ServerAlias => {
+                if are_aliases(line) {
+                    Ok(Assigned::Names(line))
+                } else {
+                    Err(Wrong::Value)
+                }
+            }
+            _ => self.assigned_one(line),
         }
     }
 }
 
-/// What the line of a directive sets, and the value.
-pub fn read_assignment(line: &str) -> Result<(Setting, &str), Wrong>
+/// What the line of a directive does.
+pub fn read_assignment(line: &str) -> Result<Assigned<'_>, Wrong>
     ensures value { MatchResult result
-        (λ a. assignment line.now ≡ Ok (record { setting = a.0; value = a.1.now }))
+        (λ a. assignment line.now ≡ Ok (assignment_shown a))
         (λ wrong. assignment line.now ≡ Err wrong) }
-    ensures settable { IfOk result (λ a. IsSettable a.0) }
+    ensures settable { IfOk result IsSettableOne }
 {
     let First::Closed(name, after) = first_word(line) else {
         return Err(Wrong::Value);

@@ -55,7 +55,7 @@ pub fn place_of(value: &[u8], byte: u8) -> Option<usize>
 }
 
 /// What stands before and after the first such byte.
-fn cut(value: &[u8], at: u8) -> Option<(&[u8], &[u8])>
+pub fn around(value: &[u8], at: u8) -> Option<(&[u8], &[u8])>
     ensures { option_map (λ p. record { before = p.0.now; after = p.1.now }) result
         ≡ parts_around at value.now }
 {
@@ -80,7 +80,7 @@ fn decimals(value: &[u8]) -> Option<u32>
 fn hundredths(value: &[u8]) -> Option<u32>
     ensures { result ≡ hundredths value.now }
 {
-    match cut(value, b'.') {
+    match around(value, b'.') {
         Some((before, after)) => {
             let ones = whole(before, 3)?;
             Some(100 * ones + decimals(after)?)
@@ -133,9 +133,9 @@ pub fn port(value: &[u8]) -> Option<u16>
 fn octets(value: &[u8]) -> Option<[u8; 4]>
     ensures { result ≡ octets value.now }
 {
-    let (first, rest) = cut(value, b'.')?;
-    let (second, rest) = cut(rest, b'.')?;
-    let (third, fourth) = cut(rest, b'.')?;
+    let (first, rest) = around(value, b'.')?;
+    let (second, rest) = around(rest, b'.')?;
+    let (third, fourth) = around(rest, b'.')?;
     Some([octet(first)?, octet(second)?, octet(third)?, octet(fourth)?])
 }
 
@@ -143,7 +143,7 @@ fn octets(value: &[u8]) -> Option<[u8; 4]>
 pub fn address(value: &[u8]) -> Option<Addr>
     ensures { result ≡ address value.now }
 {
-    match cut(value, b':') {
+    match around(value, b':') {
         Some((host, after)) => {
             let host = octets(host)?;
             Some(Addr {

@@ -43,8 +43,8 @@ pub no_plan : (name : List ℕ) (running c : Configuration) (read : ConfigAndWar
     → HasCause s3.told name running s0.counts s3.counts (fault_for fault c.root)
 no_plan name running c read s0 s1 s2 s3 load.StoreFault renews stays has carried leaves may =
     rises_behind s0.counts.faults s1.counts.faults s2.counts.faults s3.counts.faults renews.faults stays.faults leaves.faults
-no_plan name running c read s0 s1 s2 s3 load.TooMany renews stays has carried leaves may =
-    no_site name running c read s0 s1 s2 s3 load.TooMany renews stays has carried leaves.told leaves.refusals refl may
+no_plan name running c read s0 s1 s2 s3 (load.TooMany named) renews stays has carried leaves may =
+    no_site name running c read s0 s1 s2 s3 (load.TooMany named) renews stays has carried leaves.told leaves.refusals refl may
 no_plan name running c read s0 s1 s2 s3 (load.TooLarge file size) renews stays has carried leaves may =
     no_site name running c read s0 s1 s2 s3 (load.TooLarge file size) renews stays has carried leaves.told leaves.refusals refl may
 no_plan name running c read s0 s1 s2 s3 load.NoMemory renews stays has carried leaves may = tt

@@ -1,5 +1,5 @@
 -- What a graceful restart makes of the files of a store: the configuration and the site of a new generation. And why it makes none.
-use Rattle.std.specs.Prelude.{◌≡◌, ℕ, ◌<◌, ◌≤◌, ◌⊎◌, true, List, length, Option, Some, None, IfSome, Ok, Err, ⊤}
+use Rattle.std.specs.Prelude.{◌≡◌, ℕ, ◌<◌, ◌≤◌, ◌⊎◌, true, List, length, map, Option, Some, None, IfSome, Ok, Err, ⊤}
 use Rattle.mpm_base.specs.Count.{Rises}
 use Rattle.mpm_base.specs.Store.{StoreCounts, StoreTold, bytes_of}
 use Rattle.mpm_config.specs.Config.{Configuration, with_limits}
@@ -9,7 +9,9 @@ use Rattle.mpm_config.specs.declared.fault.ConfFault.TheVariants as conf
 use Rattle.file_table.specs.Load.{IsWithinLimits, MayLoad, is_limit}
 use Rattle.file_table.specs.Site.{IsSiteOf}
 use Rattle.file_table.specs.declared.load_fault.LoadFault.{LoadFault}
-use Rattle.file_table.specs.declared.site.SiteOrder.{SiteOrder}
+use Rattle.file_table.specs.declared.site_order.HostOrder.{HostOrder}
+use Rattle.file_table.specs.declared.site_order.SiteOrder.{SiteOrder}
+use Rattle.mpm_config.specs.declared.host_conf.HostConf.{HostConf}
 use Rattle.restart_control.specs.declared.plan.Plan.{Plan}
 use Rattle.restart_control.specs.declared.reload_fault.ReloadFault.{ReloadFault}
 use Rattle.restart_control.specs.declared.reload_fault.ReloadFault.TheVariants.{Absent, Conf, Load, StoreFault, NoMemory}
@@ -37,9 +39,13 @@ pub record IsNextConfig (told : Option StoreTold) (name : List ℕ) (running c :
   pub has : HasAccepted told name read
   pub carried : c ≡ with_limits running read.config
 
--- what a site is made of: DocumentRoot, DirectoryIndex as the name of the file that stands for a folder, and whether ServerStatus is on
+-- what is wanted of a host: its names, its DocumentRoot, and its DirectoryIndex as the name of the file that stands for a folder
+abbrev pub host_order : HostConf → HostOrder
+host_order h = record { names = h.names; root = h.root; index = h.index }
+
+-- what a site is made of: the hosts of the configuration, in order, and whether ServerStatus is on
 abbrev pub order_of : Configuration → SiteOrder
-order_of c = record { root = c.root; index = c.index; status = c.status }
+order_of c = record { hosts = map host_order c.hosts; status = c.status }
 
 -- the configuration of a new generation, and a site that is within its limits: where the store tells its files, the one that they make
 -- by that configuration

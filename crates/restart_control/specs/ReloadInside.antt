@@ -28,7 +28,7 @@ IsUnread told name counts counts' NoMemory = ⊤
 -- the fault of a restart for that of its site, whose folder is that root
 abbrev pub fault_for : LoadFault → List ℕ → ReloadFault
 fault_for load.StoreFault root = StoreFault
-fault_for load.TooMany root = Load load.TooMany root
+fault_for (load.TooMany named) root = Load (load.TooMany named) root
 fault_for (load.TooLarge name size) root = Load (load.TooLarge name size) root
 fault_for load.NoMemory root = NoMemory
 

@@ -23,7 +23,7 @@ pub struct Plan {
 }
 
 /// Goes to the next edition of the store, once, and makes a plan of it: the configuration of that name, which keeps ServerLimit and
-/// ThreadLimit of the old one and is corrected again, and the site of the files under its DocumentRoot. The warnings of the configuration
+/// ThreadLimit of the old one and is corrected again, and the site of the files under the roots of its hosts. The warnings of the configuration
 /// are dropped. The store is renewed even where there is no plan. Absent where the store has no such file; Conf where it is refused, and
 /// as a bad value at 0 where it has more than 1,048,576 bytes; Load where its files are more, or larger, than a site takes; StoreFault
 /// where a call of the store failed; NoMemory where memory lacks.

@@ -1,5 +1,6 @@
 pub mod AnsweredLemmas
 pub mod CauseLemmas
+pub mod ChosenHostLemmas
 pub mod DialLemmas
 pub mod ExactLemmas
 pub mod FileLemmas

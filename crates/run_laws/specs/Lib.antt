@@ -1,3 +1,4 @@
+pub mod ChosenHost
 pub mod Exact
 pub mod Grounds
 pub mod Outcomes

@@ -174,8 +174,8 @@ is-played (Some s) lines c told sink sink' status has run = record {
 pub refuses-site : (sink sink' : SinkSeen) (lines : List ScriptLine) (c : Configuration) (shown : Option ℕ) (e : LoadFault)
     → MayLoad (order_of c) (editions_of lines).files (Err e) → RefusesLoad sink sink' c e shown → RefusesSite sink sink' lines c shown
 refuses-site sink sink' lines c shown fault.StoreFault may refused = absurd refused
-refuses-site sink sink' lines c shown fault.TooMany may refused =
-    record { name = c.root; refused = inl (record { many = may; named = refl }); shows = refused.shows; text = refused.writes }
+refuses-site sink sink' lines c shown (fault.TooMany root) may refused =
+    record { name = root; refused = inl (record { many = may }); shows = refused.shows; text = refused.writes }
 refuses-site sink sink' lines c shown (fault.TooLarge name size) may refused =
     record { name = name; refused = inr (record { size = size; large = may }); shows = refused.shows; text = refused.writes }
 refuses-site sink sink' lines c shown fault.NoMemory may refused = absurd refused

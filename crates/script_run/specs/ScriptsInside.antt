@@ -71,7 +71,7 @@ pub record IsConfigRefusalOf (sink sink' : SinkSeen) (lines : List ScriptLine) (
 -- a run is refused for the fault, as there is no site by the configuration
 abbrev pub RefusesLoad : SinkSeen → SinkSeen → Configuration → LoadFault → Option ℕ → Type 0
 RefusesLoad sink sink' c fault.StoreFault shown = ⊥
-RefusesLoad sink sink' c fault.TooMany shown = RefusesRun sink sink' None (site_refused c.root) shown
+RefusesLoad sink sink' c (fault.TooMany root) shown = RefusesRun sink sink' None (site_refused root) shown
 RefusesLoad sink sink' c (fault.TooLarge name size) shown = RefusesRun sink sink' None (site_refused name) shown
 RefusesLoad sink sink' c fault.NoMemory shown = ⊥
 

@@ -199,7 +199,7 @@ fn refuse_unloaded<K: Sink>(
         EndsSilently (K.seen out.old) (K.seen out.new) result.shown }
 {
     match fault {
-        LoadFault::TooMany => refuse_site(alloc, config.root.as_slice(), out),
+        LoadFault::TooMany(root) => refuse_site(alloc, root.as_slice(), out),
         LoadFault::TooLarge(name, _) => refuse_site(alloc, name.as_slice(), out),
         LoadFault::NoMemory => no_memory(),
         LoadFault::StoreFault => unreachable!(),

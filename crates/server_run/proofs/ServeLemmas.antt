@@ -188,7 +188,7 @@ folder-unread call read name c fault.StoreFault answer status command accepted r
       shows = refused.1.shows;
       text = refused.1.writes;
     })
-folder-unread call read name c fault.TooMany answer status command accepted reads leaves refused three = absurd (omega (arith, refused.0, three))
+folder-unread call read name c (fault.TooMany root) answer status command accepted reads leaves refused three = absurd (omega (arith, refused.0, three))
 folder-unread call read name c (fault.TooLarge file size) answer status command accepted reads leaves refused three = absurd (omega (arith, refused.0, three))
 folder-unread call read name c fault.NoMemory answer status command accepted reads leaves refused three = absurd refused
 
@@ -206,17 +206,17 @@ pub folder-refused : (call : Call) (read : StoreSeen) (name : List ℕ) (c : Con
     → LeavesStore {T = SeenSite} read call.store' (Err e) → IfSome read.told (λ t. MayLoad (order_of c) t.files (Err e))
     → RefusesFolder call.sink call.sink' c e status call.shown → status ≡ 9 → EndsServedSiteRefused call
 folder-refused call read name c fault.StoreFault answer status command accepted reads leaves may refused nine = absurd (omega (arith, refused.0, nine))
-folder-refused call read name c fault.TooMany answer status command accepted reads leaves may refused nine =
+folder-refused call read name c (fault.TooMany root) answer status command accepted reads leaves may refused nine =
     let stays = where-stays (answers_with is_refusal answer) call.store.counts.refusals read.counts.refusals reads.counted.refusals in
     record {
       name = name;
       config = c;
-      refused_for = c.root;
+      refused_for = root;
       command = command;
       accepted = accepted;
       refused = record {
         refused = rises-behind call.store.counts.refusals read.counts.refusals call.store'.counts.refusals stays leaves.refusals;
-        lacks = lacks-site call.store.told read.told c fault.TooMany c.root reads.told_stays (λ files many. inl (record { many = many; named = refl })) may;
+        lacks = lacks-site call.store.told read.told c (fault.TooMany root) root reads.told_stays (λ files many. inl (record { many = many })) may;
       };
       shows = refused.1.shows;
       text = refused.1.writes;

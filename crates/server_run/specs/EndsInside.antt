@@ -41,7 +41,7 @@ LeavesUnbound f f' c status = (f' ≡ f) ⊎ (((status ≡ 4) ⊎ (status ≡ 6)
 -- a run is refused with the exit status for the fault, as there is no site by the configuration
 abbrev pub RefusesFolder : SinkSeen → SinkSeen → Configuration → LoadFault → ℕ → Option ℕ → Type 0
 RefusesFolder sink sink' c fault.StoreFault status shown = (status ≡ 3) × RefusesRun sink sink' None (store_fault c.root) shown
-RefusesFolder sink sink' c fault.TooMany status shown = (status ≡ 9) × RefusesRun sink sink' None (site_refused c.root) shown
+RefusesFolder sink sink' c (fault.TooMany root) status shown = (status ≡ 9) × RefusesRun sink sink' None (site_refused root) shown
 RefusesFolder sink sink' c (fault.TooLarge name size) status shown = (status ≡ 9) × RefusesRun sink sink' None (site_refused name) shown
 RefusesFolder sink sink' c fault.NoMemory status shown = ⊥
 

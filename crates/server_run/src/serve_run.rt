@@ -100,7 +100,7 @@ fn refuse_folder<X, K: Sink>(
     config.show();
     match fault {
         LoadFault::StoreFault => refuse_unread(alloc, config.root.as_slice(), None, out),
-        LoadFault::TooMany => refuse_site(alloc, config.root.as_slice(), out),
+        LoadFault::TooMany(root) => refuse_site(alloc, root.as_slice(), out),
         LoadFault::TooLarge(name, _) => refuse_site(alloc, name.as_slice(), out),
         LoadFault::NoMemory => no_memory(),
     }

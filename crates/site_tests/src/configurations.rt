@@ -1,6 +1,8 @@
 //! Configurations by example.
 use mpm_base::{NoMemory, Octets};
-use mpm_config::{Config, Warning, Warnings, carry_limits, read_config, shape_of, warning_text};
+use mpm_config::{
+    Config, HostConf, Warning, Warnings, carry_limits, read_config, shape_of, warning_text,
+};
 use std::alloc::Global;
 use test_rows::{Marks, Sheet, number_of, text_of};
 
@@ -52,6 +54,7 @@ fn show_config(
         "corrected" => println!(sheet; "{:?}", config.now),
         "shape" => println!(sheet; "{:?}", shape_of(config)),
         "values" => show_values(sheet, config),
+        "hosts" => show_hosts(sheet, config),
         "warnings" => return show_warnings(sheet, alloc, warnings),
         _ => sheet.println("accepted"),
     }
@@ -68,6 +71,27 @@ fn show_values(sheet: &mut Sheet, config: &Config) {
     } else {
         " without the status page"
     });
+}
+
+/// Shows how many hosts the configuration has, and each of them.
+fn show_hosts(sheet: &mut Sheet, config: &Config) {
+    println!(sheet; "{}", config.hosts.as_slice().len());
+    for host in config.hosts.as_slice() {
+        show_host(sheet, host);
+    }
+}
+
+/// Shows the names of the host, its root and its index.
+fn show_host(sheet: &mut Sheet, host: &HostConf) {
+    for name in host.names.as_slice() {
+        sheet.text(name.as_slice());
+        sheet.print(" ");
+    }
+    sheet.print("in ");
+    sheet.text(host.root.as_slice());
+    sheet.print(", ");
+    sheet.text(host.index.as_slice());
+    sheet.print("\n");
 }
 
 /// Shows what an operator reads of the warnings.

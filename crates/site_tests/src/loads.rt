@@ -1,5 +1,5 @@
 //! Sites by example: how they are loaded.
-ghost use Rattle.std.specs.Prelude.{None, IfOk, IsUtf8};
+ghost use Rattle.std.specs.Prelude.{None};
 
 use file_table::{LoadFault, Site, SiteOrder, load};
 use mpm_base::{Names, NoMemory, Octets, Store, StoreFault};
@@ -7,22 +7,9 @@ use stand_ins::{Calls, Files, MemStore};
 use std::alloc::Global;
 use test_rows::{Sheet, number_of};
 
-/// A site of the folder `htdocs`, whose index is `index.html`.
-fn htdocs(alloc: Global) -> Result<SiteOrder, NoMemory>
-    ensures { IfOk result (λ order. IsUtf8 order.root × IsUtf8 order.index) }
-{
-    let root = Octets::of(alloc, "htdocs".as_bytes())?;
-    let index = Octets::of(alloc, "index.html".as_bytes())?;
-    Ok(SiteOrder {
-        root,
-        index,
-        status: true,
-    })
-}
-
 /// The site of the store.
 fn load_htdocs<D: Store>(alloc: Global, store: &mut D) -> Result<Site, LoadFault> {
-    match htdocs(alloc) {
+    match SiteOrder::one_host(alloc, "htdocs", "index.html", true) {
         Ok(order) => load(alloc, store, &order),
         Err(NoMemory) => Err(LoadFault::NoMemory),
     }
@@ -59,15 +46,26 @@ pub fn failing(alloc: Global, number: &str) -> Result<Calls, NoMemory> {
 }
 
 /// Shows how many files the site has, or why there is none.
-fn show_load(sheet: &mut Sheet, answer: &Result<Site, LoadFault>) {
+pub fn show_load(sheet: &mut Sheet, answer: &Result<Site, LoadFault>) {
     match answer {
         Ok(site) => println!(sheet; "{} files", site.files().len()),
         Err(LoadFault::TooLarge(name, size)) => {
             show_too_large(sheet, name, *size);
             sheet.print("\n");
         }
+        Err(LoadFault::TooMany(root)) => {
+            show_too_many(sheet, root);
+            sheet.print("\n");
+        }
         Err(fault) => println!(sheet; "{fault:?}"),
     }
+}
+
+/// Shows with the files of which root they are too many.
+pub fn show_too_many(sheet: &mut Sheet, root: &Octets) {
+    sheet.print("TooMany(");
+    sheet.text(root.as_slice());
+    sheet.print(")");
 }
 
 /// Shows which file is too large.

@@ -5,12 +5,16 @@
 //! In the input a line that begins with `== ` begins a section: the word behind it says what its rows are, and the rest is its title.
 //! In a row of a configuration or a script `|` stands for a line feed.
 //!
-//! - `numbers`, `corrected`, `shape`, `values`, `warnings`: configurations, and what of each is shown where it isn't refused.
+//! - `numbers`, `corrected`, `shape`, `values`, `hosts`, `warnings`: configurations, and what of each is shown where it isn't refused.
 //! - `bytes`: configurations, as the numbers of their bytes. `long`: directives, and how many bytes the name behind each has.
 //! - `restart`: configurations and, behind ` => `, the ones that follow them.
 //! - `script`: scripts, whose configuration is shown as it is first and later.
 //! - `paths`: names of files up to a row `--`, and paths that are asked of the site of these files, each of which has its name as its
 //!   bytes. `calls`: such names, and calls of the store that fail. `types`: such names, whose content types are shown.
+//! - `choices`: hosts, a row each with its names (`-` for none), up to a row `--`, and values of a Host, each of which is shown without
+//!   its port, with the number of the host that it chooses. `host-paths`: a row of three hosts with `|` between
+//!   them, each a root and an index, whole names of files up to a row `--`, and paths, each behind the number of a host. `host-sizes`:
+//!   such hosts, and behind ` : ` files, as names and sizes. `host-crowd`: no rows, for a store of 65,537 files under the root of a second host.
 //! - `sizes`: sites, as names and sizes with `|` between them.
 //! - `reload`: names of files up to a row `--`, and configurations of a running server, each with the one behind ` => ` that it finds
 //!   beside these files when it is restarted, or without one. `reload-sizes`: what it finds, as names and sizes. `reload-calls`: such
@@ -24,6 +28,7 @@
 
 mod command_lines;
 mod configurations;
+mod hosts;
 mod loads;
 mod paths;
 mod reloads;
@@ -62,6 +67,10 @@ fn show_section(sheet: &mut Sheet, alloc: Global, section: Section<'_>) -> Resul
         "script" => scripts::show_scripts(sheet, alloc, rows),
         "paths" => paths::show_paths(sheet, alloc, rows),
         "types" => paths::show_types(sheet, alloc, rows),
+        "choices" => hosts::show_choices(sheet, alloc, rows),
+        "host-paths" => hosts::show_host_paths(sheet, alloc, rows),
+        "host-sizes" => hosts::show_host_sizes(sheet, alloc, rows),
+        "host-crowd" => hosts::show_host_crowd(sheet, alloc),
         "calls" => loads::show_calls(sheet, alloc, rows),
         "sizes" => loads::show_sizes(sheet, alloc, rows),
         "reload" => reloads::show_restarts(sheet, alloc, rows),

@@ -1,6 +1,6 @@
 //! Sites by example: what paths name, and the types of files.
 use crate::loads::{named, site_of};
-use file_table::{Found, Site, bytes, content_type, find};
+use file_table::{Found, Site, bytes, content_type, find, hosts};
 use mpm_base::NoMemory;
 use stand_ins::Calls;
 use std::alloc::Global;
@@ -35,7 +35,22 @@ fn show_all_found(
 
 /// Shows what the path names in the site.
 fn show_found(sheet: &mut Sheet, alloc: Global, site: &Site, path: &str) -> Result<(), NoMemory> {
-    let found = find(alloc, site, path.as_bytes())?;
+    show_found_for(sheet, alloc, site, 0, path)
+}
+
+/// Shows what the path names in the site for the host at the place, where there is one.
+pub fn show_found_for(
+    sheet: &mut Sheet,
+    alloc: Global,
+    site: &Site,
+    host: u32,
+    path: &str,
+) -> Result<(), NoMemory> {
+    if host as usize >= hosts(site).len() {
+        sheet.print("no host\n");
+        return Ok(());
+    }
+    let found = find(alloc, site, host, path.as_bytes())?;
     let (word, bytes) = text_of(site, &found);
     sheet.print(word);
     sheet.text(bytes);

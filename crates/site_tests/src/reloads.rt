@@ -1,5 +1,5 @@
 //! Restarts by example.
-use crate::loads::{CrowdedStore, failing, named, show_too_large, sized};
+use crate::loads::{CrowdedStore, failing, named, show_too_large, show_too_many, sized};
 use file_table::LoadFault;
 use mpm_base::{NoMemory, Store};
 use mpm_config::{Config, read_config, shape_of};
@@ -56,10 +56,10 @@ fn show_answer(sheet: &mut Sheet, answer: &Result<Plan, ReloadFault>) {
             show_too_large(sheet, name, *size);
             sheet.print(")\n");
         }
-        Err(ReloadFault::Load(fault, root)) => {
-            print!(sheet; "Load({fault:?}, ");
-            sheet.text(root.as_slice());
-            println!(sheet; "): {fault}");
+        Err(ReloadFault::Load(LoadFault::TooMany(root), _)) => {
+            sheet.print("Load(");
+            show_too_many(sheet, root);
+            sheet.print(")\n");
         }
         Err(fault) => println!(sheet; "{fault:?}: {fault}"),
     }

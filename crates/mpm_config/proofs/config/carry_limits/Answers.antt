@@ -11,4 +11,5 @@ invariant_of-new c = record {
   fixed = c.correct-new-inside.ensures;
   root_text = c.new.invariant.root_text;
   index_text = c.new.invariant.index_text;
+  hosts_are = c.new.invariant.hosts_are;
 }

@@ -1,5 +1,4 @@
-use Rattle.std.proofs.Common.{ℕ, List, None, ap, sym, subst, ◌∙◌}
-use Rattle.mpm_config.specs.Config.{Configuration}
+use Rattle.std.proofs.Common.{ℕ, List, None, sym, subst}
 use Rattle.file_table.specs.declared.load_fault.LoadFault.{LoadFault}
 use Rattle.run_opening.specs.RefusalsInside.{RefusesRun}
 use Rattle.script_run.specs.ScriptsInside.{RefusesLoad}
@@ -10,7 +9,7 @@ pub returns-in-TooMany-clause-refused : goal.returns-in-TooMany-clause-refused
 returns-in-TooMany-clause-refused g c nine =
     let old = g.K.Sink.seen c.args.out.now in
     let new = g.K.Sink.seen c.refuse_site.new.out in
-    let root = c.as_slice.ensures ∙ ap (λ (x : Configuration). x.root) c.config.view_is in
+    let root = c.as_slice.ensures in
     subst (λ (e : LoadFault). RefusesLoad old new c.args.config.now e c.refuse_site.result.shown) (sym c.in-TooMany.is)
     (subst (λ (name : List ℕ). RefusesRun old new None (site_refused name) c.refuse_site.result.shown) root (c.refuse_site.ensures.refused nine))
 

@@ -20,7 +20,7 @@ returns-in-TooMany-clause-refused g c is =
     let old = g.K.Sink.seen c.args.out.now in
     let new = g.K.Sink.seen c.refuse_site.new.out in
     let nine : c.refuse_site.result.status ≡ 9 = omega (arith, is, c.refuse_site.ensures.known) in
-    let root = c.as_slice-in-TooMany.ensures ∙ ap (λ (x : Configuration). x.root) c.config.view_is in
+    let root = c.as_slice-in-TooMany.ensures in
     subst (λ (e : LoadFault). RefusesFolder old new c.args.config.now e c.refuse_site.result.status c.refuse_site.result.shown) (sym c.in-TooMany.is)
     (nine, subst (λ (name : List ℕ). RefusesRun old new None (site_refused name) c.refuse_site.result.shown) root (c.refuse_site.ensures.refused nine))
 
