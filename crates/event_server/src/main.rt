@@ -2,7 +2,7 @@
 //! and ends with the run's status. Beside that it says on standard error what whoever runs a server is told.
 //!
 //! What it promises is what `run` of `mpm_run` does. How the answers of the folder, the sockets, the clock and the output follow from
-//! what the system answers stands in `specs/` of `system_outside` and of `socket_outside`. No clause of `run` speaks of standard error.
+//! what the system answers stands in `specs/` of `system_outside`, `socket_links` and `socket_outside`. No clause of `run` speaks of standard error.
 #![tactic(auto)]
 
 mod start_line;
@@ -13,7 +13,8 @@ ghost use Rattle.std.specs.Process.{exit_status};
 use command_words::{Invocation, invocation_of};
 use mpm_base::{Link, NoMemory, Words};
 use mpm_run::{Outcome, lacks_memory, run};
-use socket_outside::{SocketFront, SocketLink, SystemClock};
+use socket_links::SocketLink;
+use socket_outside::{SocketFront, SystemClock};
 use start_line::connections_by;
 use std::alloc::Global;
 use std::net::Net;

@@ -1,5 +1,3 @@
 pub mod DialLemmas
-pub mod EventLemmas
-pub mod FillLemmas
-pub mod GivingLemmas
 pub mod HearLemmas
+pub mod WaitLemmas

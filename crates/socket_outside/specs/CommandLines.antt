@@ -4,6 +4,7 @@ use Rattle.std.specs.List.{list_all}
 use Rattle.std.specs.Io.KnownBytes.{Consumes}
 use Rattle.mpm_base.specs.declared.link.Got.{Got}
 use Rattle.mpm_base.specs.declared.link.Got.TheVariants as got
+use Rattle.socket_links.specs.Answers.{count_of_got}
 use Rattle.socket_outside.specs.declared.command_lines.Heard.{Heard}
 use Rattle.socket_outside.specs.declared.command_lines.Heard.TheVariants as heard
 
@@ -36,13 +37,6 @@ gave_bytes (got.Got n) = true
 gave_bytes got.End = false
 gave_bytes got.NotReady = false
 gave_bytes got.Failed = false
-
--- how many bytes the read gave
-abbrev pub count_of_got : Got → ℕ
-count_of_got (got.Got n) = n
-count_of_got got.End = 0
-count_of_got got.NotReady = 0
-count_of_got got.Failed = 0
 
 -- what is heard where the last read answered this: no line at the end or behind a failure, and else what the bytes are; and where it
 -- gave bytes no more are to come

@@ -2,7 +2,8 @@
 use Rattle.std.specs.Prelude.{◌≡◌, ◌≢◌, ℕ, ◌+◌, true, List, [], ◌∷◌, length, Option, MatchOption}
 use Rattle.std.specs.List.{list_all}
 use Rattle.mpm_base.specs.declared.link.Got.{Got}
-use Rattle.socket_outside.specs.CommandLines.{AnswersMore, IsHeard, IsHeardBy, count_of_got, gave_bytes}
+use Rattle.socket_links.specs.Answers.{count_of_got}
+use Rattle.socket_outside.specs.CommandLines.{AnswersMore, IsHeard, IsHeardBy, gave_bytes}
 use Rattle.socket_outside.specs.declared.command_lines.Heard.{Heard}
 use Rattle.socket_outside.specs.declared.command_lines.Heard.TheVariants as heard
 

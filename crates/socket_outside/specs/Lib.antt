@@ -1,13 +1,7 @@
-pub mod Accepting
 pub mod Addresses
-pub mod Answers
 pub mod AskingInside
 pub mod CommandLines
 pub mod CommandLinesInside
 pub mod Dialling
-pub mod Emptied
-pub mod Events
-pub mod EventsInside
-pub mod GivingWay
 pub mod Moments
 pub mod SeenClock

@@ -1,6 +1,7 @@
 //! Reading a command line off a control connection.
 ghost use Rattle.std.specs.Prelude.{◌≡◌, ◌+◌, ◌<◌, ◌≤◌, [], ◌∷◌, true, IfSome, length};
-ghost use Rattle.socket_outside.specs.CommandLines.{AnswersMore, HearsBy, HearsOn, IsHeard, IsLineOrNone, count_of_got, feed_in, gave_bytes};
+ghost use Rattle.socket_links.specs.Answers.{count_of_got};
+ghost use Rattle.socket_outside.specs.CommandLines.{AnswersMore, HearsBy, HearsOn, IsHeard, IsLineOrNone, feed_in, gave_bytes};
 ghost use Rattle.socket_outside.specs.CommandLinesInside.{HearsOnce};
 
 use crate::speaker::Speaker;

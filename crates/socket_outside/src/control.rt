@@ -3,14 +3,12 @@
 ghost use Rattle.std.specs.Prelude.{◌≡◌, ◌≢◌, ◌++◌, ℕ, List, IfOk, IfErr, None, [], map, nat_lt, length, true, false, if◌then◌else◌, ◌∷◌, is_some};
 ghost use Rattle.std.specs.Option.{option_to_list};
 
-use crate::accepting::{NoStream, accept_next};
-use crate::answers::write_some;
 use crate::command_lines::{Heard, Spoken};
-use crate::events::CONTROL;
 use crate::short_queue::ShortQueue;
 use mio::net::{TcpListener, TcpStream};
 use mio::{Interest, Registry};
 use mpm_base::{Line, NoMemory};
+use socket_links::{CONTROL, NoStream, accept_next, write_some};
 use std::alloc::Global;
 
 /// How many connections are open at most whose line isn't whole.

@@ -5,8 +5,8 @@ ghost use Rattle.std.specs.Io.KnownBytes.{Appends, Consumes, IsAtEnd};
 ghost use Rattle.socket_outside.specs.Dialling.{ReadsOn, ReadsOut};
 
 use crate::addresses::control_address;
-use crate::answers::CALLS;
 use mpm_base::{MOST_ANSWER, Octets};
+use socket_links::CALLS;
 use std::io::{self, ErrorKind, Read, Write};
 use std::net::{Net, OpenStream};
 use system_outside::Operator;

@@ -4,17 +4,15 @@ ghost use Rattle.std.specs.Prelude.{◌≡◌, ◌==◌, ◌≤◌, ◌||◌, []
 ghost use Rattle.std.specs.List.{IsDistinct};
 ghost use Rattle.mpm_base.specs.Front.{Accepts, FrontSeen, Waits, accept_failed};
 
-use crate::answers::CALLS;
 use crate::bell::SocketBell;
 use crate::clock::SystemClock;
 use crate::dial::dial;
-use crate::events::longest_wait;
 use crate::front_counters::FrontCounters;
-use crate::link::SocketLink;
 use crate::sockets::Sockets;
 use mpm_base::{
     Addr, Arrival, Clock, ConnName, Front, Line, Link, Moment, NoMemory, Octets, Ready, Woke,
 };
+use socket_links::{CALLS, SocketLink, longest_wait};
 use std::alloc::Global;
 use std::net::Net;
 use std::sync::Wait;
@@ -71,7 +69,7 @@ impl<'a, R: Net + time::Clock + Eprint> SocketFront<'a, R> {
         woke
     }
 
-    #[tactic(auto, using(crate::proofs::EventLemmas::distinct_none))]
+    #[tactic(auto, using(crate::proofs::WaitLemmas::distinct_none))]
     /// Does the same, where it is known whether a bell was rung or a link gave way. A wait that is interrupted is asked again, and fails at last.
     fn poll(&mut self, until: Option<Moment>, pressed: bool, rung: bool, ready: &mut Ready) -> bool
         ensures counters { self.new.counters ≡ self.old.counters }

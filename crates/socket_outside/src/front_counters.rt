@@ -5,8 +5,8 @@ ghost use Rattle.mpm_base.specs.Front.{accept_failed, is_handed};
 ghost use Rattle.mpm_base.specs.GivenAnswers.{CountsAnswer, no_answers};
 ghost use Rattle.mpm_base.specs.GivenWords.{CountsWords, no_words};
 
-use crate::link::SocketLink;
 use mpm_base::{Arrival, GivenAnswers, GivenWords, Line};
+use socket_links::SocketLink;
 use std::marker::Model;
 
 /// Counts of binds, waits and dials that failed, of accepts that failed, of waits that gave a moment, of command lines that were given, of

@@ -6,17 +6,16 @@ ghost use Rattle.mpm_base.specs.Front.{Hands};
 ghost use Rattle.mpm_base.specs.Link.{OnlyFaults};
 ghost use Rattle.socket_outside.specs.AskingInside.{asks_again};
 
-use crate::accepting::{NoStream, accept_next};
 use crate::addresses::{control_address, listen_address};
-use crate::answers::woke_for;
 use crate::bell::{SharedBell, SocketBell};
 use crate::control::ControlPort;
-use crate::events::{BELL, CONTROL, LISTENER, fill_up, give_slots};
-use crate::link::SocketLink;
-use crate::place::Marks;
 use mio::net::TcpListener;
 use mio::{Events, Interest, Poll, Registry, Token, Waker};
 use mpm_base::{Addr, Arrival, Line, Link, NoMemory, Ready};
+use socket_links::{
+    BELL, CONTROL, LISTENER, Marks, NoStream, SocketLink, accept_next, fill_up, give_slots,
+    woke_for,
+};
 use std::alloc::Global;
 use std::io;
 use std::net::{Net, SocketAddr};
@@ -235,7 +234,8 @@ impl Sockets {
 
     /// Has the slot given from now on where something comes for the link. It answers false where that failed.
     pub(crate) fn watch(&self, link: &mut SocketLink, slot: u32) -> bool
-        ensures { OnlyFaults (not result) link.old.counters link.new.counters }
+        ensures { let seen = ⟦<SocketLink as Link>⟧.seen in
+            OnlyFaults (not result) (seen link.old).counts (seen link.new).counts }
     {
         match &self.poll {
             Some(poll) => link.watch(poll.registry(), slot),
@@ -243,7 +243,7 @@ impl Sockets {
         }
     }
 
-    #[tactic(auto, using(crate::proofs::EventLemmas::distinct_none))]
+    #[tactic(auto, using(crate::proofs::WaitLemmas::distinct_none))]
     /// Waits so many milliseconds at most, and gives the slots for which something came, and behind them those of links that gave way.
     /// Where it took as many events as it can, more may have come, and the list is filled up with numbers that no slot has. It answers
     /// false where the wait failed, and None where it was interrupted and is asked again.

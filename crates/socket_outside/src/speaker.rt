@@ -1,8 +1,8 @@
 //! What a command line is read from.
 
-use crate::answers::read_some;
 use mio::net::TcpStream;
 use mpm_base::Got;
+use socket_links::read_some;
 use std::io::Read;
 
 /// What a command line is read from. Which bytes it has left, and what its reads answered, is known only where it tells that: a socket
@@ -11,7 +11,7 @@ pub trait Speaker {
     ghost use Rattle.std.specs.Prelude.{Option, List, [], ◌∷◌, ℕ, length};
     ghost use Rattle.mpm_base.specs.Link.{FitsBuffer};
     ghost use Rattle.mpm_base.specs.declared.link.Got.{Got};
-    ghost use Rattle.socket_outside.specs.Answers.{ReadsSome};
+    ghost use Rattle.socket_links.specs.Answers.{ReadsSome};
     ghost use Rattle.socket_outside.specs.CommandLines.{AnswersMore};
 
     /// The bytes that it has left.
