@@ -1,6 +1,6 @@
 -- What pass 0 knows once it gave its turn back.
-use Rattle.std.proofs.Common.{◌≡◌, ℕ, ◌≤◌, Bool, true, false, List, [], ◌∷◌, ◌++◌, Option, Some, None, slice_get, refl, sym, ap, subst, ◌∙◌}
-use Rattle.std.specs.Prelude.{Result, is_ok, slice_index}
+use Rattle.std.proofs.Common.{◌≡◌, ◌≢◌, ℕ, zero, suc, arith, ◌≤◌, Bool, true, false, List, [], ◌∷◌, ◌++◌, Option, Some, None, slice_get, refl, sym, ap, subst, ◌∙◌}
+use Rattle.std.specs.Prelude.{Result, is_ok, slice_index, slice_set}
 use Rattle.std.specs.declared.result.Result.TheVariants.{Ok, Err}
 use Rattle.atomic_table.specs.Table.{Me}
 use Rattle.mpm_base.specs.declared.conn.ConnName.{ConnName}
@@ -26,24 +26,28 @@ use Rattle.idle_workers.specs.Found.{MayCredit}
 use Rattle.board.specs.Backed.{AreBacked, BacksWait}
 use Rattle.board.specs.Board.{SeenBoard}
 use Rattle.board.specs.BoardLaws.{WaitsAreBackedByCalls}
-use Rattle.board_book.specs.Book.{SeenBook, entry_of}
+use Rattle.board.specs.Book.{SeenBook, entry_of}
 use Rattle.board.specs.Events.{IsTaken}
 use Rattle.board.specs.Fits.{IsOf}
 use Rattle.board.specs.Ledger.{ledger_of}
-use Rattle.turn_tests.specs.Books.{state_of}
-use Rattle.turn_tests.specs.GoesOn.{IsListener, IsOfButWaits, IsUnparked, MadeEvent}
-use Rattle.turn_tests.specs.Rests.{TurnsRestOn}
-use Rattle.turn_tests.proofs.FoundLemmas.{own_row, same_live, same_state}
-use Rattle.turn_tests.proofs.GoesOnLemmas.{Changes, free_then, same_seen}
-use Rattle.turn_tests.proofs.ThenLemmas.{nothing_row_as, row_then, state_then}
-
--- an event that leaves a pass its connection, or nothing, leaves it that
-pub keeps_row : {K : Type 0} (v w u : Me (Option K) View) (who : ℕ) (b : Bool) (e : Event) (old new : SeenBoard) → TurnsRestOn → TookTurn v w (ledger_of old)
-    → GaveBack w u (ledger_of new) → v.0.who.number ≡ who → Changes b who e old new → has_after v.0.row e (entry_of who e old.book).reply ≡ v.0.row → u.0.row ≡ v.0.row
-keeps_row v w u who true e old new rests took gave number m keeps = row_then v w u who e old new rests took gave number m ∙ keeps
-keeps_row v w u who false e old new rests took gave number same keeps = nothing_row_as v w u old new rests took gave same
+use Rattle.board_turns.specs.Books.{state_of}
+use Rattle.turn_tests.specs.Passes.{IsOfButWaits, IsUnparked, LeavesOtherCredits}
+use Rattle.board_turns.specs.Turns.{IsListener}
+use Rattle.board_turns.specs.GoesOnInside.{MadeEvent}
+use Rattle.board_turns.specs.Rests.{TurnsRestOn}
+use Rattle.board_turns.proofs.FoundLemmas.{own_row, same_live, same_state}
+use Rattle.board_turns.proofs.GoesOnLemmas.{Changes, free_then, same_seen}
+use Rattle.board_turns.proofs.ThenLemmas.{nothing_row_as, row_then, state_then}
 
 -- ## The credit
+
+-- another number of a list stays
+set_other : (xs : List ℕ) (k j n : ℕ) → j ≢ k → slice_index (slice_set xs k n) j ≡ slice_index xs j
+set_other [] k j n other = refl
+set_other (x ∷ xs) zero zero n other = absurd (other refl)
+set_other (x ∷ xs) zero (suc j) n other = refl
+set_other (x ∷ xs) (suc k) zero n other = refl
+set_other (x ∷ xs) (suc k) (suc j) n other = set_other xs k j n (λ e. other (ap suc e))
 
 pub may_credit : {K : Type 0} (v w : Me (Option K) View) (b : SeenBoard) (child threads : ℕ) (found : Child) → TurnsRestOn → TookTurn v w (ledger_of b)
     → after b.book.base b.book.history ≡ b.book.state → IsListener v → slice_index v.0.credits child ≡ 0 → threads ≤ 64 → found ≡ child_at b.book.state.children child
@@ -71,6 +75,12 @@ module _ {K : Type 0} (v w x u : Me (Option K) View) (b : SeenBoard) (child thre
       ∙ ap (λ (q : View). row_of q.who.number u.0.seen) is ∙ ap (λ (q : View). row_of q.who.number u.0.seen) took.view
       ∙ ap (row_of v.0.who.number) (same_seen x u (ledger_of b) has gave.ends ∙ ap (λ (q : View). q.seen) is)
       ∙ own_row v w b rests took
+
+  pub credited_others : LeavesOtherCredits child v.0 u.0
+  credited_others k behind =
+      ap (λ (q : View). slice_index q.credits k) gave.view ∙ ap (λ (q : View). slice_index q.credits k) is
+      ∙ ap (λ (q : View). slice_index (slice_set q.credits child threads) k) took.view
+      ∙ set_other v.0.credits child k threads (omega (arith, behind))
 
 -- ## A connection that is taken
 

@@ -1,26 +1,27 @@
-//! The turns of pass 0, one for each event.
-ghost use Rattle.std.specs.Prelude.{◌≡◌, ◌<◌, true, None, Some, IfSome, slice_index};
+//! The turns of pass 0.
+ghost use Rattle.std.specs.Prelude.{◌≡◌, ◌<◌, true, false, None, Some, IfNone, IfSome, slice_index};
 ghost use Rattle.mpm_base.specs.declared.conn.Kind.TheVariants.{Reading};
-ghost use Rattle.conn_machine.specs.Table.{is_allowed};
-ghost use Rattle.conn_machine.specs.declared.event.Event.TheVariants as event;
-ghost use Rattle.board_book.specs.Finds.{cause_of};
+ghost use Rattle.board.specs.Finds.{cause_of};
 ghost use Rattle.board.specs.Fits.{IsSettled};
-ghost use Rattle.turn_tests.specs.Books.{state_of};
-ghost use Rattle.turn_tests.specs.GoesOn.{IsListener, IsOfButWaits, IsUnparked};
+ghost use Rattle.board_turns.specs.Books.{state_of};
+ghost use Rattle.board_turns.specs.Turns.{IsListener};
+ghost use Rattle.turn_tests.specs.Passes.{IsOfButWaits, IsUnparked, LeavesOtherCredits};
 
-use crate::clients::link_of;
-use crate::laws::turns_rest_on_these;
-use crate::opening::ScriptBoard;
+use crate::clients::{Client, link_of};
+use crate::links::TestLink;
+use crate::moves::{Move, make_move, may_make};
+use crate::opening::TestBoard;
+use crate::tally::Tally;
 use board::laws::waits_are_backed_by_calls;
 use board_lock::{Pass, Shared};
+use board_turns::turns_rest_on_these;
+use conn_machine::Event;
 use conn_machine::laws::taken_connections_start_afresh;
-use conn_machine::{Event, may};
 use conn_state::{Conn, Nothing};
 use file_table::Site;
 use http_read::Limits;
 use idle_workers::credit;
 use mpm_base::{ConnName, Kind};
-use stand_ins::ScriptLink;
 use std::alloc::Global;
 use std::sync::{Arc, Wait};
 
@@ -31,20 +32,13 @@ const LIMITS: Limits = Limits {
     fields: 10,
 };
 
-/// Whether the event is allowed.
-fn may_make(board: &ScriptBoard, event: &Event) -> bool
-    ensures { result ≡ is_allowed board.now.book.state event.now }
-{
-    board.show();
-    may(board.state(), event)
-}
-
-/// The child starts, where that may be: whether it did.
-pub fn starts_child<R: Wait>(
+/// Makes the move, where it may: whether it did.
+pub fn moves<R: Wait>(
     rt: &R,
-    shared: &Shared<ScriptBoard>,
-    pass: &mut Pass<ScriptBoard>,
-    child: u32,
+    alloc: Global,
+    shared: &Shared<TestBoard>,
+    pass: &mut Pass<TestBoard>,
+    step: Move,
 ) -> bool
     requires own { pass.old.seat.table_id ≡ shared.now.table.shared.table_id }
     requires listener { IsListener pass.old.seat.me }
@@ -55,20 +49,17 @@ pub fn starts_child<R: Wait>(
 {
     turns_rest_on_these();
     let mut turn = shared.turn(rt, pass);
-    if !may_make(&turn.kept, &Event::StartChild(child)) {
-        shared.done(pass, turn);
-        return false;
-    }
-    let started = turn.kept.start_child(0, child);
+    turn.kept.show();
+    let moved = make_move(alloc, &mut turn.kept, step);
     shared.done(pass, turn);
-    started.is_ok()
+    moved
 }
 
 /// The child gets the credit of its workers: whether it did.
 pub fn credits<R: Wait>(
     rt: &R,
-    shared: &Shared<ScriptBoard>,
-    pass: &mut Pass<ScriptBoard>,
+    shared: &Shared<TestBoard>,
+    pass: &mut Pass<TestBoard>,
     child: u32,
 ) -> bool
     requires own { pass.old.seat.table_id ≡ shared.now.table.shared.table_id }
@@ -78,6 +69,8 @@ pub fn credits<R: Wait>(
     ensures own { pass.new.seat.table_id ≡ pass.old.seat.table_id }
     ensures listener { IsListener pass.new.seat.me }
     ensures row { pass.new.seat.me.0.row ≡ pass.old.seat.me.0.row }
+    ensures others { LeavesOtherCredits child pass.old.seat.me.0 pass.new.seat.me.0 }
+    ensures same { result ≡ false → pass.new.seat.me.0.credits ≡ pass.old.seat.me.0.credits }
 {
     turns_rest_on_these();
     let turn = shared.turn(rt, pass);
@@ -92,40 +85,47 @@ pub fn credits<R: Wait>(
     true
 }
 
-/// A connection is taken, of the client of that number, and waits for its request: whether it does.
+/// A connection is taken, of the client, and waits for its request: whether it does. None where it was taken and can't wait.
 pub fn takes<R: Wait>(
     rt: &R,
     alloc: Global,
-    shared: &Shared<ScriptBoard>,
-    pass: &mut Pass<ScriptBoard>,
+    shared: &Shared<TestBoard>,
+    pass: &mut Pass<TestBoard>,
     site: &Arc<Site>,
-    client: u32,
-) -> bool
+    tally: &Arc<Tally>,
+    client: Client,
+) -> Option<bool>
     requires own { pass.old.seat.table_id ≡ shared.now.table.shared.table_id }
     requires listener { IsListener pass.old.seat.me }
     requires none { pass.old.seat.me.0.row ≡ None }
     ensures own { pass.new.seat.table_id ≡ pass.old.seat.table_id }
     ensures listener { IsListener pass.new.seat.me }
-    ensures none { result ≡ true → pass.new.seat.me.0.row ≡ None }
+    ensures credits { pass.new.seat.me.0.credits ≡ pass.old.seat.me.0.credits }
+    ensures none { IfSome result (λ _. pass.new.seat.me.0.row ≡ None) }
 {
-    match accepts(rt, shared, pass) {
-        Some(name) => parks_new(rt, alloc, shared, pass, site, name, client),
-        None => false,
+    let Some(name) = accepts(rt, shared, pass) else {
+        return Some(false);
+    };
+    if parks_new(rt, alloc, shared, pass, site, tally, name, client) {
+        return Some(true);
     }
+    None
 }
 
 /// A connection is taken: its name.
 fn accepts<R: Wait>(
     rt: &R,
-    shared: &Shared<ScriptBoard>,
-    pass: &mut Pass<ScriptBoard>,
+    shared: &Shared<TestBoard>,
+    pass: &mut Pass<TestBoard>,
 ) -> Option<ConnName>
     requires own { pass.old.seat.table_id ≡ shared.now.table.shared.table_id }
     requires listener { IsListener pass.old.seat.me }
     requires none { pass.old.seat.me.0.row ≡ None }
     ensures own { pass.new.seat.table_id ≡ pass.old.seat.table_id }
     ensures listener { IsListener pass.new.seat.me }
+    ensures credits { pass.new.seat.me.0.credits ≡ pass.old.seat.me.0.credits }
     ensures row { IfSome result (λ name. pass.new.seat.me.0.row ≡ Some name) }
+    ensures none { IfNone result (pass.new.seat.me.0.row ≡ None) }
     ensures unparked { IfSome result (IsUnparked (state_of pass.new.seat.me.0)) }
 {
     turns_rest_on_these();
@@ -141,14 +141,15 @@ fn accepts<R: Wait>(
     }
 }
 
-/// The connection of that name, which was taken, of the client of that number.
+/// The connection of that name, which was taken, of the client.
 fn conn_for(
     alloc: Global,
-    board: &ScriptBoard,
+    board: &TestBoard,
     site: &Arc<Site>,
+    tally: &Arc<Tally>,
     name: ConnName,
-    client: u32,
-) -> Option<Conn<ScriptLink, Nothing>>
+    client: Client,
+) -> Option<Conn<TestLink, Nothing>>
     ensures name { IfSome result (λ conn. conn.name ≡ name) }
     ensures fits { IfSome result (IsOfButWaits board.now.book.state) }
     ensures settled { IfSome result
@@ -164,7 +165,7 @@ fn conn_for(
     if !row.notes.is_empty() {
         return None;
     }
-    let Ok(link) = link_of(alloc, row.arrival, client) else {
+    let Ok(link) = link_of(alloc, tally, row.arrival, client) else {
         return None;
     };
     let conn = Conn::new(alloc, name, row.child, row.generation, LIMITS, site, link);
@@ -176,11 +177,12 @@ fn conn_for(
 fn parks_new<R: Wait>(
     rt: &R,
     alloc: Global,
-    shared: &Shared<ScriptBoard>,
-    pass: &mut Pass<ScriptBoard>,
+    shared: &Shared<TestBoard>,
+    pass: &mut Pass<TestBoard>,
     site: &Arc<Site>,
+    tally: &Arc<Tally>,
     name: ConnName,
-    client: u32,
+    client: Client,
 ) -> bool
     requires own { pass.old.seat.table_id ≡ shared.now.table.shared.table_id }
     requires listener { IsListener pass.old.seat.me }
@@ -188,13 +190,14 @@ fn parks_new<R: Wait>(
     requires unparked { IsUnparked (state_of pass.old.seat.me.0) name }
     ensures own { pass.new.seat.table_id ≡ pass.old.seat.table_id }
     ensures listener { IsListener pass.new.seat.me }
+    ensures credits { pass.new.seat.me.0.credits ≡ pass.old.seat.me.0.credits }
     ensures none { result ≡ true → pass.new.seat.me.0.row ≡ None }
 {
     turns_rest_on_these();
     waits_are_backed_by_calls();
     let mut turn = shared.turn(rt, pass);
     turn.kept.show();
-    let Some(conn) = conn_for(alloc, &turn.kept, site, name, client) else {
+    let Some(conn) = conn_for(alloc, &turn.kept, site, tally, name, client) else {
         shared.done(pass, turn);
         return false;
     };
@@ -205,32 +208,4 @@ fn parks_new<R: Wait>(
     let parked = turn.kept.park(0, Kind::Reading, conn);
     shared.done(pass, turn);
     parked.is_ok()
-}
-
-/// The board is folded, where that may be, and else something may have come for the slot: whether it was folded.
-pub fn goes_on<R: Wait>(
-    rt: &R,
-    shared: &Shared<ScriptBoard>,
-    pass: &mut Pass<ScriptBoard>,
-    slot: u32,
-) -> bool
-    requires own { pass.old.seat.table_id ≡ shared.now.table.shared.table_id }
-    requires listener { IsListener pass.old.seat.me }
-    ensures own { pass.new.seat.table_id ≡ pass.old.seat.table_id }
-    ensures listener { IsListener pass.new.seat.me }
-{
-    turns_rest_on_these();
-    let mut turn = shared.turn(rt, pass);
-    if turn.kept.can_fold() {
-        let folded = turn.kept.fold();
-        shared.done(pass, turn);
-        return folded.is_ok();
-    }
-    if !may_make(&turn.kept, &Event::Ready(slot)) {
-        shared.done(pass, turn);
-        return false;
-    }
-    let _ = turn.kept.ready(0, slot);
-    shared.done(pass, turn);
-    false
 }

@@ -1,8 +1,8 @@
 use Rattle.std.proofs.Common.{sym}
-use Rattle.turn_tests.proofs.FoundLemmas.{pass_as, row_as}
-use Rattle.turn_tests.proofs.GoesOnLemmas.{made_added, may_accept}
+use Rattle.board_turns.proofs.FoundLemmas.{pass_as, row_as}
+use Rattle.board_turns.proofs.GoesOnLemmas.{made_added, may_accept}
 use Rattle.turn_tests.proofs.ListenerLemmas.{accepted_row, unparked_then}
-use Rattle.turn_tests.proofs.ThenLemmas.{listener_then}
+use Rattle.board_turns.proofs.ThenLemmas.{listener_then, stays_as}
 use Rattle.turn_tests.proofs.listener_turns.accepts.Goals as goal
 
 pub accept-taken-requires-clause-who : goal.accept-taken-requires-clause-who
@@ -37,3 +37,9 @@ returns-in-Ok-clause-unparked g c =
     unparked_then _ _ _ c.turn-turn.result.kept q.new.self c.in-Ok.taken.name c.taken_connections_start_afresh.ensures c.turns_rest_on_these.ensures
     c.turn-turn.ensures.turn c.done.ensures.given c.requires.listener.number
     (made_added 0 _ c.turn-turn.result.kept q.new.self q.new.self.conns c.in-Ok.ensures.ok q.ensures.entries) c.show.ensures.state c.show-2.ensures.run
+
+pub returns-in-Ok-clause-credits : goal.returns-in-Ok-clause-credits
+returns-in-Ok-clause-credits g c = (stays_as _ _ _ _ _ c.turn-turn.ensures.turn c.done.ensures.given).credits
+
+pub returns-in-Err-clause-credits : goal.returns-in-Err-clause-credits
+returns-in-Err-clause-credits g c = (stays_as _ _ _ _ _ c.turn-turn.ensures.turn c.done.ensures.given).credits

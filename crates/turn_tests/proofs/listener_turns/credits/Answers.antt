@@ -1,8 +1,9 @@
-use Rattle.std.proofs.Common.{ap, refl, ◌∙◌, rules}
+use Rattle.std.proofs.Common.{ap, refl, ◌∙◌, rules, List, ℕ}
+use Rattle.std.specs.Prelude.{slice_index}
 use Rattle.table_rule.specs.declared.view.View.{View}
-use Rattle.turn_tests.proofs.GoesOnLemmas.{may_stay}
-use Rattle.turn_tests.proofs.ListenerLemmas.{credited_listener, credited_row, may_credit}
-use Rattle.turn_tests.proofs.ThenLemmas.{listener_then, nothing_row}
+use Rattle.board_turns.proofs.GoesOnLemmas.{may_stay}
+use Rattle.turn_tests.proofs.ListenerLemmas.{credited_listener, credited_others, credited_row, may_credit}
+use Rattle.board_turns.proofs.ThenLemmas.{listener_then, nothing_row, stays_as}
 use Rattle.turn_tests.proofs.listener_turns.credits.Goals as goal
 
 pub done-requires-clause-left : goal.done-requires-clause-left
@@ -32,3 +33,14 @@ pub returns-clause-row : goal.returns-clause-row
 returns-clause-row g c =
     credited_row _ _ _ _ c.turn-turn.result.kept c.args.child c.child-threads.result.shape.threads c.turn-turn.ensures.turn c.credit.ensures.credited.1.0 c.done-2.ensures.given
     c.turns_rest_on_these.ensures
+
+pub returns-then-threads-gt64-clause-others : goal.returns-then-threads-gt64-clause-others
+returns-then-threads-gt64-clause-others g c k behind =
+    ap (λ (l : List ℕ). slice_index l k) (stays_as _ _ _ _ _ c.turn-turn.ensures.turn c.done.ensures.given).credits
+
+pub returns-then-threads-gt64-clause-same : goal.returns-then-threads-gt64-clause-same
+returns-then-threads-gt64-clause-same g c none = (stays_as _ _ _ _ _ c.turn-turn.ensures.turn c.done.ensures.given).credits
+
+pub returns-clause-others : goal.returns-clause-others
+returns-clause-others g c =
+    credited_others _ _ _ _ c.turn-turn.result.kept c.args.child c.child-threads.result.shape.threads c.turn-turn.ensures.turn c.credit.ensures.credited.1.0 c.done-2.ensures.given

@@ -3,10 +3,10 @@ use Rattle.mpm_base.specs.declared.conn.ConnName.{ConnName}
 use Rattle.mpm_base.specs.declared.conn.Kind.TheVariants.{Reading}
 use Rattle.conn_machine.specs.declared.event.Event.TheVariants as event
 use Rattle.table_rule.specs.declared.view.View.{View}
-use Rattle.turn_tests.proofs.FoundLemmas.{pass_as, row_as}
-use Rattle.turn_tests.proofs.GoesOnLemmas.{changed, may_change, may_stay}
+use Rattle.board_turns.proofs.FoundLemmas.{pass_as, row_as}
+use Rattle.board_turns.proofs.GoesOnLemmas.{changed, may_change, may_stay}
 use Rattle.turn_tests.proofs.ListenerLemmas.{backs_first, is_of_new, parked_row, unparked_here}
-use Rattle.turn_tests.proofs.ThenLemmas.{listener_then}
+use Rattle.board_turns.proofs.ThenLemmas.{listener_then, stays_as}
 use Rattle.turn_tests.proofs.listener_turns.parks_new.Goals as goal
 
 pub done-requires-clause-left : goal.done-requires-clause-left
@@ -59,3 +59,12 @@ returns-clause-none g c =
     let e = event.Park c.in-Some.conn.name Reading in
     parked_row _ _ _ e b q.new.self q.result _ c.turns_rest_on_these.ensures c.turn-turn.ensures.turn c.done-2.ensures.given c.requires.listener.number
     (changed q.result 0 e b q.new.self b.conns q.ensures.ok q.ensures.err q.ensures.entries) refl c.is_ok.ensures.value
+
+pub returns-in_default-clause-credits : goal.returns-in_default-clause-credits
+returns-in_default-clause-credits g c = (stays_as _ _ _ _ _ c.turn-turn.ensures.turn c.done.ensures.given).credits
+
+pub returns-then-not-may_make-clause-credits : goal.returns-then-not-may_make-clause-credits
+returns-then-not-may_make-clause-credits g c = (stays_as _ _ _ _ _ c.turn-turn.ensures.turn c.done-then-not-may_make.ensures.given).credits
+
+pub returns-clause-credits : goal.returns-clause-credits
+returns-clause-credits g c = (stays_as _ _ _ _ _ c.turn-turn.ensures.turn c.done-2.ensures.given).credits
