@@ -1,4 +1,4 @@
-mod ListenerLemmas
-mod MoveLemmas
 mod OpeningLemmas
 mod SendLemmas
+mod StepLemmas
+mod TakingLemmas

@@ -1,7 +1,4 @@
 //! The clients of the board, and the site from which they are served.
-ghost use Rattle.std.specs.Prelude.{◌≡◌, IfOk, IsUtf8};
-ghost use Rattle.conn_state.specs.Conn.{IsFresh};
-
 use crate::links::TestLink;
 use crate::tally::Tally;
 use file_table::{LoadFault, Site, SiteOrder, load};
@@ -32,23 +29,10 @@ const HALF: &[u8] = b"GET / HTTP/1.1\r\nHo";
 /// One behind which the connection is to be closed.
 const ASKS_LAST: &[u8] = b"GET / HTTP/1.1\r\nHost: a\r\nConnection: close\r\n\r\n";
 
-/// A folder and an index, of which there is nothing.
-fn nowhere(alloc: Global) -> Result<SiteOrder, NoMemory>
-    ensures { IfOk result (λ order. IsUtf8 order.root × IsUtf8 order.index) }
-{
-    let root = Octets::of(alloc, "htdocs".as_bytes())?;
-    let index = Octets::of(alloc, "index.html".as_bytes())?;
-    Ok(SiteOrder {
-        root,
-        index,
-        status: true,
-    })
-}
-
 /// A site without a file.
 pub fn empty_site(alloc: Global) -> Result<Site, LoadFault> {
     let mut store = MemStore::make(alloc, Files::make(alloc), Calls::make(alloc));
-    let order = nowhere(alloc)?;
+    let order = SiteOrder::one_host(alloc, "htdocs", "index.html", true)?;
     load(alloc, &mut store, &order)
 }
 
@@ -111,16 +95,8 @@ fn failing(alloc: Global, call: LinkCall, reset: Option<LinkCall>) -> Result<Cal
     Ok(calls)
 }
 
-/// The link of the client, which is taken as the one of that rank.
-pub fn link_of(
-    alloc: Global,
-    tally: &Arc<Tally>,
-    rank: u64,
-    client: Client,
-) -> Result<TestLink, NoMemory>
-    ensures fresh { IfOk result (λ link. IsFresh link.inner.told) }
-    ensures rank { IfOk result (λ link. link.inner.told.rank ≡ rank) }
-{
+/// The link of the client.
+pub fn link_of(alloc: Global, tally: &Arc<Tally>, client: Client) -> Result<TestLink, NoMemory> {
     let kind = kind_of(client, tally.habits().services != 0);
     let coming = Octets::of(alloc, text_of(kind))?;
     let reset = reset_of(kind);
@@ -132,7 +108,15 @@ pub fn link_of(
     let (Ok(shared), Ok(tally)) = (Arc::try_clone(&wire), Arc::try_clone(tally)) else {
         return Err(NoMemory);
     };
-    let inner = ScriptLink::paced(alloc, rank, coming, shared, reads, writes, false);
+    let inner = ScriptLink::paced(
+        alloc,
+        client.number as u64,
+        coming,
+        shared,
+        reads,
+        writes,
+        false,
+    );
     Ok(TestLink::of(inner, wire, tally, client.number, pace_of(kind)))
 }
 

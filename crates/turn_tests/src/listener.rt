@@ -7,10 +7,10 @@ ghost use Rattle.turn_tests.specs.Passes.{HasNoCreditFrom};
 
 use crate::clients::Client;
 use crate::links::TestLink;
-use crate::listener_turns::{credits, moves, takes};
-use crate::moves::Move;
 use crate::opening::{CHILDREN, SLOTS, TestBoard};
 use crate::players::{TestHands, TestPair};
+use crate::steps::{folds, renews, signals, starts};
+use crate::taking::takes;
 use crate::tally::Tally;
 use board_lock::{Pass, Room};
 use board_turns::pair_up;
@@ -46,6 +46,8 @@ pub struct Front<'a, M: Room> {
     pub pass: Pass<TestBoard>,
     /// How many children have begun, the newest of which takes connections.
     pub begun: u32,
+    /// The slots for which something may have come.
+    pub slots: Vec<u32>,
     pub site: &'a Arc<Site>,
     pub tally: &'a Arc<Tally>,
     pub alloc: Global,
@@ -113,7 +115,7 @@ fn goes_round<R: Wait, M: Room>(
         if front.tally.gone() >= plan.connections as u64 {
             return true;
         }
-        signal_all(rt, front, pusher);
+        signal_slots(rt, front, pusher);
         let pushed = hand_over(rt, pusher, front.begun.saturating_sub(1));
         wake_workers(rt, pusher, plan, front.tally, pushed);
     }
@@ -176,7 +178,7 @@ fn take_one<R: Wait, M: Room>(rt: &R, front: &mut Front<'_, M>, client: Client) 
 fn restarts<R: Wait, M: Room>(rt: &R, front: &mut Front<'_, M>, taken: u32) -> Option<u32>
     ensures { front.new.pass.seat.me.0.row ≡ front.old.pass.seat.me.0.row }
 {
-    if move_on(rt, front, Move::Restart) && begins(rt, front) {
+    if renews(rt, front.alloc, front.hands.shared, &mut front.pass) && begins(rt, front) {
         return Some(taken);
     }
     None
@@ -187,43 +189,29 @@ pub fn begins<R: Wait, M: Room>(rt: &R, front: &mut Front<'_, M>) -> bool
     ensures { front.new.pass.seat.me.0.row ≡ front.old.pass.seat.me.0.row }
 {
     let child = front.begun;
-    if child >= CHILDREN || !move_on(rt, front, Move::Start(child)) {
-        return false;
-    }
-    if !credits(rt, front.hands.shared, &mut front.pass, child) {
+    if child >= CHILDREN || !starts(rt, front.hands.shared, &mut front.pass, child) {
         return false;
     }
     front.begun = child + 1;
     true
 }
 
-/// Pass 0 makes the move, where it may: whether it did.
-fn move_on<R: Wait, M: Room>(rt: &R, front: &mut Front<'_, M>, step: Move) -> bool
-    ensures row { front.new.pass.seat.me.0.row ≡ front.old.pass.seat.me.0.row }
-    ensures begun { front.new.begun ≡ front.old.begun }
-{
-    moves(rt, front.alloc, front.hands.shared, &mut front.pass, step)
-}
-
-/// Signals each slot, where nothing waits for the workers any more, and folds the history where it may be folded.
-fn signal_all<R: Wait, M: Room>(rt: &R, front: &mut Front<'_, M>, pusher: &mut Pusher<'_, M>)
+/// Signals each slot for which something may have come, where nothing waits for the workers any more, and folds the history where that is due.
+fn signal_slots<R: Wait, M: Room>(rt: &R, front: &mut Front<'_, M>, pusher: &mut Pusher<'_, M>)
     ensures { front.new.pass.seat.me.0.row ≡ front.old.pass.seat.me.0.row }
 {
     if pusher.queue.len(rt, &mut pusher.seat) == 0 {
-        signal_slots(rt, front);
+        front.tally.collect(&mut front.slots);
+        signals(
+            rt,
+            front.hands.shared,
+            &mut front.pass,
+            front.slots.as_slice(),
+        );
     }
     let turn = front.tally.begins();
-    move_on(rt, front, Move::Fold);
+    folds(rt, front.hands.shared, &mut front.pass);
     front.tally.made(turn);
-}
-
-/// Signals each slot.
-fn signal_slots<R: Wait, M: Room>(rt: &R, front: &mut Front<'_, M>)
-    ensures { front.new.pass.seat.me.0.row ≡ front.old.pass.seat.me.0.row }
-{
-    for slot in 0..SLOTS {
-        move_on(rt, front, Move::Signal(slot));
-    }
 }
 
 /// Hands what is signalled to the workers, while they have permits: how many connections.

@@ -26,12 +26,12 @@ mod clients;
 mod crew;
 mod links;
 mod listener;
-mod listener_turns;
-mod moves;
 mod opening;
 mod players;
 mod replay;
 mod stage;
+mod steps;
+mod taking;
 mod tally;
 
 use crew::{Served, serve_all, show_same, show_served};
@@ -116,19 +116,23 @@ fn show_service<R: Threads + Wait + Sync>(
         hold: plan.most < plan.workers,
         services: 0,
     };
-    let Some(by_one) = serve_all(rt, alloc, alone, quiet)? else {
-        return Ok(());
-    };
-    let Some(by_all) = serve_all(rt, alloc, plan, habits)? else {
-        return Ok(());
-    };
-    show_served(sheet, &by_all);
-    show_same(sheet, &by_all, &by_one);
-    if plan.wakes_once {
-        println!(sheet;
-            "no more wakes than items => {}",
-            by_all.tally.wakes_are_few()
-        );
+    if let Some(by_one) = serve_all(rt, alloc, alone, quiet)? {
+        show_beside(rt, sheet, alloc, plan, habits, &by_one)?;
+    }
+    Ok(())
+}
+
+/// Shows what comes of the plan, beside what came of one thread.
+fn show_beside<R: Threads + Wait + Sync>(
+    rt: &R,
+    sheet: &mut Sheet,
+    alloc: Global,
+    plan: Plan,
+    habits: Habits,
+    by_one: &Served,
+) -> Result<(), NoMemory> {
+    if let Some(by_all) = serve_all(rt, alloc, plan, habits)? {
+        show_both(sheet, plan, by_one, &by_all);
     }
     Ok(())
 }

@@ -278,6 +278,7 @@ fn begin_all<M: Room + Send + Sync, R: Threads + Wait + Sync>(
         hands,
         pass,
         begun: 0,
+        slots: Vec::new(alloc),
         site,
         tally,
         alloc,

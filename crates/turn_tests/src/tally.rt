@@ -1,8 +1,9 @@
 //! What all threads of a test count together.
+use crate::opening::SLOTS;
 use mpm_base::{Bell, ConnName, Gate, NoMemory};
 use std::alloc::Global;
 use std::sync::Wait;
-use std::sync::atomic::{AtomicU64, Ordering};
+use std::sync::atomic::{AtomicBool, AtomicU64, Ordering};
 use std::thread;
 
 /// How often a call of a link looks for what it waits for, before it gives up: for far longer than that takes.
@@ -25,6 +26,8 @@ pub struct Tally {
     /// Of each connection a sum of the bytes that its link took, once it was closed or half-closed.
     sums: Vec<AtomicU64>,
     habits: Habits,
+    /// Of each slot whether it was signalled since its connection was taken or last served.
+    signalled: Vec<AtomicBool>,
     /// How many connections are gone: closed, or half-closed.
     gone: AtomicU64,
     /// How many turns the listener began, and how many it had begun when the one began that it gave back last.
@@ -43,17 +46,10 @@ pub struct Tally {
 impl Tally {
     /// Nothing yet, for so many connections, whose links have these habits.
     pub fn make(alloc: Global, connections: u32, habits: Habits) -> Result<Tally, NoMemory> {
-        let Ok(mut sums) = Vec::with_capacity(alloc, connections as usize) else {
-            return Err(NoMemory);
-        };
-        for _ in 0..connections {
-            if sums.push(AtomicU64::new(0)).is_err() {
-                return Err(NoMemory);
-            }
-        }
         Ok(Tally {
-            sums,
+            sums: no_sums(alloc, connections)?,
             habits,
+            signalled: no_signals(alloc)?,
             gone: AtomicU64::new(0),
             turns: AtomicU64::new(0),
             over: AtomicU64::new(0),
@@ -68,6 +64,25 @@ impl Tally {
     /// What the links do besides.
     pub fn habits(&self) -> Habits {
         self.habits
+    }
+
+    /// A connection was taken into the slot: nothing is told of it yet.
+    pub fn takes(&self, slot: u32) {
+        if let Some(signalled) = self.signalled.get(slot as usize) {
+            signalled.store(false, Ordering::SeqCst);
+        }
+    }
+
+    /// Puts into the list each slot that wasn't signalled since its connection was taken or last served, and counts it as signalled.
+    pub fn collect(&self, slots: &mut Vec<u32>) {
+        slots.clear();
+        for slot in 0..SLOTS {
+            if let Some(signalled) = self.signalled.get(slot as usize) {
+                if !signalled.load(Ordering::SeqCst) && slots.push(slot).is_ok() {
+                    signalled.store(true, Ordering::SeqCst);
+                }
+            }
+        }
     }
 
     /// The connection of that number is gone, and its link had taken these bytes.
@@ -167,9 +182,32 @@ impl Bell for Tally {
 }
 
 impl Gate for Tally {
-    fn enter<R: Wait>(&self, _rt: &R, _name: ConnName) {
+    fn enter<R: Wait>(&self, _rt: &R, name: ConnName) {
         self.services.fetch_add(1, Ordering::SeqCst);
+        self.takes(name.slot);
     }
+}
+
+/// No sum yet, for so many connections.
+fn no_sums(alloc: Global, connections: u32) -> Result<Vec<AtomicU64>, NoMemory> {
+    let mut sums = Vec::new(alloc);
+    for _ in 0..connections {
+        if sums.push(AtomicU64::new(0)).is_err() {
+            return Err(NoMemory);
+        }
+    }
+    Ok(sums)
+}
+
+/// No slot was signalled yet.
+fn no_signals(alloc: Global) -> Result<Vec<AtomicBool>, NoMemory> {
+    let mut signalled = Vec::new(alloc);
+    for _ in 0..SLOTS {
+        if signalled.push(AtomicBool::new(false)).is_err() {
+            return Err(NoMemory);
+        }
+    }
+    Ok(signalled)
 }
 
 /// A sum of bytes in which their order counts.
