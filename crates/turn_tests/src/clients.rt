@@ -98,26 +98,31 @@ fn failing(alloc: Global, call: LinkCall, reset: Option<LinkCall>) -> Result<Cal
 /// The link of the client.
 pub fn link_of(alloc: Global, tally: &Arc<Tally>, client: Client) -> Result<TestLink, NoMemory> {
     let kind = kind_of(client, tally.habits().services != 0);
-    let coming = Octets::of(alloc, text_of(kind))?;
-    let reset = reset_of(kind);
-    let reads = failing(alloc, LinkCall::Read, reset)?;
-    let writes = failing(alloc, LinkCall::Write, reset)?;
     let Ok(wire) = Arc::new(alloc, wire_of(kind)) else {
         return Err(NoMemory);
     };
-    let (Ok(shared), Ok(tally)) = (Arc::try_clone(&wire), Arc::try_clone(tally)) else {
+    let Ok(tally) = Arc::try_clone(tally) else {
         return Err(NoMemory);
     };
-    let inner = ScriptLink::paced(
-        alloc,
-        client.number as u64,
-        coming,
-        shared,
-        reads,
-        writes,
-        false,
-    );
+    let inner = script_of(alloc, client.number, kind, &wire)?;
     Ok(TestLink::of(inner, wire, tally, client.number, pace_of(kind)))
+}
+
+/// The scripted link of a client of that number and kind, which this paces.
+fn script_of(
+    alloc: Global,
+    number: u32,
+    kind: u32,
+    wire: &Arc<Wire>,
+) -> Result<ScriptLink, NoMemory> {
+    let Ok(wire) = Arc::try_clone(wire) else {
+        return Err(NoMemory);
+    };
+    let reset = reset_of(kind);
+    let coming = Octets::of(alloc, text_of(kind))?;
+    let reads = failing(alloc, LinkCall::Read, reset)?;
+    let writes = failing(alloc, LinkCall::Write, reset)?;
+    Ok(ScriptLink::paced(alloc, number as u64, coming, wire, reads, writes, false))
 }
 
 /// What paces the link of a client of that kind: all has come and there is room for all, or nothing yet.

@@ -77,11 +77,23 @@ fn serve_from<R: Threads + Wait + Sync>(
     let Some(played) = played else {
         return Ok(None);
     };
+    served_of(alloc, &board, tally, played, permits)
+}
+
+/// What came of a service behind which the board is this.
+fn served_of(
+    alloc: Global,
+    board: &TestBoard,
+    tally: Arc<Tally>,
+    played: Played,
+    permits: u64,
+) -> Result<Option<Served>, NoMemory> {
+    let counts = counts_of(alloc, board)?;
     Ok(Some(Served {
         tally,
         played,
         permits,
-        counts: counts_of(alloc, &board)?,
+        counts,
     }))
 }
 
@@ -98,45 +110,58 @@ fn permits_of(shared: &Shared<TestBoard>, pass: &mut Pass<TestBoard>) -> u64
 
 /// What the board tells.
 fn counts_of(alloc: Global, board: &TestBoard) -> Result<Counts, NoMemory> {
-    let mut closed: u64 = 0;
-    let mut responses: u64 = 0;
-    let mut children: u64 = 0;
-    for entry in board.history() {
-        match &entry.event {
-            Event::Close(_, _, _) => closed = closed.saturating_add(1),
-            Event::Answer(_, _) => responses = responses.saturating_add(1),
-            Event::StartChild(_) => children = children.saturating_add(1),
-            _ => (),
-        }
-    }
+    let of_table = is_of_table(alloc, board)?;
     let folded = board.folded();
-    Ok(Counts {
+    let mut counts = Counts {
         accepted: board.state().accepted,
         live: board.state().rows.live_count() as u64,
-        closed: folded.closed.saturating_add(closed),
-        responses: folded.responses.saturating_add(responses),
-        children: folded.children.saturating_add(children),
+        closed: folded.closed,
+        responses: folded.responses,
+        children: folded.children,
         folded: folded.entries != 0,
-        of_table: is_of_table(alloc, board)?,
-    })
+        of_table,
+    };
+    for entry in board.history() {
+        count(&mut counts, &entry.event);
+    }
+    Ok(counts)
+}
+
+/// Counts an event that wasn't folded.
+fn count(counts: &mut Counts, event: &Event) {
+    match event {
+        Event::Close(_, _, _) => counts.closed = counts.closed.saturating_add(1),
+        Event::Answer(_, _) => counts.responses = counts.responses.saturating_add(1),
+        Event::StartChild(_) => counts.children = counts.children.saturating_add(1),
+        _ => (),
+    }
 }
 
 /// Shows what came of it, as far as no schedule changes it.
 pub fn show_served(sheet: &mut Sheet, served: &Served) {
-    let counts = served.counts;
-    println!(sheet;
-        "taken => {}, lingering => {}, closed => {}, responses => {}, children => {}",
-        counts.accepted, counts.live, counts.closed, counts.responses, counts.children
-    );
-    println!(sheet;
-        "seats => {}, items => {}, carriers => {}, permits => {}",
-        served.played.seats, served.played.left, served.played.carriers, served.permits
-    );
+    show_counts(sheet, served.counts);
+    show_left(sheet, served.played, served.permits);
     println!(sheet;
         "each item was served => {}, calls of links in vain => {}, folded => {}",
         served.tally.all_were_served(),
         served.tally.vain(),
-        counts.folded
+        served.counts.folded
+    );
+}
+
+/// Shows what the board tells.
+fn show_counts(sheet: &mut Sheet, counts: Counts) {
+    println!(sheet;
+        "taken => {}, lingering => {}, closed => {}, responses => {}, children => {}",
+        counts.accepted, counts.live, counts.closed, counts.responses, counts.children
+    );
+}
+
+/// Shows what is there behind all.
+fn show_left(sheet: &mut Sheet, played: Played, permits: u64) {
+    println!(sheet;
+        "seats => {}, items => {}, carriers => {}, permits => {}",
+        played.seats, played.left, played.carriers, permits
     );
 }
 

@@ -135,16 +135,10 @@ fn take_more<R: Wait, M: Room>(
 {
     let mut taken = taken;
     for _ in 0..plan.window {
-        let open = (taken as u64).saturating_sub(front.tally.gone());
-        if taken >= plan.connections || open >= plan.window as u64 {
-            return Some(taken);
-        }
-        if taken / plan.restarts_behind.max(1) >= front.begun {
-            return if open == 0 {
-                restarts(rt, front, taken)
-            } else {
-                Some(taken)
-            };
+        match next_of(plan, taken, front.begun, front.tally.gone()) {
+            Next::Takes => (),
+            Next::Restarts => return restarts(rt, front, taken),
+            Next::Waits => return Some(taken),
         }
         let client = Client {
             number: taken,
@@ -156,6 +150,32 @@ fn take_more<R: Wait, M: Room>(
         taken = taken.saturating_add(1);
     }
     Some(taken)
+}
+
+/// What the listener does next.
+enum Next {
+    /// It takes a connection.
+    Takes,
+    /// It restarts.
+    Restarts,
+    /// It takes none until one is gone, or none at all.
+    Waits,
+}
+
+/// What the listener does next, where so many connections were taken in all, so many children have begun, and so many connections are gone.
+fn next_of(plan: Plan, taken: u32, begun: u32, gone: u64) -> Next {
+    let open = (taken as u64).saturating_sub(gone);
+    if taken >= plan.connections || open >= plan.window as u64 {
+        return Next::Waits;
+    }
+    if taken / plan.restarts_behind.max(1) < begun {
+        return Next::Takes;
+    }
+    if open == 0 {
+        Next::Restarts
+    } else {
+        Next::Waits
+    }
 }
 
 /// Takes the connection of the client: whether it was taken. None where it couldn't wait.

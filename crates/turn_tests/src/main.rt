@@ -22,6 +22,7 @@
 //! history was folded, and is one of the event table; and whether each connection was sent what it is where one thread does all.
 #![tactic(auto)]
 
+mod carriers;
 mod clients;
 mod crew;
 mod links;

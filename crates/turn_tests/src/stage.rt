@@ -1,16 +1,15 @@
 //! What all threads stand on: the carriers rest on a perch, the queue has its seats, and each thread gets what it needs.
-ghost use Rattle.std.specs.Prelude.{◌≡◌, ◌≢◌, ◌≤◌, ℕ, Some, None, IfOk, IfSome, slice_get};
+ghost use Rattle.std.specs.Prelude.{◌≡◌, ℕ, Some, None, IfSome, slice_get};
 ghost use Rattle.crossbeam_queue.specs.Passes.{IsPassOf};
-ghost use Rattle.recycle_perch.specs.Looking.{AllAreOf, AreOf};
-ghost use Rattle.recycle_perch.specs.Resting.{IsFreeCarrier};
-ghost use Rattle.board_turns.specs.Turns.{IsListener};
-ghost use Rattle.turn_tests.specs.Passes.{HasNoCreditFrom, IsFresh};
+ghost use Rattle.recycle_perch.specs.Looking.{AllAreOf};
+ghost use Rattle.turn_tests.specs.Passes.{IsFresh};
 
+use crate::carriers::{Zero, count_spare, next_looks, settle};
 use crate::listener::{Front, Listener, Plan, Pusher, begins};
-use crate::opening::{CARRIERS, TestBoard, last_of};
+use crate::opening::{CARRIERS, TestBoard};
 use crate::players::{Player, TestHands, TestPair, Worker, plays};
 use crate::tally::Tally;
-use board_lock::{Carrier, Pass, Room, Shared, number};
+use board_lock::{Pass, Room, Shared};
 use crossbeam_utils::sync::Parker;
 use fd_queue::{FdQueue, FdSeat};
 use file_table::Site;
@@ -31,174 +30,6 @@ pub struct Played {
     pub left: usize,
     /// How many carriers rest then.
     pub carriers: u32,
-}
-
-/// A carrier that has nothing.
-#[derive(Drop)]
-struct Spare<M: Room> {
-    carrier: Carrier<TestBoard>,
-    of: PhantomData<M>,
-    ghost own: { carrier.seat.table_id ≡ M.table },
-    ghost free: { IsFreeCarrier carrier.seat.me },
-}
-
-/// Pass 0 before it did anything.
-#[derive(Drop)]
-struct Zero<M: Room> {
-    pass: Pass<TestBoard>,
-    of: PhantomData<M>,
-    ghost own: { pass.seat.table_id ≡ M.table },
-    ghost listens: { IsListener pass.seat.me },
-    ghost none: { pass.seat.me.0.row ≡ None },
-    ghost later: { HasNoCreditFrom 0 pass.seat.me.0.credits },
-}
-
-/// A pass of a new lock: pass 0, or one that may carry.
-#[derive(Drop)]
-enum Newcomer<M: Room> {
-    Listens(Zero<M>),
-    Carries(Spare<M>),
-}
-
-/// All passes, the last one first.
-fn all_passes<M: Room>(
-    alloc: Global,
-    shared: &Shared<TestBoard>,
-    passes: &mut Vec<Pass<TestBoard>>,
-) -> Result<Vec<Newcomer<M>>, NoMemory>
-    requires lock { shared.now.table.shared.table_id ≡ M.table }
-    requires own { (p : ℕ) (pass : _)
-        → slice_get passes.old.items p ≡ Some pass
-        → pass.seat.table_id ≡ shared.now.table.shared.table_id }
-    requires fresh { (p : ℕ) (pass : _)
-        → slice_get passes.old.items p ≡ Some pass
-        → IsFresh pass.seat.me }
-{
-    let mut made = Vec::new(alloc);
-    for _ in 0..passes.len() {
-        let Some(next) = last_pass::<M>(shared, passes) else {
-            return Ok(made);
-        };
-        if made.push(next).is_err() {
-            return Err(NoMemory);
-        }
-    }
-    Ok(made)
-}
-
-/// The last of the passes.
-fn last_pass<M: Room>(
-    shared: &Shared<TestBoard>,
-    passes: &mut Vec<Pass<TestBoard>>,
-) -> Option<Newcomer<M>>
-    requires lock { shared.now.table.shared.table_id ≡ M.table }
-    requires own { (p : ℕ) (pass : _)
-        → slice_get passes.old.items p ≡ Some pass
-        → pass.seat.table_id ≡ shared.now.table.shared.table_id }
-    requires fresh { (p : ℕ) (pass : _)
-        → slice_get passes.old.items p ≡ Some pass
-        → IsFresh pass.seat.me }
-    ensures own { (p : ℕ) (pass : _)
-        → slice_get passes.new.items p ≡ Some pass
-        → pass.seat.table_id ≡ shared.now.table.shared.table_id }
-    ensures fresh { (p : ℕ) (pass : _)
-        → slice_get passes.new.items p ≡ Some pass
-        → IsFresh pass.seat.me }
-{
-    let pass = last_of(shared, passes)?;
-    if number(&pass) == 0 {
-        return Some(Newcomer::Listens(Zero {
-            pass,
-            of: PhantomData,
-        }));
-    }
-    Some(Newcomer::Carries(Spare {
-        carrier: pass,
-        of: PhantomData,
-    }))
-}
-
-/// Makes the places of all carriers: the carriers.
-fn admit_all<M: Room>(
-    alloc: Global,
-    perch: &mut Perch<'_, TestBoard>,
-    looks: &mut Vec<Looks>,
-    mut others: Vec<Newcomer<M>>,
-) -> Result<Vec<Spare<M>>, NoMemory>
-    requires perched { perch.old.shared.now.table.shared.table_id ≡ M.table }
-    requires looks { AllAreOf perch.old.places looks.old.items }
-    ensures perched { perch.new.shared.now.table.shared.table_id ≡ M.table }
-    ensures looks { AllAreOf perch.new.places looks.new.items }
-{
-    let mut spare = Vec::new(alloc);
-    for _ in 0..others.len() {
-        let Some(Newcomer::Carries(next)) = others.pop() else {
-            return Ok(spare);
-        };
-        let Some(carrier) = admit_one(perch, looks, next) else {
-            return Ok(spare);
-        };
-        if spare.push(carrier).is_err() {
-            return Err(NoMemory);
-        }
-    }
-    Ok(spare)
-}
-
-/// Makes the place of the next carrier: the carrier.
-fn admit_one<M: Room>(
-    perch: &mut Perch<'_, TestBoard>,
-    looks: &mut Vec<Looks>,
-    next: Spare<M>,
-) -> Option<Spare<M>>
-    requires perched { perch.old.shared.now.table.shared.table_id ≡ M.table }
-    requires looks { AllAreOf perch.old.places looks.old.items }
-    ensures perched { perch.new.shared.now.table.shared.table_id ≡ M.table }
-    ensures looks { AllAreOf perch.new.places looks.new.items }
-{
-    let Spare { carrier, of: _ } = next;
-    match perch.admit(looks, carrier) {
-        Ok(carrier) => Some(Spare {
-            carrier,
-            of: PhantomData,
-        }),
-        Err(_) => None,
-    }
-}
-
-/// Lays the carriers down.
-fn lay_down<M: Room>(perch: &Perch<'_, TestBoard>, looks: &mut Looks, mut spare: Vec<Spare<M>>)
-    requires perched { perch.now.shared.now.table.shared.table_id ≡ M.table }
-    requires looks { AreOf perch.now.places looks.old }
-    ensures looks { AreOf perch.now.places looks.new }
-{
-    for _ in 0..spare.len() {
-        let Some(Spare { carrier, of: _ }) = spare.pop() else {
-            return;
-        };
-        let _ = perch.give(looks, carrier);
-    }
-}
-
-/// How many carriers rest, which it takes up.
-fn count_spare(perch: &Perch<'_, TestBoard>, looks: &mut Looks) -> u32
-    requires { AreOf perch.now.places looks.old }
-{
-    for count in 0..CARRIERS + 1 {
-        if perch.take(looks).is_none() {
-            return count;
-        }
-    }
-    CARRIERS + 1
-}
-
-/// The last of the looks.
-fn next_looks(perch: &Perch<'_, TestBoard>, all: &mut Vec<Looks>) -> Option<Looks>
-    requires { AllAreOf perch.now.places all.old.items }
-    ensures all { AllAreOf perch.now.places all.new.items }
-    ensures last { IfSome result (AreOf perch.now.places) }
-{
-    all.pop()
 }
 
 /// The last of the seats.
@@ -231,17 +62,11 @@ pub fn play_named<M: Room + Send + Sync, R: Threads + Wait + Sync>(
         → slice_get passes.old.items p ≡ Some pass
         → IsFresh pass.seat.me }
 {
-    let mut all = all_passes::<M>(alloc, shared, passes)?;
-    let Some(Newcomer::Listens(zero)) = all.pop() else {
-        return Ok(None);
-    };
     let mut perch = Perch::make(alloc, shared, CARRIERS)?;
     let mut looks = perch.looks(alloc, plan.workers.min(63) + 2)?;
-    let spare = admit_all(alloc, &mut perch, &mut looks, all)?;
-    let Some(mut mine) = next_looks(&perch, &mut looks) else {
+    let Some((zero, mut mine)) = settle::<M>(alloc, shared, passes, &mut perch, &mut looks)? else {
         return Ok(None);
     };
-    lay_down(&perch, &mut mine, spare);
     let hands: TestHands<'_, M> = Hands {
         shared,
         perch: &perch,
@@ -249,7 +74,8 @@ pub fn play_named<M: Room + Send + Sync, R: Threads + Wait + Sync>(
         gate: &**tally,
         of: PhantomData,
     };
-    let Some((seats, left)) = begin_all(rt, alloc, &hands, zero, looks, site, tally, plan)? else {
+    let Some((seats, left)) = begin_all(rt, alloc, &hands, zero, &mut looks, site, tally, plan)?
+    else {
         return Ok(None);
     };
     Ok(Some(Played {
@@ -266,12 +92,12 @@ fn begin_all<M: Room + Send + Sync, R: Threads + Wait + Sync>(
     alloc: Global,
     hands: &TestHands<'_, M>,
     zero: Zero<M>,
-    looks: Vec<Looks>,
+    looks: &mut Vec<Looks>,
     site: &Arc<Site>,
     tally: &Arc<Tally>,
     plan: Plan,
 ) -> Result<Option<(usize, usize)>, NoMemory>
-    requires { AllAreOf hands.now.perch.now.places looks.items }
+    requires { AllAreOf hands.now.perch.now.places looks.old.items }
 {
     let Zero { pass, of: _ } = zero;
     let mut front = Front {
@@ -289,49 +115,93 @@ fn begin_all<M: Room + Send + Sync, R: Threads + Wait + Sync>(
     play_all(rt, front, looks, plan)
 }
 
-/// A listener and its workers play.
+/// A listener and its workers play, over a queue.
 fn play_all<M: Room + Send + Sync, R: Threads + Wait + Sync>(
     rt: &R,
     front: Front<'_, M>,
-    mut looks: Vec<Looks>,
+    looks: &mut Vec<Looks>,
     plan: Plan,
 ) -> Result<Option<(usize, usize)>, NoMemory>
     requires row { front.pass.seat.me.0.row ≡ None }
-    requires looks { AllAreOf front.hands.now.perch.now.places looks.items }
+    requires looks { AllAreOf front.hands.now.perch.now.places looks.old.items }
+{
+    let count = plan.workers.min(63);
+    let (queue, mut seats) = FdQueue::<TestPair<M>>::make(front.alloc, 64, count + 2)?;
+    let Some(back) = play_over(rt, front, looks, &queue, &mut seats, plan)? else {
+        return Ok(None);
+    };
+    match next_seat(&queue, &mut seats) {
+        Some(mut seat) => Ok(Some((back, queue.len(rt, &mut seat)))),
+        None => Ok(None),
+    }
+}
+
+/// They play over this queue: how many seats came back.
+fn play_over<M: Room + Send + Sync, R: Threads + Wait + Sync>(
+    rt: &R,
+    front: Front<'_, M>,
+    looks: &mut Vec<Looks>,
+    queue: &FdQueue<TestPair<M>>,
+    seats: &mut Vec<FdSeat<TestPair<M>>>,
+    plan: Plan,
+) -> Result<Option<usize>, NoMemory>
+    requires row { front.pass.seat.me.0.row ≡ None }
+    requires looks { AllAreOf front.hands.now.perch.now.places looks.old.items }
+    requires seats { (i : ℕ) (seat : _) → slice_get seats.old.items i ≡ Some seat → IsPassOf queue.now.ring seat }
+    ensures seats { (i : ℕ) (seat : _) → slice_get seats.new.items i ≡ Some seat → IsPassOf queue.now.ring seat }
 {
     let alloc = front.alloc;
     let hands = front.hands;
-    let count = plan.workers.min(63);
-    let (queue, mut seats) = FdQueue::<TestPair<M>>::make(alloc, 64, count + 2)?;
-    let (wakes, parkers) = Wakes::make(alloc, count)?;
-    let mut players = workers(
-        alloc, hands, &queue, &mut seats, &mut looks, &wakes, parkers,
-    )?;
-    let (Some(seat), Some(looks)) = (
-        next_seat(&queue, &mut seats),
-        next_looks(hands.perch, &mut looks),
-    ) else {
+    let (wakes, parkers) = Wakes::make(alloc, plan.workers.min(63))?;
+    let players = workers(alloc, hands, queue, seats, looks, &wakes, parkers)?;
+    let Some(pusher) = pusher_of(hands, queue, seats, looks, &wakes) else {
         return Ok(None);
-    };
-    let pusher = Pusher {
-        hands,
-        queue: &queue,
-        seat,
-        looks,
-        wakes: &wakes,
     };
     let listener = Listener {
         front,
         pusher,
         plan,
     };
+    play_with(rt, players, listener)
+}
+
+/// What the listener has for its workers.
+fn pusher_of<'a, M: Room>(
+    hands: &'a TestHands<'a, M>,
+    queue: &'a FdQueue<TestPair<M>>,
+    seats: &mut Vec<FdSeat<TestPair<M>>>,
+    looks: &mut Vec<Looks>,
+    wakes: &'a Wakes,
+) -> Option<Pusher<'a, M>>
+    requires looks { AllAreOf hands.now.perch.now.places looks.old.items }
+    requires seats { (i : ℕ) (seat : _) → slice_get seats.old.items i ≡ Some seat → IsPassOf queue.now.ring seat }
+    ensures hands { IfSome result (λ pusher. pusher.hands ≡ hands) }
+    ensures seats { (i : ℕ) (seat : _) → slice_get seats.new.items i ≡ Some seat → IsPassOf queue.now.ring seat }
+{
+    let seat = next_seat(queue, seats)?;
+    let looks = next_looks(hands.perch, looks)?;
+    Some(Pusher {
+        hands,
+        queue,
+        seat,
+        looks,
+        wakes,
+    })
+}
+
+/// The listener and the workers have a thread each: how many seats came back.
+fn play_with<M: Room + Send + Sync, R: Threads + Wait + Sync>(
+    rt: &R,
+    workers: Vec<Player<'_, M>>,
+    listener: Listener<'_, M>,
+) -> Result<Option<usize>, NoMemory> {
+    let mut players = workers;
     if players.push(Player::Listens(listener)).is_err() {
         return Err(NoMemory);
     }
-    let back = play_on_threads(rt, players)?;
-    match next_seat(&queue, &mut seats) {
-        Some(mut seat) => Ok(Some((back, queue.len(rt, &mut seat)))),
-        None => Ok(None),
+    match play_on_threads(rt, players) {
+        Ok(back) => Ok(Some(back)),
+        Err(NoMemory) => Err(NoMemory),
     }
 }
 
@@ -352,27 +222,44 @@ fn workers<'a, M: Room>(
 {
     let mut players = Vec::new(alloc);
     for _ in 0..parkers.len() {
-        let number = (parkers.len() as u32).saturating_sub(1) % 64;
-        let (Some(parker), Some(seat), Some(looks)) = (
-            parkers.pop(),
-            next_seat(queue, seats),
-            next_looks(hands.perch, looks),
-        ) else {
+        let Some(parker) = parkers.pop() else {
             return Ok(players);
         };
-        let worker = Worker {
-            hands,
-            queue,
-            seat,
-            looks,
-            rest: Rest::make(wakes, parker, number),
-            alloc,
+        let rest = Rest::make(wakes, parker, parkers.len() as u32 % 64);
+        let Some(worker) = worker_of(alloc, hands, queue, seats, looks, rest) else {
+            return Ok(players);
         };
         if players.push(Player::Works(worker)).is_err() {
             return Err(NoMemory);
         }
     }
     Ok(players)
+}
+
+/// A worker, with the last of the seats and of the looks.
+fn worker_of<'a, M: Room>(
+    alloc: Global,
+    hands: &'a TestHands<'a, M>,
+    queue: &'a FdQueue<TestPair<M>>,
+    seats: &mut Vec<FdSeat<TestPair<M>>>,
+    looks: &mut Vec<Looks>,
+    rest: Rest<'a>,
+) -> Option<Worker<'a, M>>
+    requires looks { AllAreOf hands.now.perch.now.places looks.old.items }
+    requires seats { (i : ℕ) (seat : _) → slice_get seats.old.items i ≡ Some seat → IsPassOf queue.now.ring seat }
+    ensures looks { AllAreOf hands.now.perch.now.places looks.new.items }
+    ensures seats { (i : ℕ) (seat : _) → slice_get seats.new.items i ≡ Some seat → IsPassOf queue.now.ring seat }
+{
+    let seat = next_seat(queue, seats)?;
+    let looks = next_looks(hands.perch, looks)?;
+    Some(Worker {
+        hands,
+        queue,
+        seat,
+        looks,
+        rest,
+        alloc,
+    })
 }
 
 /// Each player has a thread: how many seats came back.

@@ -1,6 +1,6 @@
 use Rattle.std.proofs.Common.{◌≡◌}
 use Rattle.recycle_perch.specs.Looking.{AllAreOf}
-use Rattle.turn_tests.proofs.stage.admit_all.Given as goal
+use Rattle.turn_tests.proofs.carriers.admit_all.Given as goal
 
 abbrev pub invariant-loop : goal.invariant-loop
 invariant-loop g l =

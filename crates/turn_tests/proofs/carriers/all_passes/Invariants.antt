@@ -1,7 +1,7 @@
 use Rattle.std.proofs.Common.{◌≡◌, ℕ, Some}
 use Rattle.std.specs.Prelude.{slice_get}
 use Rattle.turn_tests.specs.Passes.{IsFresh}
-use Rattle.turn_tests.proofs.stage.all_passes.Given as goal
+use Rattle.turn_tests.proofs.carriers.all_passes.Given as goal
 
 -- the passes that are left are the lock's, and new
 abbrev pub invariant-loop : goal.invariant-loop
