@@ -1,6 +1,5 @@
 -- What is wanted of the hosts of a configuration can be loaded.
-use Rattle.std.proofs.Common.{◌≡◌, ℕ, length, map, IsUtf8, arith}
-use Rattle.std.specs.List.{All}
+use Rattle.std.proofs.Common.{◌≡◌, length, map, IsUtf8, arith}
 use Rattle.std.proofs.lemmas.List.{length-map}
 use Rattle.std.proofs.lemmas.List.Elements.{All-map, All-weaker}
 use Rattle.file_table.specs.Site.{IsLoadable}
