@@ -8,8 +8,9 @@
 //!   (`specs/Undisturbed.antt`).
 //! - `no_deadline_stands_in_for_service`: in the run of a script time passes only as a wait of the front let it, and only where each signal
 //!   that the front gave with an earlier wait was taken up (`specs/Unhurried.antt`).
-//! - `files_are_of_the_chosen_host`: each file that a connection of a run is sent, whole or in part, is one of those under the root of the host
-//!   that its request is for, by the hosts of the configuration of its generation's edition (`specs/ChosenHost.antt`).
+//! - `files_are_of_the_chosen_host`: each file that a connection of a run is sent, whole or in part, is one that the host has which its request
+//!   is for. Where the store tells its files it is one of those under that host's root, by the hosts of the configuration of the connection's
+//!   edition, and no host with another root has it (`specs/ChosenHost.antt`).
 //!
 //! Each is the contract of a function that does nothing. No program runs them: they say in one place what follows of many clauses, and where
 //! a clause were too weak for that they couldn't be proved.
@@ -64,11 +65,12 @@ pub fn no_deadline_stands_in_for_service()
     records_open_with_nothing();
 }
 
-/// What a request of a connection is sent of a file is of one that its host has: the host that it is for, of those of the configuration of the
-/// edition of the connection's generation.
+/// What a request of a connection is sent of a file is of one that its host has, and that no host with another root has: the host that it is for,
+/// of those of the configuration of the edition of the connection's generation.
 pub fn files_are_of_the_chosen_host()
     ensures { FilesAreOfTheChosenHost }
 {
+    ended_connections_join();
     hosts_have_their_files();
     served_files_are_of_the_chosen_host();
 }
