@@ -5,7 +5,7 @@ import re
 import shutil
 import tempfile
 
-from real_server import MISSING, connect, expect, request, response, run, scene, serving, until
+from real_server import ANSWER, LARGE_SITE, MISSING, connect, expect, request, response, run, scene, serving, until
 
 # Two hosts, and a third one that has the files of the first under another index.
 HOSTS = [
@@ -87,6 +87,27 @@ def a_restart_adds_a_host_and_another_one_drops_it():
         server.stop()
         ends = [f"{turn} LastSent Drained 200" for turn in range(2)] + [f"{turn + 1} ClientDone Direct 200" for turn in range(2)]
         server.expect_report(*ends, children=9, generation=2)
+
+
+def resident(server):
+    """The bytes of memory that the server has now."""
+    with open(f"/proc/{server.process.pid}/status") as file:
+        return 1024 * int(re.search(r"^VmRSS:\s+(\d+) kB", file.read(), re.M)[1])
+
+
+@scene
+def ten_hosts_of_one_folder_have_the_memory_of_one():
+    taken = []
+    for count in [1, 10]:
+        hosts = [line for host in range(count) for line in ("<VirtualHost *>", f"ServerName host-{host}.example", "</VirtualHost>")]
+        with serving(*hosts, files=LARGE_SITE) as server:
+            with connect(server.port) as client:
+                client.send(asked_of(f"host-{count - 1}.example"))
+                expect("the page of the last host", client.reply(), ANSWER)
+                taken.append(resident(server))
+            server.stop()
+            server.expect_report("0 ClientDone Direct 200")
+    expect("whether ten have as much as one, within a megabyte", abs(taken[1] - taken[0]) < 1_000_000, True)
 
 
 @scene
