@@ -7,6 +7,7 @@ pub mod FirstLineLemmas
 pub mod LineLemmas
 pub mod LineWordLemmas
 pub mod LoadLemmas
+pub mod NameChainLemmas
 pub mod NamePlaceLemmas
 pub mod OptionLemmas
 pub mod SequenceLemmas

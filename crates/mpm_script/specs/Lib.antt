@@ -5,6 +5,8 @@ pub mod EscapesInside
 pub mod FileNames
 pub mod LineWordsInside
 pub mod Load
+pub mod NameChains
+pub mod NameChainsInside
 pub mod NamePlaces
 pub mod NamePlacesInside
 pub mod Script

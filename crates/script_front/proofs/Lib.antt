@@ -7,7 +7,6 @@ pub mod EditionLemmas
 pub mod FailingLemmas
 pub mod LookLemmas
 pub mod MomentLemmas
-pub mod NameChainLemmas
 pub mod PlayedLemmas
 pub mod PlanLemmas
 pub mod PlaysLemmas

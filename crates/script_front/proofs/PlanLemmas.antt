@@ -11,7 +11,7 @@ use Rattle.mpm_base.specs.declared.script_line.ScriptLine.{ScriptLine}
 use Rattle.mpm_base.specs.declared.script_line.ScriptLine.TheVariants as line
 use Rattle.script_front.specs.declared.client_plans.Awaited.{Awaited}
 use Rattle.script_front.specs.declared.client_plans.LinkPlan.{LinkPlan}
-use Rattle.script_front.specs.NameChainsInside.{IsLastBelow}
+use Rattle.mpm_script.specs.NameChains.{IsLastBelow}
 use Rattle.script_front.specs.PlayedPartsInside.{is_of_client, new_plan, plan_after, plan_after_act, plan_after_line, plan_after_lines, plan_of, plans}
 use Rattle.script_front.proofs.WalkLemmas.{Alike, Walked, alike-maps, map-itself, walked-at, walked-start, walked-step}
 

@@ -9,7 +9,7 @@ use Rattle.mpm_base.specs.declared.script_line.ClientAct.{ClientAct}
 use Rattle.mpm_base.specs.declared.script_line.ClientAct.TheVariants as act
 use Rattle.mpm_base.specs.declared.script_line.ScriptLine.{ScriptLine}
 use Rattle.mpm_base.specs.declared.script_line.ScriptLine.TheVariants as line
-use Rattle.script_front.specs.NameChainsInside.{IsLastBelow}
+use Rattle.mpm_script.specs.NameChains.{IsLastBelow}
 use Rattle.script_front.specs.PlayedPartsInside.{is_of_client}
 use Rattle.script_front.specs.Signals.{Gives, LooksAt, SeenClient, after_act, client_after_line, client_after_lines, after_watch_of, done, full, given, gone, idle, new_client, without_signal, watched_client}
 use Rattle.script_front.proofs.WalkLemmas.{Alike, Walked, alike-maps, map-itself, walked-at, walked-end, walked-length, walked-start, walked-step}

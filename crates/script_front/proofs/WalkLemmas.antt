@@ -4,7 +4,7 @@ use Rattle.std.specs.Prelude.{⊤}
 use Rattle.std.specs.List.{slice_get}
 use Rattle.std.proofs.lemmas.List.{drop_all, length-append, length-drop, length-map, length-take}
 use Rattle.std.proofs.lemmas.Slice.Eq.{bytes_eq-Decides}
-use Rattle.script_front.specs.NameChainsInside.{IsLastBelow}
+use Rattle.mpm_script.specs.NameChains.{IsLastBelow}
 
 -- ## Two lists, the one up to a place and the other behind it
 

@@ -3,7 +3,6 @@ pub mod DuePlacesInside
 pub mod Editions
 pub mod FailingFront
 pub mod FailingFrontInside
-pub mod NameChainsInside
 pub mod PlayedFrontInside
 pub mod PlayedPartsInside
 pub mod ScriptFront

@@ -6,9 +6,9 @@ ghost use Rattle.script_front.specs.ScriptFront.{no_name_yet};
 ghost use Rattle.script_front.specs.Signals.{new_client};
 
 use crate::client_plans::{Awaited, LinkPlan, hear_lines};
-use crate::name_chains::NameChains;
 use crate::script_client::ScriptClient;
 use mpm_base::{ConnName, NoMemory, Octets, ScriptLine};
+use mpm_script::NameChains;
 use stand_ins::Wire;
 use std::alloc::Global;
 use std::collections::VecDeque;

@@ -3,9 +3,9 @@ ghost use Rattle.std.specs.Prelude.{◌≡◌, [], length, map, OnOk};
 ghost use Rattle.mpm_base.specs.declared.script_line.ScriptLine.TheVariants as said;
 ghost use Rattle.script_front.specs.PlayedPartsInside.{TellsPlans, new_plan, plan_after, plan_after_act, plan_of, plans};
 
-use crate::name_chains::NameChains;
 use crate::script_client::act_in;
 use mpm_base::{ClientAct, LinkCall, NoMemory, Octets, ScriptLine};
+use mpm_script::NameChains;
 use stand_ins::{Calls, Wire};
 use std::alloc::Global;
 use std::collections::VecDeque;

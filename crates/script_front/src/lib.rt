@@ -16,7 +16,6 @@ mod draft;
 mod due_places;
 mod editions;
 mod failing_front;
-mod name_chains;
 mod script_bell;
 mod script_client;
 mod script_clients;

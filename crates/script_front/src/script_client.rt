@@ -7,8 +7,8 @@ ghost use Rattle.script_front.specs.PlayedPartsInside.{is_of_client};
 ghost use Rattle.script_front.specs.Signals.{Gives, LooksAt, after_act, client_after_line, client_after_lines, all_closed, new_client, without_signal, watched_client};
 
 use crate::due_places::DuePlaces;
-use crate::name_chains::NameChains;
 use mpm_base::{ClientAct, ConnName, Octets, Ready, ScriptLine};
+use mpm_script::NameChains;
 use stand_ins::Wire;
 use std::marker::Model;
 use std::sync::Arc;
@@ -47,13 +47,6 @@ impl ScriptClient {
             due: false,
             closed: false,
         }
-    }
-
-    /// Whether its link was found closed.
-    fn is_closed(&self) -> bool
-        ensures { result ≡ self.now.closed }
-    {
-        self.closed
     }
 
     /// Looks whether its link was closed. Once it was found so it stays so.
@@ -219,7 +212,7 @@ pub(crate) fn closed_up_to(clients: &mut [ScriptClient], closed: usize, count: u
     'links: while found < count {
         let client = &mut clients[found];
         client.look();
-        if !client.is_closed() {
+        if !client.closed {
             return found;
         }
         found += 1;

@@ -9,9 +9,9 @@ ghost use Rattle.script_front.specs.Signals.{Gives, client_after_lines, after_wa
 use crate::client_parts::parts_of;
 use crate::client_plans::Awaited;
 use crate::due_places::DuePlaces;
-use crate::name_chains::NameChains;
 use crate::script_client::{ScriptClient, closed_up_to, give, happen};
 use mpm_base::{ConnName, NoMemory, Ready, ScriptLine};
+use mpm_script::NameChains;
 use std::alloc::Global;
 use std::collections::VecDeque;
 use std::marker::Model;

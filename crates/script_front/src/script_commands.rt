@@ -1,11 +1,10 @@
 //! The commands of a script, as its front brings them.
 //! Why it is so stands in docs/DECISIONS.md: 8, Command lines of a script.
 ghost use Rattle.std.specs.Prelude.{◌≡◌, ◌==◌, ◌+◌, ◌-◌, ◌^◌, ◌<◌, ◌≤◌, ◌∷◌, length, IfOk, IfSome, IfNone};
-ghost use Rattle.mpm_base.specs.CommandWord.{command_word};
 ghost use Rattle.mpm_script.specs.Commands.{commands_of};
 ghost use Rattle.script_front.specs.PlayedPartsInside.{new_commands};
 
-use mpm_base::{CommandWord, Line, NoMemory, ScriptLine};
+use mpm_base::{CommandWord, NoMemory, ScriptLine};
 use std::alloc::Global;
 use std::collections::VecDeque;
 use std::marker::Model;
@@ -98,26 +97,5 @@ impl ScriptCommands {
             }
             None => unreachable!(),
         }
-    }
-}
-
-/// The command line that the command brings.
-pub(crate) fn line_of(word: CommandWord) -> Line
-    ensures { result ≡ command_word word }
-{
-    match Line::of(text_of(word)) {
-        Some(line) => line,
-        None => unreachable!(),
-    }
-}
-
-fn text_of(word: CommandWord) -> &'static str
-    ensures { result.now ≡ command_word word }
-{
-    match word {
-        CommandWord::Graceful => "graceful",
-        CommandWord::GracefulStop => "graceful-stop",
-        CommandWord::Stop => "stop",
-        CommandWord::Status => "status",
     }
 }

@@ -17,7 +17,7 @@ use crate::coming_lines::{
 };
 use crate::script_bell::ScriptBell;
 use crate::script_clients::ScriptClients;
-use crate::script_commands::{ScriptCommands, line_of};
+use crate::script_commands::ScriptCommands;
 use crate::wait_end::{WaitEnd, WaitingCounts, passed_between};
 use crate::watch_end::WatchEnd;
 use crate::word_log::log_of;
@@ -26,7 +26,7 @@ use mpm_base::{
     Addr, Arrival, ConnName, Front, GivenAnswers, GivenWords, Line, Link, Moment, NoMemory, Octets,
     Ready, ScriptLine, Woke,
 };
-use mpm_script::Script;
+use mpm_script::{Script, command_line};
 use stand_ins::ScriptLink;
 use std::alloc::Global;
 use std::marker::Model;
@@ -494,7 +494,7 @@ impl Front for ScriptFront {
             } }
     {
         let word = self.commands.next()?;
-        let given = Some(line_of(word));
+        let given = Some(command_line(word));
         self.words.count(&given);
         given
     }

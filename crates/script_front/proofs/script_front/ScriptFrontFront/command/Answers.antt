@@ -27,7 +27,7 @@ returns-clause-line c =
     let s = c.self.inside in
     let next = c.in_ok-word.ensures in
     let there = next-line s.script s.happened s.commands c.self.invariant.commands c.in_ok-word.word c.next.new.self.unread next.next next.some in
-    rw (← c.self.view_is) (ap Some c.line_of.ensures ∙ sym there)
+    rw (← c.self.view_is) (ap Some c.command_line.ensures ∙ sym there)
 
 pub returns-clause-rest : goal.returns-clause-rest
 returns-clause-rest c =
@@ -43,7 +43,7 @@ returns-clause-commands c =
     rw (← c.self.view_is, more) (record {
       script = refl;
       told_is = refl;
-      gives = sym (ap Some c.line_of.ensures ∙ sym there);
+      gives = sym (ap Some c.command_line.ensures ∙ sym there);
       faults = refl;
       accept_faults = refl;
       ends = refl;

@@ -1,6 +1,6 @@
 use Rattle.std.proofs.Common.{◌≡◌, ◌∷◌, ◌++◌, [], length, refl, ◌∙◌, arith}
-use Rattle.script_front.proofs.NameChainLemmas.{chained-more}
-use Rattle.script_front.proofs.name_chains.NameChains.add.Goals as goal
+use Rattle.mpm_script.proofs.NameChainLemmas.{chained-more}
+use Rattle.mpm_script.proofs.name_chains.NameChains.add.Goals as goal
 
 pub invariant_of-self-in-Ok : goal.invariant_of-self-in-Ok
 invariant_of-self-in-Ok c =

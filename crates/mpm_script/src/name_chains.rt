@@ -1,6 +1,6 @@
 //! Names in order, each with the place at which it stood last before.
 ghost use Rattle.std.specs.Prelude.{◌≡◌, ◌<◌, ◌∷◌, ◌++◌, [], length, slice_index_or, OnOk};
-ghost use Rattle.script_front.specs.NameChainsInside.{IsLastBelow};
+ghost use Rattle.mpm_script.specs.NameChains.{IsLastBelow};
 
 use mpm_base::{NoMemory, Octets};
 use std::alloc::Global;
@@ -10,7 +10,7 @@ use std::marker::Model;
 /// Names in the order in which they were added, as contracts see it. All places of a name are found from the last one down,
 /// that one by a map, and so in a time that doesn't grow with the number of other names.
 #[derive(Drop)]
-pub(crate) struct NameChains {
+pub struct NameChains {
     last: HashMap<Vec<u8>, usize>,
     earlier: Vec<Option<usize>>,
     names: Vec<Octets>,
@@ -23,14 +23,14 @@ impl Model for NameChains {
 
     ghost view = { λ n. n.names.items };
 
-    ghost use Rattle.script_front.specs.NameChainsInside.{AreChained};
+    ghost use Rattle.mpm_script.specs.NameChainsInside.{AreChained};
 
     ghost invariant = { λ n. AreChained n.last n.earlier.items n.names.items };
 }
 
 impl NameChains {
     /// No name, which takes no memory.
-    pub(crate) fn make(alloc: Global) -> NameChains
+    pub fn make(alloc: Global) -> NameChains
         ensures { result ≡ [] }
     {
         NameChains {
@@ -41,14 +41,14 @@ impl NameChains {
     }
 
     /// The last place of the name.
-    pub(crate) fn last(&self, name: &[u8]) -> Option<usize>
+    pub fn last(&self, name: &[u8]) -> Option<usize>
         ensures { IsLastBelow name.now (length self.now) self.now result }
     {
         self.last.get(name).copied()
     }
 
     /// The last place before that one at which its name stands too.
-    pub(crate) fn earlier(&self, place: usize) -> Option<usize>
+    pub fn earlier(&self, place: usize) -> Option<usize>
         requires { place < length self.now }
         ensures { IsLastBelow (slice_index_or self.now place []) place self.now result }
     {
@@ -56,7 +56,7 @@ impl NameChains {
     }
 
     /// Puts the name at the end. Where memory lacks nothing changes.
-    pub(crate) fn add(&mut self, alloc: Global, name: &[u8]) -> Result<(), NoMemory>
+    pub fn add(&mut self, alloc: Global, name: &[u8]) -> Result<(), NoMemory>
         ensures { OnOk result (self.new ≡ self.old ++ name.now ∷ []) }
     {
         let text = Octets::of(alloc, name)?;

@@ -11,7 +11,8 @@ use Rattle.std.proofs.lemmas.List.{length_push}
 use Rattle.std.proofs.Math.ListN.{get_or-append}
 use Rattle.std.proofs.Math.Seq.{get_or-append_seam}
 use Rattle.std.proofs.lemmas.Slice.Eq.{bytes_eq-Decides}
-use Rattle.script_front.specs.NameChainsInside.{AreChained, IsLastBelow}
+use Rattle.mpm_script.specs.NameChains.{IsLastBelow}
+use Rattle.mpm_script.specs.NameChainsInside.{AreChained}
 
 -- a number below the next one
 either : (k n : ℕ) → k < n + 1 → (k < n) ⊎ (k ≡ n)
