@@ -1,7 +1,7 @@
 -- A name that isn't longer than what is marked is marked whole.
 use Rattle.std.proofs.Common.{ap, arith, sym, ◌∙◌}
 use Rattle.std.proofs.lemmas.List.{length-take-le, take_all}
-use Rattle.name_hosts.specs.Mark.{mark_of_bytes, most_marked}
+use Rattle.name_hosts.specs.MarkInside.{mark_of_bytes, most_marked}
 use Rattle.name_hosts.proofs.host_names.mark_of.Goals as goal
 
 pub slice_bounds-mark_of_bytes-end : goal.slice_bounds-mark_of_bytes-end

@@ -1,7 +1,7 @@
 -- A name of another mark isn't the same.
 use Rattle.std.proofs.Common.{◌≡◌, ◌≢◌, [], ℕ, List, ap, get_or, length, subst, sym, ◌<◌, ◌∙◌}
 use Rattle.std.proofs.lemmas.Bool.{ne_eqb}
-use Rattle.name_hosts.specs.Mark.{mark}
+use Rattle.name_hosts.specs.MarkInside.{mark}
 use Rattle.name_hosts.proofs.MarkLemmas.{mark_at, other_mark}
 use Rattle.name_hosts.proofs.host_names.HostNames.is_at.Goals as goal
 
