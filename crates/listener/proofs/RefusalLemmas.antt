@@ -1,17 +1,22 @@
 -- What a restart is answered: the number of the generation that began, or why none did.
-use Rattle.std.proofs.Common.{◌≡◌, ◌≢◌, ◌⊎◌, inl, inr, ◌<◌, ◌==◌, ℕ, ◌+◌, ◌-◌, suc, Bool, true, false, if◌then◌else◌, nat_lt, List, [], ◌∷◌, ◌++◌, length, slice_get, take, Option, None, Some, option_map, IfSome, Result, Ok, Err, IfOk, OnOk, refl, sym, ap, subst, ◌∙◌, arith}
+use Rattle.std.proofs.Common.{◌≡◌, ◌≢◌, ◌⊎◌, inl, inr, ◌<◌, ◌==◌, ℕ, ◌+◌, ◌-◌, suc, Bool, true, false, if◌then◌else◌, nat_lt, nat_le, List, [], ◌∷◌, ◌++◌, length, slice_get, take, Option, None, Some, option_map, IfSome, Result, Ok, Err, IfOk, OnOk, refl, sym, ap, subst, ◌∙◌, arith}
 use Rattle.mpm_base.specs.Store.{Renews, StoreCounts, StoreSeen, StoreTold, after_renew, bytes_of}
 use Rattle.mpm_base.specs.declared.store.File.{File}
 use Rattle.mpm_config.specs.Config.{Configuration}
 use Rattle.mpm_config.specs.Form.{form_of}
 use Rattle.mpm_config.specs.Line.{Line, logical_lines}
-use Rattle.mpm_config.specs.Reading.{ConfigAndWarnings, Progress, after_line, and_then, assigns, at_end, close_section, config_of, configuration_of, greatest_depth, hides, in_hiding, in_sight, open_by_guard, open_section, settings_of, start, text_len, text_settings}
-use Rattle.mpm_config.specs.Setting.{Assignment, assignment}
+use Rattle.mpm_config.specs.HostName.{aliases_of, most_aliases}
+use Rattle.mpm_config.specs.Reading.{ConfigAndWarnings, Progress, adds_names, after_closing, after_line, and_then, assigns, at_end, close_innermost, close_section, close_shown, config_of, configuration_of, greatest_depth, hides, in_hiding, in_sight, is_same_kind, may_open_host, open_host, open_section, sets, sets_host, settings_of, start, text_len, text_settings}
+use Rattle.mpm_config.specs.Setting.{AddsNames, Assignment, Sets, assignment}
+use Rattle.mpm_config.specs.Settings.{HostSettings, empty_host, with_host_setting}
 use Rattle.mpm_config.specs.declared.fault.ConfFault.{ConfFault}
 use Rattle.mpm_config.specs.declared.fault.ConfFault.TheVariants as conf
 use Rattle.mpm_config.specs.declared.form.Form.{Form}
 use Rattle.mpm_config.specs.declared.form.Form.TheVariants as form
+use Rattle.mpm_config.specs.declared.form.Kind.{Kind}
+use Rattle.mpm_config.specs.declared.form.Kind.TheVariants as kind
 use Rattle.mpm_config.specs.declared.reader.Section.{Section}
+use Rattle.mpm_config.specs.declared.setting.Setting.{Setting}
 use Rattle.mpm_config.specs.declared.setting.Wrong.{Wrong}
 use Rattle.mpm_config.specs.declared.setting.Wrong.TheVariants as wrong
 use Rattle.file_table.specs.Load.{MayLoad, is_limit}
@@ -56,36 +61,69 @@ joined (Err (conf.Unclosed n)) f first rest = tt
 joined (Err (conf.TooDeep n)) f first rest = tt
 joined (Err conf.NoMemory) f first rest = absurd first
 
-opened : (n : ℕ) (shown : Bool) (p : Progress) → IsOfText (open_section n shown p)
-opened n shown p = by (nat_lt (length p.sections) greatest_depth) where
-  by : (fits : Bool) → IsOfText (if fits then Ok (record p { sections = p.sections ++ record { line = n; shown = shown } ∷ [] }) else Err (conf.TooDeep n))
+opened : (n : ℕ) (k : Kind) (shown : Bool) (p : Progress) → IsOfText (open_section n k shown p)
+opened n k shown p = by (nat_lt (length p.sections) greatest_depth) where
+  by : (fits : Bool)
+      → IsOfText (if fits then Ok (record p { sections = p.sections ++ record { line = n; kind = k; shown = shown } ∷ [] }) else Err (conf.TooDeep n))
   by true = tt
   by false = tt
 
-closed : (n : ℕ) (p : Progress) → IsOfText (close_section n p)
-closed n p = by (length p.sections == 0) where
-  by : (none : Bool) → IsOfText (if none then Err (conf.BadSection n) else Ok (record p { sections = take (length p.sections - 1) p.sections }))
+host-opened : (n : ℕ) (right : Bool) (p : Progress) → IsOfText (open_host n right p)
+host-opened n right p = by (may_open_host right p) where
+  by : (may : Bool) → IsOfText (if may then open_section n kind.Host true (record p { host = Some empty_host }) else Err (conf.BadSection n))
+  by true = opened n kind.Host true (record p { host = Some empty_host })
+  by false = tt
+
+innermost-closed : (n : ℕ) (k : Kind) (p : Progress) (last : Option Section) → IsOfText (close_innermost n k p last)
+innermost-closed n k p None = tt
+innermost-closed n k p (Some s) = by (is_same_kind s.kind k) where
+  by : (same : Bool) → IsOfText (if same then Ok (record p { sections = take (length p.sections - 1) p.sections }) else Err (conf.BadSection n))
+  by true = tt
+  by false = tt
+
+closed : (n : ℕ) (k : Kind) (p : Progress) → IsOfText (close_section n k p)
+closed n k p = innermost-closed n k p (slice_get p.sections (length p.sections - 1))
+
+closed-in-sight : (n : ℕ) (k : Kind) (p : Progress) → IsOfText (close_shown n k p)
+closed-in-sight n k p = joined (close_section n k p) (λ q. Ok (after_closing k q)) (closed n k p) (λ q. tt)
+
+host-set : (n : ℕ) (p : Progress) (next : Option HostSettings) → IsOfText (sets_host n p next)
+host-set n p None = tt
+host-set n p (Some h) = tt
+
+value-set : (n : ℕ) (p : Progress) (s : Setting) (v : List ℕ) (host : Option HostSettings) → IsOfText (sets n p s v host)
+value-set n p s v None = tt
+value-set n p s v (Some h) = host-set n p (with_host_setting h v s)
+
+names-added : (n : ℕ) (p : Progress) (names : List (List ℕ)) (host : Option HostSettings) → IsOfText (adds_names n p names host)
+names-added n p names None = tt
+names-added n p names (Some h) = by (nat_le (length (h.aliases ++ names)) most_aliases) where
+  by : (fits : Bool)
+      → IsOfText (if fits then Ok (record p { host = Some (record h { aliases = h.aliases ++ names }) }) else Err (conf.BadValue n))
   by true = tt
   by false = tt
 
 assigned : (n : ℕ) (p : Progress) (a : Result Assignment Wrong) → IsOfText (assigns n p a)
-assigned n p (Ok a) = tt
+assigned n p (Ok (Sets s v)) = value-set n p s v p.host
+assigned n p (Ok (AddsNames ws)) = names-added n p (aliases_of ws) p.host
 assigned n p (Err wrong.Name) = tt
 assigned n p (Err wrong.Value) = tt
 
 seen : (p : Progress) (l : Line) (f : Form) → IsOfText (in_sight p l f)
 seen p l form.Blank = tt
 seen p l (form.Opening None) = tt
-seen p l (form.Opening (Some shown)) = opened l.number shown p
-seen p l form.Closing = closed l.number p
+seen p l (form.Opening (Some shown)) = opened l.number kind.Module shown p
+seen p l (form.OpeningHost right) = host-opened l.number right p
+seen p l (form.Closing k) = closed-in-sight l.number k p
 seen p l form.ClosingWithWord = tt
 seen p l form.OtherSection = tt
 seen p l form.Directive = assigned l.number p (assignment l.bytes)
 
 hidden : (p : Progress) (l : Line) (f : Form) → IsOfText (in_hiding p l f)
 hidden p l form.Blank = tt
-hidden p l (form.Opening guard) = opened l.number true p
-hidden p l form.Closing = closed l.number p
+hidden p l (form.Opening guard) = opened l.number kind.Module true p
+hidden p l (form.OpeningHost right) = opened l.number kind.Host true p
+hidden p l (form.Closing k) = closed l.number k p
 hidden p l form.ClosingWithWord = tt
 hidden p l form.OtherSection = tt
 hidden p l form.Directive = tt
