@@ -23,7 +23,6 @@ use Rattle.conn_state.specs.declared.turn.WriteTurn.TheVariants as write
 use Rattle.conn_state.specs.Conn.{SeenConn, is_usable}
 use Rattle.conn_state.specs.Turns.{LingersOn, ReadsOn, WritesOn, is_linger_late}
 use Rattle.board.specs.Backed.{AreBacked, BacksWait, waits_to_read, waits_to_write}
-use Rattle.board.specs.Board.{SeenBoard}
 use Rattle.board.specs.BoardLaws.{WaitsAreBackedByCalls}
 use Rattle.board_book.specs.Book.{SeenBook, book_with_entry, entry_of}
 use Rattle.board_book.specs.Finds.{cause_of}
@@ -168,9 +167,8 @@ dropped_is_of s c c' answer drops is = record {
   };
 }
 
--- a connection that lingers for its row's cause may wait as one that lingers for that
-pub settled_by : (kind : Kind) (b : SeenBoard) (c : SeenConn) (why : Cause) (seen : SeenBoard × SeenConn × Cause) (name : ConnName) → (b, c, why) ≡ seen
-    → name ≡ c.name → cause_of b.book.state name ≡ Some why → IsSettled kind (Some seen.2) seen.1 → IsSettled kind (cause_of b.book.state c.name) c
-settled_by kind b c why seen name view named is settled =
-    subst (λ (w : Option Cause). IsSettled kind w c) (sym (subst (λ (n : ConnName). cause_of b.book.state n ≡ Some why) named is))
-    (subst (λ (p : SeenBoard × SeenConn × Cause). IsSettled kind (Some p.2) p.1) (sym view) settled)
+-- a connection whose row lingers for that cause, or for none, may wait as one that does
+pub settled_by : (kind : Kind) (s : State) (c : SeenConn) (why : Option Cause) (name : ConnName) → name ≡ c.name → cause_of s name ≡ why
+    → IsSettled kind why c → IsSettled kind (cause_of s c.name) c
+settled_by kind s c why name named is settled =
+    subst (λ (w : Option Cause). IsSettled kind w c) (sym (subst (λ (n : ConnName). cause_of s n ≡ why) named is)) settled

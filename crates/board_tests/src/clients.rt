@@ -26,8 +26,8 @@ const TEXTS: [&[u8]; 6] = [
 
 /// A site without a file.
 pub fn empty_site(alloc: Global) -> Result<Site, LoadFault> {
-    let mut store = MemStore::make(alloc, Files::make(alloc), Calls::make(alloc));
     let order = SiteOrder::one_host(alloc, "htdocs", "index.html", true)?;
+    let mut store = MemStore::make(alloc, Files::make(alloc), Calls::make(alloc));
     load(alloc, &mut store, &order)
 }
 

@@ -90,7 +90,7 @@ pub fn difference(
     if !folding.seen.found_as(&keeping.seen) {
         return Ok("a find");
     }
-    let (folding, keeping) = (folding.driven.board(), keeping.driven.board());
+    let (folding, keeping) = (&folding.board, &keeping.board);
     if Counts::of(folding) != Counts::of(keeping) {
         return Ok("a count");
     }

@@ -21,6 +21,7 @@ mod clients;
 mod driven;
 mod editions;
 mod folds;
+mod hand;
 mod moves;
 mod orders;
 mod pairs;

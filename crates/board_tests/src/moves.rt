@@ -1,6 +1,9 @@
 //! Boards that do what numbers ask for, as far as they allow it.
+ghost use Rattle.std.specs.Prelude.{◌≡◌, ◌<◌, None, OnSome};
+ghost use Rattle.board_book.specs.Book.{row_in};
+
 use crate::clients::empty_site;
-use crate::driven::Driven;
+use crate::driven::{Answer, board_of, make_move};
 use crate::seen::{ScriptBoard, Seen};
 use conn_machine::{Commanded, Event, Place, Row, Why};
 use file_table::Site;
@@ -15,11 +18,12 @@ const MOVES: u32 = 4_000;
 /// The most moves of a board that isn't stopped.
 const MORE_MOVES: u32 = 1_000_000;
 
-/// A board behind calls that weren't to stop it, and what was seen of it.
+/// A board behind calls, what was seen of it, and what it answered to the last order.
 #[derive(Drop)]
 pub struct LastBoard {
-    pub driven: Driven,
+    pub board: ScriptBoard,
     pub seen: Seen,
+    pub answer: Option<Answer>,
 }
 
 /// Shows what is seen of boards of so many slots, for the seed and the number of calls of each row.
@@ -63,31 +67,57 @@ fn drive(alloc: Global, site: &Arc<Site>, slots: u32, row: &str) -> Result<Seen,
         if seen.is_over() {
             break;
         }
-        let driven = Driven::make(alloc, slots)?;
-        live(driven, alloc, site, &mut numbers, &mut seen);
+        let mut board = board_of(alloc, slots)?;
+        let _ = is_done(&mut board, alloc, site, &mut numbers, &mut seen, true);
     }
     Ok(seen)
 }
 
-/// The moves of a board, until it has stopped and nothing is left in it.
-fn live(
-    driven: Driven,
+/// The moves of a board, which stops where it may stop, until nothing is left in it. Whether as many calls were made as were to be.
+fn is_done(
+    board: &mut ScriptBoard,
     alloc: Global,
     site: &Arc<Site>,
     numbers: &mut NumberStream,
     seen: &mut Seen,
-) {
-    let mut driven = driven;
-    for _ in 0..MOVES {
-        if seen.is_over() || is_empty(driven.board()) {
-            return;
+    may_stop: bool,
+) -> bool
+    requires who { 0 < board.old.book.passes }
+    requires free { row_in 0 board.old.book ≡ None }
+{
+    let most = if may_stop { MOVES } else { MORE_MOVES };
+    for _ in 0..most {
+        if seen.is_over() || is_empty(board) {
+            return seen.is_over();
         }
-        let event = event_from(driven.board(), numbers.next(), numbers.next());
-        match driven.make_move(alloc, seen, site, &event, numbers.next()) {
-            Some(next) => driven = next,
-            None => return,
+        match move_on(board, alloc, site, numbers, seen, may_stop) {
+            Some(()) => (),
+            None => return false,
         }
     }
+    false
+}
+
+/// The move that the next numbers ask for. One that would stop the board is made only where it may stop.
+fn move_on(
+    board: &mut ScriptBoard,
+    alloc: Global,
+    site: &Arc<Site>,
+    numbers: &mut NumberStream,
+    seen: &mut Seen,
+    may_stop: bool,
+) -> Option<()>
+    requires who { 0 < board.old.book.passes }
+    requires free { row_in 0 board.old.book ≡ None }
+    ensures who { OnSome result (0 < board.new.book.passes) }
+    ensures free { OnSome result (row_in 0 board.new.book ≡ None) }
+{
+    let event = event_from(board, numbers.next(), numbers.next());
+    let client = numbers.next();
+    if !may_stop && matches!(event, Event::Command(_)) {
+        return Some(());
+    }
+    make_move(board, alloc, seen, site, &event, client)
 }
 
 /// The board of so many slots behind as many calls as the row says, none of which stops it; none where it can't go on.
@@ -100,23 +130,16 @@ pub fn last_board(
 ) -> Result<Option<LastBoard>, NoMemory> {
     let (seed, calls) = words(row);
     let mut numbers = NumberStream::from(number_of(seed));
+    let mut board = board_of(alloc, slots)?;
     let mut seen = Seen::nothing(number_of(calls), folding);
-    let mut driven = Driven::make(alloc, slots)?;
-    for _ in 0..MORE_MOVES {
-        if seen.is_over() {
-            return Ok(Some(LastBoard { driven, seen }));
-        }
-        let event = event_from(driven.board(), numbers.next(), numbers.next());
-        let client = numbers.next();
-        if matches!(event, Event::Command(_)) {
-            continue;
-        }
-        match driven.make_move(alloc, &mut seen, site, &event, client) {
-            Some(next) => driven = next,
-            None => return Ok(None),
-        }
+    if !is_done(&mut board, alloc, site, &mut numbers, &mut seen, false) {
+        return Ok(None);
     }
-    Ok(None)
+    Ok(Some(LastBoard {
+        board,
+        seen,
+        answer: None,
+    }))
 }
 
 /// Whether the server has stopped, and nothing is left in it.

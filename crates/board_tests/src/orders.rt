@@ -1,5 +1,8 @@
 //! Boards that are given events and commands.
-use crate::driven::{Answer, Driven};
+ghost use Rattle.std.specs.Prelude.{◌≡◌, ◌<◌, None, IfOk, OnSome};
+ghost use Rattle.board_book.specs.Book.{row_in};
+
+use crate::driven::{Answer, board_of, make_move, order};
 use crate::editions::known_editions;
 use crate::folds::difference;
 use crate::moves::LastBoard;
@@ -24,52 +27,57 @@ const SHAPE: Shape = Shape {
     whole_ms: 0,
 };
 
-/// A board behind the steps of a row, what was seen of it, and what it answered to the last order.
-#[derive(Drop)]
-pub struct Asked {
-    pub last: LastBoard,
-    pub answer: Option<Answer>,
+/// What a step of a row comes to.
+#[derive(Clone, Copy)]
+enum Step {
+    /// Moves were made, where the board allowed them.
+    Moved,
+    /// The board answered an order.
+    Answered(Answer),
 }
 
-impl Asked {
-    /// The board behind one step more; none where it can't go on.
-    fn take(self, alloc: Global, site: &Arc<Site>, step: &str) -> Result<Option<Asked>, NoMemory> {
-        let (word, number) = words(step);
-        if let Some(command) = command_of(alloc, word, number)? {
-            return Ok(self.ask(command));
-        }
-        let (event, times) = event_of(word, number);
-        Ok(self.make_moves(alloc, site, &event, times))
+/// The board behind one step more; none where it can't go on.
+fn take(
+    board: &mut ScriptBoard,
+    seen: &mut Seen,
+    alloc: Global,
+    site: &Arc<Site>,
+    step: &str,
+) -> Result<Option<Step>, NoMemory>
+    requires who { 0 < board.old.book.passes }
+    requires free { row_in 0 board.old.book ≡ None }
+    ensures who { IfOk result (λ step. OnSome step (0 < board.new.book.passes)) }
+    ensures free { IfOk result (λ step. OnSome step (row_in 0 board.new.book ≡ None)) }
+{
+    let (word, number) = words(step);
+    match command_of(alloc, word, number)? {
+        Some(command) => match order(seen, board, command) {
+            Some(answer) => Ok(Some(Step::Answered(answer))),
+            None => Ok(None),
+        },
+        None => Ok(make_moves(board, seen, alloc, site, word, number)),
     }
+}
 
-    /// The board behind the order.
-    fn ask(self, command: Commanded) -> Option<Asked> {
-        let Asked { last, answer: _ } = self;
-        let LastBoard { driven, mut seen } = last;
-        let (driven, answer) = driven.order(&mut seen, command)?;
-        Some(Asked {
-            last: LastBoard { driven, seen },
-            answer: Some(answer),
-        })
+/// The board behind the moves that begin with the event of the words, as often as they say, where it allows them.
+fn make_moves(
+    board: &mut ScriptBoard,
+    seen: &mut Seen,
+    alloc: Global,
+    site: &Arc<Site>,
+    word: &str,
+    number: &str,
+) -> Option<Step>
+    requires who { 0 < board.old.book.passes }
+    requires free { row_in 0 board.old.book ≡ None }
+    ensures who { OnSome result (0 < board.new.book.passes) }
+    ensures free { OnSome result (row_in 0 board.new.book ≡ None) }
+{
+    let (event, times) = event_of(word, number);
+    for _ in 0..times {
+        make_move(board, alloc, seen, site, &event, 0)?;
     }
-
-    /// The board behind so many moves that begin with the event, where it allows them.
-    fn make_moves(
-        self,
-        alloc: Global,
-        site: &Arc<Site>,
-        event: &Event,
-        times: u64,
-    ) -> Option<Asked> {
-        let Asked { last, answer } = self;
-        let LastBoard { driven, mut seen } = last;
-        let mut driven = driven;
-        for _ in 0..times {
-            driven = driven.make_move(alloc, &mut seen, site, event, 0)?;
-        }
-        let last = LastBoard { driven, seen };
-        Some(Asked { last, answer })
-    }
+    Some(Step::Moved)
 }
 
 /// The order of the words, if they are one.
@@ -105,20 +113,39 @@ pub fn behind(
     slots: u32,
     row: &str,
     folding: bool,
-) -> Result<Option<Asked>, NoMemory> {
-    let driven = Driven::make(alloc, slots)?;
-    let seen = Seen::nothing(0, folding);
-    let mut asked = Asked {
-        last: LastBoard { driven, seen },
-        answer: None,
-    };
+) -> Result<Option<LastBoard>, NoMemory> {
+    let mut board = board_of(alloc, slots)?;
+    let mut seen = Seen::nothing(0, folding);
+    match take_steps(&mut board, &mut seen, alloc, site, row)? {
+        Some(answer) => Ok(Some(LastBoard {
+            board,
+            seen,
+            answer,
+        })),
+        None => Ok(None),
+    }
+}
+
+/// What the board answers to the last order of the row, if there is one; none where it can't go on.
+fn take_steps(
+    board: &mut ScriptBoard,
+    seen: &mut Seen,
+    alloc: Global,
+    site: &Arc<Site>,
+    row: &str,
+) -> Result<Option<Option<Answer>>, NoMemory>
+    requires who { 0 < board.old.book.passes }
+    requires free { row_in 0 board.old.book ≡ None }
+{
+    let mut answer = None;
     for step in row.split("; ") {
-        match asked.take(alloc, site, step)? {
-            Some(next) => asked = next,
+        match take(board, seen, alloc, site, step)? {
+            Some(Step::Answered(given)) => answer = Some(given),
+            Some(Step::Moved) => (),
             None => return Ok(None),
         }
     }
-    Ok(Some(asked))
+    Ok(Some(answer))
 }
 
 /// Shows what the first board answered and knows, and in what it differs from the second one.
@@ -126,13 +153,13 @@ pub fn show_asked(
     sheet: &mut Sheet,
     alloc: Global,
     row: &str,
-    folding: &Asked,
-    keeping: &Asked,
+    folding: &LastBoard,
+    keeping: &LastBoard,
 ) -> Result<(), NoMemory> {
     println!(sheet; "{row} => {}", answer_word(folding.answer));
-    show_orders(sheet, alloc, folding.last.driven.board())?;
-    let (folds, _) = folding.last.seen.folds();
-    let what = difference(alloc, &folding.last, &keeping.last)?;
+    show_orders(sheet, alloc, &folding.board)?;
+    let (folds, _) = folding.seen.folds();
+    let what = difference(alloc, folding, keeping)?;
     println!(sheet; ", folded {folds} times: {what} differs");
     Ok(())
 }

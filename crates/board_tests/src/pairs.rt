@@ -1,7 +1,7 @@
 //! Two boards that are given the same, of which one folds its history wherever it may, and the other one never does.
 use crate::folds::show_folded;
-use crate::moves::{last_board, site_of};
-use crate::orders::{Asked, behind, show_asked};
+use crate::moves::{LastBoard, last_board, site_of};
+use crate::orders::{behind, show_asked};
 use file_table::Site;
 use mpm_base::NoMemory;
 use std::alloc::Global;
@@ -26,36 +26,10 @@ impl Given {
         slots: u32,
         row: &str,
         folding: bool,
-    ) -> Result<Option<Asked>, NoMemory> {
+    ) -> Result<Option<LastBoard>, NoMemory> {
         match self {
-            Given::Numbers => {
-                let last = last_board(alloc, site, slots, row, folding)?;
-                Ok(last.map(|last| Asked { last, answer: None }))
-            }
+            Given::Numbers => last_board(alloc, site, slots, row, folding),
             Given::Steps => behind(alloc, site, slots, row, folding),
-        }
-    }
-
-    /// Shows what came of the first board, and in what it differs from the second one; or that one can't go on.
-    fn show_row(
-        self,
-        sheet: &mut Sheet,
-        alloc: Global,
-        row: &str,
-        folding: Option<&Asked>,
-        keeping: Option<&Asked>,
-    ) -> Result<(), NoMemory> {
-        match (self, folding, keeping) {
-            (Given::Numbers, Some(folding), Some(keeping)) => {
-                show_folded(sheet, alloc, row, &folding.last, &keeping.last)
-            }
-            (Given::Steps, Some(folding), Some(keeping)) => {
-                show_asked(sheet, alloc, row, folding, keeping)
-            }
-            _ => {
-                println!(sheet; "{row} => a board can't go on");
-                Ok(())
-            }
         }
     }
 }
@@ -69,11 +43,46 @@ pub fn show_pairs(
     rows: &str,
 ) -> Result<(), NoMemory> {
     let site = site_of(alloc)?;
-    let slots = small_of(slots);
+    show_rows(sheet, alloc, given, &site, small_of(slots), rows)
+}
+
+/// The same, of boards whose connections have that site.
+fn show_rows(
+    sheet: &mut Sheet,
+    alloc: Global,
+    given: Given,
+    site: &Arc<Site>,
+    slots: u32,
+    rows: &str,
+) -> Result<(), NoMemory> {
     for row in rows.lines() {
-        let folding = given.board(alloc, &site, slots, row, true)?;
-        let keeping = given.board(alloc, &site, slots, row, false)?;
-        given.show_row(sheet, alloc, row, folding.as_ref(), keeping.as_ref())?;
+        let folding = given.board(alloc, site, slots, row, true)?;
+        show_beside(sheet, alloc, given, site, slots, row, folding.as_ref())?;
     }
     Ok(())
+}
+
+/// Shows what came of the first board and of one that is never folded, and in what they differ; or that one of them can't go on.
+fn show_beside(
+    sheet: &mut Sheet,
+    alloc: Global,
+    given: Given,
+    site: &Arc<Site>,
+    slots: u32,
+    row: &str,
+    folding: Option<&LastBoard>,
+) -> Result<(), NoMemory> {
+    let keeping = given.board(alloc, site, slots, row, false)?;
+    match (given, folding, keeping.as_ref()) {
+        (Given::Numbers, Some(folding), Some(keeping)) => {
+            show_folded(sheet, alloc, row, folding, keeping)
+        }
+        (Given::Steps, Some(folding), Some(keeping)) => {
+            show_asked(sheet, alloc, row, folding, keeping)
+        }
+        _ => {
+            println!(sheet; "{row} => a board can't go on");
+            Ok(())
+        }
+    }
 }

@@ -134,11 +134,26 @@ fn take_turns<R: Wait>(
 {
     let mut one = last_of(shared, passes)?;
     let mut zero = last_of(shared, passes)?;
-    if number(&one) != 1 || number(&zero) != 0 {
+    look_by_turns(rt, shared, &mut one, &mut zero)
+}
+
+/// The same of these passes, where they are those two.
+fn look_by_turns<R: Wait>(
+    rt: &R,
+    shared: &Shared<ScriptBoard>,
+    one: &mut Pass<ScriptBoard>,
+    zero: &mut Pass<ScriptBoard>,
+) -> Option<(bool, bool, bool)>
+    requires own { one.old.seat.table_id ≡ shared.now.table.shared.table_id }
+    requires free { HasNoTurn one.old.seat.me }
+    requires zero_own { zero.old.seat.table_id ≡ shared.now.table.shared.table_id }
+    requires zero_free { HasNoTurn zero.old.seat.me }
+{
+    if number(one) != 1 || number(zero) != 0 {
         return None;
     }
-    let started = starts(rt, shared, &mut zero);
-    let found_by_one = finds(rt, shared, &mut one);
-    let found_by_zero = finds(rt, shared, &mut zero);
+    let started = starts(rt, shared, zero);
+    let found_by_one = finds(rt, shared, one);
+    let found_by_zero = finds(rt, shared, zero);
     Some((started, found_by_one, found_by_zero))
 }

@@ -60,12 +60,8 @@ pub fn is_right(find: RowFind, state: &State, answer: Option<ConnName>) -> bool 
         return false;
     };
     looks_for(find, state, name.slot, row)
-        && (!goes_by_deadlines(find) || least_deadline(state) == Some(row.deadline))
-}
-
-/// Whether it answers a row with the least deadline.
-fn goes_by_deadlines(find: RowFind) -> bool {
-    matches!(find, RowFind::Overdue | RowFind::Parked)
+        && (!matches!(find, RowFind::Overdue | RowFind::Parked)
+            || least_deadline(state) == Some(row.deadline))
 }
 
 /// The least deadline of a row that waits.

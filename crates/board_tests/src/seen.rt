@@ -29,7 +29,7 @@ const EVENTS: [&str; 13] = [
     "Retire",
 ];
 
-/// The finds, in the order of the counts.
+/// The names of the finds, in the order of the counts.
 const FINDS: [&str; 10] = [
     "overdue",
     "signalled",
@@ -41,6 +41,31 @@ const FINDS: [&str; 10] = [
     "can_retire",
     "next_deadline",
     "quiet",
+];
+
+/// A find of a board.
+#[derive(Clone, Copy)]
+enum Find {
+    Row(RowFind),
+    Accept,
+    Start,
+    Retire,
+    Deadline,
+    Quiet,
+}
+
+/// The finds, in the order of the counts.
+const ORDER: [Find; 10] = [
+    Find::Row(RowFind::Overdue),
+    Find::Row(RowFind::Signalled),
+    Find::Row(RowFind::Retiring),
+    Find::Row(RowFind::SignalledLinger),
+    Find::Row(RowFind::Parked),
+    Find::Accept,
+    Find::Start,
+    Find::Retire,
+    Find::Deadline,
+    Find::Quiet,
 ];
 
 /// What was seen.
@@ -109,34 +134,10 @@ impl Seen {
         if let Some(entry) = board.history().last() {
             add_one(&mut self.events, place_of(&entry.event));
         }
-        self.look_at_rows(board);
-        self.look_at_rest(board);
-    }
-
-    /// Looks at the finds that answer the connection of a row.
-    fn look_at_rows(&mut self, board: &ScriptBoard) {
-        for find in ROW_FINDS.iter() {
-            let answer = row_answer(*find, board);
-            self.note(
-                *find as usize,
-                answer.is_some(),
-                is_right(*find, board.state(), answer),
-            );
+        for (place, find) in ORDER.iter().enumerate() {
+            let (found, right) = answer_of(*find, board);
+            self.note(place, found, right);
         }
-    }
-
-    /// Looks at the other finds.
-    fn look_at_rest(&mut self, board: &ScriptBoard) {
-        let (found, right) = accept_answer(board);
-        self.note(5, found, right);
-        let (found, right) = start_answer(board);
-        self.note(6, found, right);
-        let (found, right) = retire_answer(board);
-        self.note(7, found, right);
-        let (found, right) = deadline_answer(board);
-        self.note(8, found, right);
-        let quiet = board.quiet();
-        self.note(9, quiet, quiet == is_quiet(board.state()));
     }
 
     /// Notes what the find of that place answered.
@@ -162,15 +163,6 @@ impl Seen {
         show_counts(sheet, &FINDS, &self.found);
     }
 }
-
-/// The finds that answer the connection of a row, in the order of the counts.
-const ROW_FINDS: [RowFind; 5] = [
-    RowFind::Overdue,
-    RowFind::Signalled,
-    RowFind::Retiring,
-    RowFind::SignalledLinger,
-    RowFind::Parked,
-];
 
 /// Shows each count behind its name.
 fn show_counts(sheet: &mut Sheet, names: &[&str], counts: &[u64]) {
@@ -206,8 +198,26 @@ fn place_of(event: &Event) -> usize {
     }
 }
 
-/// What the find answers.
-fn row_answer(find: RowFind, board: &ScriptBoard) -> Option<ConnName> {
+/// Whether the find finds something, and whether that is right.
+fn answer_of(find: Find, board: &ScriptBoard) -> (bool, bool) {
+    match find {
+        Find::Row(find) => row_answer(find, board),
+        Find::Accept => accept_answer(board),
+        Find::Start => start_answer(board),
+        Find::Retire => retire_answer(board),
+        Find::Deadline => deadline_answer(board),
+        Find::Quiet => (board.quiet(), board.quiet() == is_quiet(board.state())),
+    }
+}
+
+/// The same of a find that answers the connection of a row.
+fn row_answer(find: RowFind, board: &ScriptBoard) -> (bool, bool) {
+    let answer = row_found(find, board);
+    (answer.is_some(), is_right(find, board.state(), answer))
+}
+
+/// What such a find answers.
+fn row_found(find: RowFind, board: &ScriptBoard) -> Option<ConnName> {
     match find {
         RowFind::Overdue => board.overdue(),
         RowFind::Signalled => board.signalled(),
@@ -219,15 +229,19 @@ fn row_answer(find: RowFind, board: &ScriptBoard) -> Option<ConnName> {
 
 /// Whether a child takes the next connection, and whether that is right.
 fn accept_answer(board: &ScriptBoard) -> (bool, bool) {
-    board.show();
     let answer = board.can_accept();
-    let state = board.state();
-    let wanted = if has_room(state) {
-        state.pick_child()
+    let wanted = if has_room(board.state()) {
+        picked(board)
     } else {
         None
     };
     (answer.is_some(), answer == wanted)
+}
+
+/// The child that the rule of admission names.
+fn picked(board: &ScriptBoard) -> Option<u32> {
+    board.show();
+    board.state().pick_child()
 }
 
 /// Whether a child is to start, and whether that is right.
