@@ -9,7 +9,7 @@ use mpm_base::{Names, NoMemory, Octets, Store, StoreFault};
 use name_hosts::{HostList, HostNames, choose, host_part};
 use stand_ins::{Calls, Files, MemStore};
 use std::alloc::Global;
-use test_rows::{Sheet, number_of};
+use test_rows::{Sheet, small_of};
 
 /// The names in a row, each behind a space; none where it is `-`.
 fn names_in(alloc: Global, row: &str) -> Result<Names, NoMemory> {
@@ -95,8 +95,8 @@ pub fn show_host_paths(sheet: &mut Sheet, alloc: Global, rows: &str) -> Result<(
     let files = named(alloc, names)?;
     let answer = site_in(alloc, row, files);
     show_load(sheet, &answer);
-    match answer {
-        Ok(site) => show_all_found(sheet, alloc, &site, paths),
+    match &answer {
+        Ok(site) => show_all_found(sheet, alloc, site, paths),
         Err(_) => Ok(()),
     }
 }
@@ -111,7 +111,7 @@ fn show_all_found(
     for row in paths.lines() {
         let (host, path) = row.split_once(' ').unwrap_or((row, ""));
         print!(sheet; "{row} => ");
-        show_found_for(sheet, alloc, site, number_of(host) as u32, path)?;
+        show_found_for(sheet, alloc, site, small_of(host), path)?;
     }
     Ok(())
 }
