@@ -1,5 +1,5 @@
 -- Which files a host of a site has: those of the store under its root, and none under the root of another host alone.
-use Rattle.std.specs.Prelude.{◌≡◌, ◌≢◌, ℕ, List, Option, Some, slice_get}
+use Rattle.std.specs.Prelude.{◌≡◌, ℕ, List, Some, slice_get}
 use Rattle.mpm_base.specs.declared.store.File.{File}
 use Rattle.file_table.specs.declared.found.Found.TheVariants.{File as IsFile}
 use Rattle.file_table.specs.declared.site_order.HostOrder.{HostOrder}

@@ -6,7 +6,7 @@ use Rattle.std.proofs.lemmas.List.{get_or-map, take-map}
 use Rattle.std.proofs.lemmas.List.Folds.{fold-map}
 use Rattle.std.proofs.lemmas.Slice.Eq.{bytes_eq-Decides}
 use Rattle.mpm_base.specs.LetterCase.{is_same_ignoring_case}
-use Rattle.name_hosts.specs.Mark.{mark, mark_of_bytes, mark_with, most_marked}
+use Rattle.name_hosts.specs.MarkInside.{mark, mark_of_bytes, mark_with, most_marked}
 
 same_front : (n : ℕ) (a b : List ℕ) → map to_ascii_lowercase a ≡ map to_ascii_lowercase b → map to_ascii_lowercase (take n a) ≡ map to_ascii_lowercase (take n b)
 same_front n a b e = sym (take-map to_ascii_lowercase n a) ∙ ap (take n) e ∙ take-map to_ascii_lowercase n b

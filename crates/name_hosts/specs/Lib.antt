@@ -1,2 +1,2 @@
 pub mod Host
-pub mod Mark
+pub mod MarkInside

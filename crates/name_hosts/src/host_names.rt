@@ -2,7 +2,7 @@
 ghost use Rattle.std.specs.Prelude.{◌≡◌, ◌<◌, get_or, length, map, [], IfOk};
 ghost use Rattle.mpm_base.specs.LetterCase.{is_same_ignoring_case};
 ghost use Rattle.name_hosts.specs.Host.{has_name};
-ghost use Rattle.name_hosts.specs.Mark.{mark, mark_of_bytes, marks_below};
+ghost use Rattle.name_hosts.specs.MarkInside.{mark, mark_of_bytes, marks_below};
 
 use mpm_base::{Names, NoMemory, is_same_ignoring_case};
 use std::alloc::Global;
@@ -23,7 +23,7 @@ pub struct HostNames {
 
 impl Model for HostNames {
     ghost use Rattle.std.specs.Prelude.{ℕ, List};
-    ghost use Rattle.name_hosts.specs.Mark.{AreMarks};
+    ghost use Rattle.name_hosts.specs.MarkInside.{AreMarks};
 
     ghost Value = { List (List ℕ) };
 

@@ -1,8 +1,8 @@
 //! Name-based hosts: which host of a server a request is for, by the name that it gives (RFC 9110, section 7.2).
 //!
 //! `host_part` answers the value of a Host or an authority without its port, and `choose` the first host that has that name. Both
-//! are exact (`specs/Host.antt`), and neither takes memory. A host keeps a mark for each of its names (`HostNames`; `specs/Mark.antt`), so
-//! that a name is compared with those of its own mark alone.
+//! are exact (`specs/Host.antt`), and neither takes memory. A host keeps a mark for each of its names (`HostNames`;
+//! `specs/MarkInside.antt`), so that a name is compared with those of its own mark alone.
 #![tactic(auto)]
 
 mod host_names;

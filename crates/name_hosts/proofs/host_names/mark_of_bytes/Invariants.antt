@@ -1,6 +1,6 @@
 -- The mark so far is that of the bytes so far, and fits.
 use Rattle.std.proofs.Common.{◌≡◌, ◌<◌, take}
-use Rattle.name_hosts.specs.Mark.{mark_of_bytes, marks_below}
+use Rattle.name_hosts.specs.MarkInside.{mark_of_bytes, marks_below}
 use Rattle.name_hosts.proofs.host_names.mark_of_bytes.Given as goal
 
 abbrev pub invariant-loop-byte : goal.invariant-loop-byte

@@ -1,5 +1,5 @@
 use Rattle.std.proofs.Common.{◌≡◌, map, take}
-use Rattle.name_hosts.specs.Mark.{mark}
+use Rattle.name_hosts.specs.MarkInside.{mark}
 use Rattle.name_hosts.proofs.host_names.marks_of.Given as goal
 
 abbrev pub invariant-loop-name : goal.invariant-loop-name
