@@ -276,7 +276,7 @@ fn wake_workers<R: Wait, M: Room>(
         return serve_here(rt, pusher);
     }
     if pushed != 0 || !plan.wakes_once {
-        let waiting = pusher.queue.len(rt, &mut pusher.seat) as u32;
+        let waiting = pusher.queue.len(rt, &mut pusher.seat).min(64) as u32;
         let woken = pusher.wakes.wake_for(waiting, plan.most, pushed != 0);
         tally.pushes(pushed, woken);
     }

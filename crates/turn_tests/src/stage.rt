@@ -175,7 +175,6 @@ fn pusher_of<'a, M: Room>(
 ) -> Option<Pusher<'a, M>>
     requires looks { AllAreOf hands.now.perch.now.places looks.old.items }
     requires seats { (i : ℕ) (seat : _) → slice_get seats.old.items i ≡ Some seat → IsPassOf queue.now.ring seat }
-    ensures hands { IfSome result (λ pusher. pusher.hands ≡ hands) }
     ensures seats { (i : ℕ) (seat : _) → slice_get seats.new.items i ≡ Some seat → IsPassOf queue.now.ring seat }
 {
     let seat = next_seat(queue, seats)?;
@@ -190,10 +189,10 @@ fn pusher_of<'a, M: Room>(
 }
 
 /// The listener and the workers have a thread each: how many seats came back.
-fn play_with<M: Room + Send + Sync, R: Threads + Wait + Sync>(
+fn play_with<'a, M: Room + Send + Sync, R: Threads + Wait + Sync>(
     rt: &R,
-    workers: Vec<Player<'_, M>>,
-    listener: Listener<'_, M>,
+    workers: Vec<Player<'a, M>>,
+    listener: Listener<'a, M>,
 ) -> Result<Option<usize>, NoMemory> {
     let mut players = workers;
     if players.push(Player::Listens(listener)).is_err() {

@@ -1,5 +1,5 @@
 use Rattle.std.proofs.Common.{◌≡◌}
 use Rattle.turn_tests.proofs.crew.permits_of.Given as goal
 
-abbrev pub invariant-loop : goal.invariant-loop
-invariant-loop l = l.pass.seat.table_id ≡ l.shared.table.shared.table_id
+abbrev pub invariant-loop-child : goal.invariant-loop-child
+invariant-loop-child l = l.pass.seat.table_id ≡ l.shared.table.shared.table_id
