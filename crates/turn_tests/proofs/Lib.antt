@@ -1,4 +1,8 @@
+mod FoundLemmas
+mod GoesOnLemmas
+mod LeavesLemmas
+mod ListenerLemmas
 mod OpeningLemmas
 mod SendLemmas
-mod StepLemmas
-mod TakingLemmas
+mod ServiceLemmas
+mod ThenLemmas

@@ -1,2 +1,4 @@
-pub mod Passes
-pub mod Taking
+pub mod Books
+pub mod Carries
+pub mod GoesOn
+pub mod Rests
