@@ -8,7 +8,7 @@ ghost use Rattle.board_book.specs.Book.{row_in};
 ghost use Rattle.board_tests.specs.Hand.{IsNewFor};
 
 use crate::clients::link_of;
-use crate::hand::{ScriptConn, converse, drain, leave, park};
+use crate::hand::{ScriptConn, converse, drain, give_up, leave, park};
 use crate::seen::{ScriptBoard, Seen};
 use board::laws::waits_are_backed_by_calls;
 use board::{Board, BoardFault};
@@ -320,7 +320,9 @@ fn serve(board: &mut ScriptBoard, seen: &mut Seen, name: ConnName) -> Option<()>
         return None;
     };
     seen.look(board);
-    allow(board, Event::Start(name))?;
+    let Some(()) = allow(board, Event::Start(name)) else {
+        return give_up(conn);
+    };
     let _ = board.start(0, name);
     seen.look(board);
     converse(seen, board, conn)

@@ -65,7 +65,9 @@ pub fn converse(seen: &mut Seen, board: &mut ScriptBoard, conn: ScriptConn) -> O
     ensures free { OnSome result (row_in 0 board.new.book ≡ None) }
 {
     let mut conn = conn;
-    let turn = serve_on(seen, board, &mut conn)?;
+    let Some(turn) = serve_on(seen, board, &mut conn) else {
+        return give_up(conn);
+    };
     leave_by(seen, board, conn, turn)
 }
 
@@ -273,9 +275,11 @@ fn let_linger(
     lingering_connections_keep_their_cause();
     let mut conn = conn;
     if !conn.shut() {
-        return None;
+        return give_up(conn);
     }
-    allow(board, Event::Linger(conn.name(), cause))?;
+    let Some(()) = allow(board, Event::Linger(conn.name(), cause)) else {
+        return give_up(conn);
+    };
     board.linger(0, cause, conn);
     seen.look(board);
     Some(())
@@ -299,10 +303,12 @@ pub fn park(
     ensures free { OnSome result (row_in 0 board.new.book ≡ None) }
 {
     let name = conn.name();
-    may_park(board, name, kind, why)?;
+    let Some(()) = may_park(board, name, kind, why) else {
+        return give_up(conn);
+    };
     match board.park(0, kind, conn) {
         Ok(()) => (),
-        Err(_) => return None,
+        Err((_, conn)) => return give_up(conn),
     }
     seen.look(board);
     Some(())
@@ -347,10 +353,19 @@ fn end(
     ensures free { OnSome result (row_in 0 board.new.book ≡ None) }
 {
     let name = conn.name();
-    allow(board, Event::Close(name, cause, tail))?;
+    let Some(()) = allow(board, Event::Close(name, cause, tail)) else {
+        return give_up(conn);
+    };
     board.close(0, conn.end(cause, tail));
     seen.look(board);
     Some(())
+}
+
+/// The connection is let go of, and the board can't go on. It stands here, so that no other function goes through all that it drops.
+pub fn give_up(_conn: ScriptConn) -> Option<()>
+    ensures { result ≡ None }
+{
+    None
 }
 
 // ## Lingering
