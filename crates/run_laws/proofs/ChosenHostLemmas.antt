@@ -15,7 +15,7 @@ use Rattle.http_core.specs.declared.plan.Served.{Served}
 use Rattle.http_core.specs.declared.plan.Served.TheVariants as served
 use Rattle.http_read.specs.RequestParts.{RequestParts}
 use Rattle.http_read.specs.declared.request.Limits.{Limits}
-use Rattle.listener.specs.Generations.{Opening, config_among, edition_of_files, known_edition, known_editions, made_edition, renewed}
+use Rattle.listener_round.specs.Generations.{Opening, config_among, edition_of_files, known_edition, known_editions, made_edition, renewed}
 use Rattle.listener.specs.Served.{AreServedIn}
 use Rattle.mpm_base.specs.Store.{StoreTold}
 use Rattle.mpm_base.specs.declared.store.File.{File}

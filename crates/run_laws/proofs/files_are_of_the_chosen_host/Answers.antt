@@ -1,6 +1,6 @@
-use Rattle.listener.specs.FirstNumbers.{numbers_of}
+use Rattle.listener_round.specs.FirstNumbers.{numbers_of}
 use Rattle.listener.specs.Runs.{ended_of_run, entries_of_run}
-use Rattle.listener.specs.Served.{whole_book}
+use Rattle.listener_round.specs.Folded.{whole_book}
 use Rattle.script_run.specs.Played.{script_opening}
 use Rattle.server_run.specs.Ends.{server_opening}
 use Rattle.run_laws.proofs.ChosenHostLemmas.{all-by-hosts}
