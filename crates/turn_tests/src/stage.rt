@@ -224,7 +224,7 @@ fn workers<'a, M: Room>(
         let Some(parker) = parkers.pop() else {
             return Ok(players);
         };
-        let rest = Rest::make(wakes, parker, parkers.len() as u32 % 64);
+        let rest = Rest::make(wakes, parker, (parkers.len() % 64) as u32);
         let Some(worker) = worker_of(alloc, hands, queue, seats, looks, rest) else {
             return Ok(players);
         };

@@ -8,6 +8,6 @@ use Rattle.turn_tests.proofs.stage.workers.Given as goal
 abbrev pub invariant-loop : goal.invariant-loop
 invariant-loop g l =
     record {
-      looks : AllAreOf l.hands.perch.places l.looks.items;
+      looks : AllAreOf l.hands.perch.now.places l.looks.items;
       seats : (i : ℕ) (seat : _) → slice_get l.seats.items i ≡ Some seat → IsPassOf l.queue.ring seat;
     }
