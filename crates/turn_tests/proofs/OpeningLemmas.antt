@@ -49,6 +49,14 @@ module _ {S : Type 0} where
   pub listener : (me : Me S View) → IsFresh me → me.0.who.number ≡ 0 → IsListener me
   listener me fresh number = fresh_listener fresh.0 fresh.1 me fresh.2 number
 
+  -- none has one
+  fresh_free : (origin : Origin) (p : ℕ) (me : Me S View) → me ≡ (fresh_view origin p, []) → HasNoTurn me
+  fresh_free origin zero me is = subst HasNoTurn (sym is) record { hand = refl; turn = refl }
+  fresh_free origin (suc p) me is = subst HasNoTurn (sym is) record { hand = refl; turn = refl }
+
+  pub no_turn : (me : Me S View) → IsFresh me → HasNoTurn me
+  no_turn me fresh = fresh_free fresh.0 fresh.1 me fresh.2
+
   fresh_row : (origin : Origin) (p : ℕ) (me : Me S View) → me ≡ (fresh_view origin p, []) → me.0.row ≡ None
   fresh_row origin zero me is = ap (λ (m : Me S View). m.0.row) is
   fresh_row origin (suc p) me is = ap (λ (m : Me S View). m.0.row) is

@@ -1,5 +1,6 @@
 //! A listener and workers on threads, over one board, and what comes of it.
 ghost use Rattle.std.specs.Prelude.{◌≡◌};
+ghost use Rattle.board_lock.specs.Passes.{HasNoTurn};
 
 use crate::clients::empty_site;
 use crate::listener::Plan;
@@ -99,7 +100,10 @@ fn served_of(
 
 /// How many workers of all children nobody has a permit of.
 fn permits_of(shared: &Shared<TestBoard>, pass: &mut Pass<TestBoard>) -> u64
-    requires { pass.old.seat.table_id ≡ shared.now.table.shared.table_id }
+    requires own { pass.old.seat.table_id ≡ shared.now.table.shared.table_id }
+    requires free { HasNoTurn pass.old.seat.me }
+    ensures own { pass.new.seat.table_id ≡ pass.old.seat.table_id }
+    ensures free { HasNoTurn pass.new.seat.me }
 {
     let mut permits: u64 = 0;
     for child in 0..CHILDREN {

@@ -205,7 +205,7 @@ fn restarts<R: Wait, M: Room>(rt: &R, front: &mut Front<'_, M>, taken: u32) -> O
 }
 
 /// The next child starts, and gets the credit of its workers: whether it did.
-pub fn begins<R: Wait, M: Room>(rt: &R, front: &mut Front<'_, M>) -> bool
+fn begins<R: Wait, M: Room>(rt: &R, front: &mut Front<'_, M>) -> bool
     ensures { front.new.pass.seat.me.0.row ≡ front.old.pass.seat.me.0.row }
 {
     let child = front.begun;

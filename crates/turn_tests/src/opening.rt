@@ -1,5 +1,6 @@
 //! A lock with a board, and its passes.
 ghost use Rattle.std.specs.Prelude.{◌≡◌, ◌≢◌, ◌≤◌, ℕ, IfOk, IfSome, None, Some, slice_get};
+ghost use Rattle.board_lock.specs.Passes.{HasNoTurn};
 ghost use Rattle.recycle_perch.specs.Resting.{IsFreeCarrier};
 ghost use Rattle.board_turns.specs.Turns.{IsListener};
 ghost use Rattle.turn_tests.specs.Passes.{HasNoCreditFrom, IsFresh};
@@ -81,6 +82,7 @@ pub fn last_of(
     ensures last { IfSome result (λ pass. pass.seat.table_id ≡ shared.now.table.shared.table_id) }
     ensures listener { IfSome result
         (λ pass. pass.seat.me.0.who.number ≡ 0 → IsListener pass.seat.me) }
+    ensures free { IfSome result (λ pass. HasNoTurn pass.seat.me) }
     ensures none { IfSome result (λ pass. pass.seat.me.0.row ≡ None) }
     ensures later { IfSome result (λ pass. HasNoCreditFrom 0 pass.seat.me.0.credits) }
     ensures carrier { IfSome result

@@ -5,9 +5,10 @@ ghost use Rattle.recycle_perch.specs.Looking.{AllAreOf};
 ghost use Rattle.turn_tests.specs.Passes.{IsFresh};
 
 use crate::carriers::{Zero, count_spare, next_looks, settle};
-use crate::listener::{Front, Listener, Plan, Pusher, begins};
+use crate::listener::{Front, Listener, Plan, Pusher};
 use crate::opening::{CARRIERS, TestBoard};
 use crate::players::{Player, TestHands, TestPair, Worker, plays};
+use crate::steps::starts;
 use crate::tally::Tally;
 use board_lock::{Pass, Room, Shared};
 use crossbeam_utils::sync::Parker;
@@ -99,19 +100,19 @@ fn begin_all<M: Room + Send + Sync, R: Threads + Wait + Sync>(
 ) -> Result<Option<(usize, usize)>, NoMemory>
     requires { AllAreOf hands.now.perch.now.places looks.old.items }
 {
-    let Zero { pass, of: _ } = zero;
-    let mut front = Front {
+    let Zero { mut pass, of: _ } = zero;
+    if !starts(rt, hands.shared, &mut pass, 0) {
+        return Ok(None);
+    }
+    let front = Front {
         hands,
         pass,
-        begun: 0,
+        begun: 1,
         slots: Vec::new(alloc),
         site,
         tally,
         alloc,
     };
-    if !begins(rt, &mut front) {
-        return Ok(None);
-    }
     play_all(rt, front, looks, plan)
 }
 

@@ -1,9 +1,10 @@
 use Rattle.std.proofs.Common.{◌≡◌, ◌≢◌, None, ap, ◌∙◌}
 use Rattle.std.specs.Prelude.{slice_get}
+use Rattle.board_lock.specs.Passes.{HasNoTurn}
 use Rattle.recycle_perch.specs.Resting.{IsFreeCarrier}
 use Rattle.board_turns.specs.Turns.{IsListener}
 use Rattle.turn_tests.specs.Passes.{HasNoCreditFrom}
-use Rattle.turn_tests.proofs.OpeningLemmas.{at_first, carrier, last_has, listener, no_credit, no_row}
+use Rattle.turn_tests.proofs.OpeningLemmas.{at_first, carrier, last_has, listener, no_credit, no_row, no_turn}
 use Rattle.turn_tests.proofs.opening.last_of.Goals as goal
 
 pub returns-clause-own : goal.returns-clause-own
@@ -22,6 +23,11 @@ pub returns-clause-listener : goal.returns-clause-listener
 returns-clause-listener c =
     last_has (λ pass. pass.seat.me.0.who.number ≡ 0 → IsListener pass.seat.me) _ c.pop.new.self.items c.pop.result c.pop.ensures.items
     (λ p pass at. listener pass.seat.me (c.requires.fresh p pass at))
+
+pub returns-clause-free : goal.returns-clause-free
+returns-clause-free c =
+    last_has (λ pass. HasNoTurn pass.seat.me) _ c.pop.new.self.items c.pop.result c.pop.ensures.items
+    (λ p pass at. no_turn pass.seat.me (c.requires.fresh p pass at))
 
 pub returns-clause-none : goal.returns-clause-none
 returns-clause-none c =
