@@ -40,8 +40,13 @@ pub enum Player<'a, M: Room> {
     Works(Worker<'a, M>),
 }
 
+/// The player does its part: whether its seat came back.
+pub fn comes_back<R: Wait, M: Room>(rt: &R, player: Player<'_, M>) -> bool {
+    plays(rt, player).is_some()
+}
+
 /// The player does its part: its seat at the queue, where all was as it has to be.
-pub fn plays<R: Wait, M: Room>(rt: &R, player: Player<'_, M>) -> Option<FdSeat<TestPair<M>>> {
+fn plays<R: Wait, M: Room>(rt: &R, player: Player<'_, M>) -> Option<FdSeat<TestPair<M>>> {
     match player {
         Player::Listens(listener) => listens(rt, listener),
         Player::Works(worker) => works(rt, worker),

@@ -7,7 +7,7 @@ ghost use Rattle.turn_tests.specs.Passes.{IsFresh};
 use crate::carriers::{Zero, count_spare, next_looks, settle};
 use crate::listener::{Front, Listener, Plan, Pusher};
 use crate::opening::{CARRIERS, TestBoard};
-use crate::players::{Player, TestHands, TestPair, Worker, plays};
+use crate::players::{Player, TestHands, TestPair, Worker, comes_back};
 use crate::steps::starts;
 use crate::tally::Tally;
 use board_lock::{Pass, Room, Shared};
@@ -267,8 +267,8 @@ fn play_on_threads<M: Room + Send + Sync, R: Threads + Wait + Sync>(
     rt: &R,
     players: Vec<Player<'_, M>>,
 ) -> Result<usize, NoMemory> {
-    match thread::map_vec(rt, players, &|player: Player<'_, M>| plays(rt, player)) {
-        Ok(seats) => Ok(seats.iter().filter(|seat| seat.is_some()).count()),
+    match thread::map_vec(rt, players, &|player: Player<'_, M>| comes_back(rt, player)) {
+        Ok(all) => Ok(all.iter().filter(|back| **back).count()),
         Err(_) => Err(NoMemory),
     }
 }
