@@ -267,7 +267,10 @@ fn play_on_threads<M: Room + Send + Sync, R: Threads + Wait + Sync>(
     rt: &R,
     players: Vec<Player<'_, M>>,
 ) -> Result<usize, NoMemory> {
-    match thread::map_vec(rt, players, &|player: Player<'_, M>| comes_back(rt, player)) {
+    let part = |player: Player<'_, M>| -> bool
+        ensures { result ≡ result }
+    { comes_back(rt, player) };
+    match thread::map_vec(rt, players, &part) {
         Ok(all) => Ok(all.iter().filter(|back| **back).count()),
         Err(_) => Err(NoMemory),
     }
