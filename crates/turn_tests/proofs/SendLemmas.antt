@@ -1,6 +1,7 @@
 -- What the threads of a test get may go to another thread.
 use denote.RattleType.{RattleType}
 use denote.Ref.{NamedLft}
+use denote.Struct.Declared.{shape}
 use denote.Param.Send.{IsSend, IsSync, recorded_send, shr_send, struct_send, sendable}
 use Rattle.std.proofs.Crossing.{crosses}
 use Rattle.mpm_base.specs.declared.link.Link as link
@@ -54,7 +55,7 @@ module _ (M : RattleType) (m : room.Ghosts M.Denot) (g : link.Ghosts TestLink.th
 module _ (κ : NamedLft) (M : RattleType) (m : room.Ghosts M.Denot) where
   pub Worker-field-send : IsSend M → IsSync M → IsSend (Worker.the_field κ M m).row
   Worker-field-send s y =
-      struct_send _ (
+      struct_send (shape (Worker.the_type κ M m)) (
         search (Hands-sync, shr_send) depth 60 fits 20000,
         (search (Pair-send, queue.the_sync, shr_send) depth 60 fits 20000,
           (search (Pair-send, table-seat.the_send, item.the_send, item.the_field_send, sendable) depth 60 fits 20000,
@@ -66,7 +67,7 @@ module _ (κ : NamedLft) (M : RattleType) (m : room.Ghosts M.Denot) where
 
   pub Front-field-send : IsSend M → IsSync M → IsSend (Front.the_field κ M m).row
   Front-field-send s y =
-      struct_send _ (
+      struct_send (shape (Front.the_type κ M m)) (
         search (Hands-sync, shr_send) depth 60 fits 20000,
         (search (TestBoard-send, pass.the_send, pass.the_field_send) depth 60 fits 20000,
           (search (sendable, crosses) depth 60 fits 20000,
@@ -79,7 +80,7 @@ module _ (κ : NamedLft) (M : RattleType) (m : room.Ghosts M.Denot) where
 
   pub Pusher-field-send : IsSend M → IsSync M → IsSend (Pusher.the_field κ M m).row
   Pusher-field-send s y =
-      struct_send _ (
+      struct_send (shape (Pusher.the_type κ M m)) (
         search (Hands-sync, shr_send) depth 60 fits 20000,
         (search (Pair-send, queue.the_sync, shr_send) depth 60 fits 20000,
           (search (Pair-send, table-seat.the_send, item.the_send, item.the_field_send, sendable) depth 60 fits 20000,
@@ -90,7 +91,7 @@ module _ (κ : NamedLft) (M : RattleType) (m : room.Ghosts M.Denot) where
 
   pub Listener-field-send : IsSend M → IsSync M → IsSend (Listener.the_field κ M m).row
   Listener-field-send s y =
-      struct_send _ (
+      struct_send (shape (Listener.the_type κ M m)) (
         search (Front-send, Front-field-send) depth 60 fits 20000,
         (search (Pusher-send, Pusher-field-send) depth 60 fits 20000, (search (plan.the_send, plan.the_field_send) depth 60 fits 20000, tt)))
 
