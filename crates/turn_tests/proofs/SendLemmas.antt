@@ -7,6 +7,7 @@ use Rattle.std.proofs.Crossing.{crosses}
 use Rattle.mpm_base.specs.declared.link.Link as link
 use Rattle.conn_state.specs.declared.known.Known as known
 use Rattle.conn_state.specs.contracts.known.Nothing as Nothing
+use Rattle.conn_state.specs.contracts.known.NothingKnown.TheImpl as of-known
 use Rattle.conn_state.proofs.conn.Conn.TheSendSync as conn
 use Rattle.board.specs.contracts.board.Board as Board
 use Rattle.board.proofs.SendLemmas.{Board-send}
@@ -25,6 +26,7 @@ use Rattle.worker_threads.specs.contracts.hands.Hands as Hands
 use Rattle.worker_threads.proofs.rest.Rest.TheSendSync as rest
 use Rattle.worker_threads.proofs.rest.Wakes.TheSendSync as wakes
 use Rattle.turn_tests.specs.contracts.links.TestLink as TestLink
+use Rattle.turn_tests.specs.contracts.links.TestLinkLink.TheImpl as of-link
 use Rattle.turn_tests.specs.contracts.listener.Front as Front
 use Rattle.turn_tests.specs.contracts.listener.Listener as Listener
 use Rattle.turn_tests.specs.contracts.listener.Pusher as Pusher
@@ -56,11 +58,11 @@ module _ (κ : NamedLft) (M : RattleType) (m : room.Ghosts M.Denot) where
   pub Worker-field-send : IsSend M → IsSync M → IsSend (Worker.the_field κ M m).row
   Worker-field-send s y =
       struct_send (shape (Worker.the_type κ M m)) (
-        search (Hands-sync, shr_send) depth 60 fits 20000,
+        shr_send _ _ _ (Hands-sync M m of-link.ghosts of-known.ghosts κ y),
         (search (Pair-send, queue.the_sync, shr_send) depth 60 fits 20000,
           (search (Pair-send, table-seat.the_send, item.the_send, item.the_field_send, sendable) depth 60 fits 20000,
-            (search (looks.the_send, looks.the_field_send) depth 60 fits 20000,
-              (search (rest.the_send, rest.the_field_send) depth 60 fits 20000, (search (sendable, crosses) depth 60 fits 20000, tt))))))
+            (search (looks.the_field_send) depth 60 fits 20000,
+              (search (rest.the_field_send) depth 60 fits 20000, (search (sendable, crosses) depth 60 fits 20000, tt))))))
 
   pub Worker-send : IsSend M → IsSync M → IsSend (Worker.the_row κ M m)
   Worker-send s y = search (Worker-field-send, recorded_send) depth 60 fits 20000
@@ -68,8 +70,8 @@ module _ (κ : NamedLft) (M : RattleType) (m : room.Ghosts M.Denot) where
   pub Front-field-send : IsSend M → IsSync M → IsSend (Front.the_field κ M m).row
   Front-field-send s y =
       struct_send (shape (Front.the_type κ M m)) (
-        search (Hands-sync, shr_send) depth 60 fits 20000,
-        (search (TestBoard-send, pass.the_send, pass.the_field_send) depth 60 fits 20000,
+        shr_send _ _ _ (Hands-sync M m of-link.ghosts of-known.ghosts κ y),
+        (search (TestBoard-send, pass.the_field_send) depth 60 fits 20000,
           (search (sendable, crosses) depth 60 fits 20000,
             (search (sendable, crosses) depth 60 fits 20000,
               (search (site.the_send, site.the_sync, sendable, crosses) depth 60 fits 20000,
@@ -81,10 +83,10 @@ module _ (κ : NamedLft) (M : RattleType) (m : room.Ghosts M.Denot) where
   pub Pusher-field-send : IsSend M → IsSync M → IsSend (Pusher.the_field κ M m).row
   Pusher-field-send s y =
       struct_send (shape (Pusher.the_type κ M m)) (
-        search (Hands-sync, shr_send) depth 60 fits 20000,
+        shr_send _ _ _ (Hands-sync M m of-link.ghosts of-known.ghosts κ y),
         (search (Pair-send, queue.the_sync, shr_send) depth 60 fits 20000,
           (search (Pair-send, table-seat.the_send, item.the_send, item.the_field_send, sendable) depth 60 fits 20000,
-            (search (looks.the_send, looks.the_field_send) depth 60 fits 20000, (search (wakes.the_sync, shr_send) depth 60 fits 20000, tt)))))
+            (search (looks.the_field_send) depth 60 fits 20000, (search (wakes.the_sync, shr_send) depth 60 fits 20000, tt)))))
 
   pub Pusher-send : IsSend M → IsSync M → IsSend (Pusher.the_row κ M m)
   Pusher-send s y = search (Pusher-field-send, recorded_send) depth 60 fits 20000
