@@ -59,10 +59,17 @@ module _ (κ : NamedLft) (M : RattleType) (m : room.Ghosts M.Denot) where
   Worker-field-send s y =
       struct_send (shape (Worker.the_type κ M m)) (
         shr_send _ _ _ (Hands-sync M m of-link.ghosts of-known.ghosts κ y),
-        (search (Pair-send, queue.the_sync, shr_send) depth 60 fits 20000,
-          (search (Pair-send, table-seat.the_send, item.the_send, item.the_field_send, sendable) depth 60 fits 20000,
-            (search (looks.the_field_send) depth 60 fits 20000,
-              (search (rest.the_field_send) depth 60 fits 20000, (search (sendable, crosses) depth 60 fits 20000, tt))))))
+        (
+          search (Pair-send, queue.the_sync, shr_send) depth 60 fits 20000,
+          (
+            search (Pair-send, table-seat.the_send, item.the_send, item.the_field_send, sendable) depth 60 fits 20000,
+            (
+              search (looks.the_field_send) depth 60 fits 20000,
+              (search (rest.the_field_send) depth 60 fits 20000, (search (sendable, crosses) depth 60 fits 20000, tt)),
+            ),
+          ),
+        ),
+      )
 
   pub Worker-send : IsSend M → IsSync M → IsSend (Worker.the_row κ M m)
   Worker-send s y = search (Worker-field-send, recorded_send) depth 60 fits 20000
@@ -71,11 +78,20 @@ module _ (κ : NamedLft) (M : RattleType) (m : room.Ghosts M.Denot) where
   Front-field-send s y =
       struct_send (shape (Front.the_type κ M m)) (
         shr_send _ _ _ (Hands-sync M m of-link.ghosts of-known.ghosts κ y),
-        (search (TestBoard-send, pass.the_field_send) depth 60 fits 20000,
-          (search (sendable, crosses) depth 60 fits 20000,
-            (search (sendable, crosses) depth 60 fits 20000,
-              (search (site.the_send, site.the_sync, sendable, crosses) depth 60 fits 20000,
-                (search (tally.the_send, tally.the_sync, sendable, crosses) depth 60 fits 20000, (search (sendable, crosses) depth 60 fits 20000, tt)))))))
+        (
+          search (TestBoard-send, pass.the_field_send) depth 60 fits 20000,
+          (
+            search (sendable, crosses) depth 60 fits 20000,
+            (
+              search (sendable, crosses) depth 60 fits 20000,
+              (
+                search (site.the_send, site.the_sync, sendable, crosses) depth 60 fits 20000,
+                (search (tally.the_send, tally.the_sync, sendable, crosses) depth 60 fits 20000, (search (sendable, crosses) depth 60 fits 20000, tt)),
+              ),
+            ),
+          ),
+        ),
+      )
 
   pub Front-send : IsSend M → IsSync M → IsSend (Front.the_row κ M m)
   Front-send s y = search (Front-field-send, recorded_send) depth 60 fits 20000
@@ -84,9 +100,14 @@ module _ (κ : NamedLft) (M : RattleType) (m : room.Ghosts M.Denot) where
   Pusher-field-send s y =
       struct_send (shape (Pusher.the_type κ M m)) (
         shr_send _ _ _ (Hands-sync M m of-link.ghosts of-known.ghosts κ y),
-        (search (Pair-send, queue.the_sync, shr_send) depth 60 fits 20000,
-          (search (Pair-send, table-seat.the_send, item.the_send, item.the_field_send, sendable) depth 60 fits 20000,
-            (search (looks.the_field_send) depth 60 fits 20000, (search (wakes.the_sync, shr_send) depth 60 fits 20000, tt)))))
+        (
+          search (Pair-send, queue.the_sync, shr_send) depth 60 fits 20000,
+          (
+            search (Pair-send, table-seat.the_send, item.the_send, item.the_field_send, sendable) depth 60 fits 20000,
+            (search (looks.the_field_send) depth 60 fits 20000, (search (wakes.the_sync, shr_send) depth 60 fits 20000, tt)),
+          ),
+        ),
+      )
 
   pub Pusher-send : IsSend M → IsSync M → IsSend (Pusher.the_row κ M m)
   Pusher-send s y = search (Pusher-field-send, recorded_send) depth 60 fits 20000
@@ -95,7 +116,8 @@ module _ (κ : NamedLft) (M : RattleType) (m : room.Ghosts M.Denot) where
   Listener-field-send s y =
       struct_send (shape (Listener.the_type κ M m)) (
         search (Front-send, Front-field-send) depth 60 fits 20000,
-        (search (Pusher-send, Pusher-field-send) depth 60 fits 20000, (search (plan.the_send, plan.the_field_send) depth 60 fits 20000, tt)))
+        (search (Pusher-send, Pusher-field-send) depth 60 fits 20000, (search (plan.the_send, plan.the_field_send) depth 60 fits 20000, tt)),
+      )
 
   pub Listener-send : IsSend M → IsSync M → IsSend (Listener.the_row κ M m)
   Listener-send s y = search (Listener-field-send, recorded_send) depth 60 fits 20000
