@@ -1,0 +1,10 @@
+pub mod AloneLemmas
+pub mod DidLemmas
+pub mod HeldLemmas
+pub mod LettingLemmas
+pub mod LingeringLemmas
+pub mod MadeLemmas
+pub mod NewLemmas
+pub mod RestLemmas
+pub mod RoundLemmas
+pub mod StopLemmas
