@@ -1,5 +1,6 @@
 pub mod AloneLemmas
 pub mod DidLemmas
+pub mod DownLemmas
 pub mod HeldLemmas
 pub mod LettingLemmas
 pub mod LingeringLemmas

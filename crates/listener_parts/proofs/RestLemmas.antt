@@ -1,5 +1,5 @@
 -- What a turn finds behind a rest: nothing was done since, so what it makes is made in the state of the rest.
-use Rattle.std.proofs.Common.{◌≡◌, ℕ, false, not, List, [], ◌∷◌, ◌++◌, map, nat_le, nat_lt, refl, sym, ap, subst, ◌∙◌, append_assoc}
+use Rattle.std.proofs.Common.{◌≡◌, ℕ, false, not, List, [], ◌∷◌, ◌++◌, map, nat_le, nat_lt, refl, sym, ap, subst, ◌∙◌, append-nil, append_assoc}
 use Rattle.std.specs.List.{list_any}
 use Rattle.mpm_base.specs.Moment.{greatest_moment}
 use Rattle.conn_machine.specs.declared.event.Entry.{Entry}
@@ -37,6 +37,12 @@ still_in law found events old new opened number rest t =
 none_added : (added : List Entry) → map (λ (e : Entry). e.event) added ≡ [] → added ≡ []
 none_added [] is = refl
 none_added (e ∷ added) is = absurd (cc)
+
+-- a turn in which nothing was made left what the pass had seen
+pub still_seen : QuietTablesAreTheListeners → (old new : View) → old.who.number ≡ 0 → OpenedWithNone old → IsAtRest (state_of old) → HadATurn [] old new
+    → new.seen ≡ old.seen
+still_seen law old new number opened rest (found, t) =
+    t.seen ∙ ap (λ l. found ++ l) (none_added t.added t.events_are) ∙ append-nil found ∙ still_found law found [] old new opened number rest t
 
 -- it isn't refused in the first turn
 pub ticks_not : QuietTablesAreTheListeners → TurnsRestOn → (to : ℕ) (v u w : View) → u.who.number ≡ 0 → IsRestedFor to v → u ≡ v → HadATurn [] u w

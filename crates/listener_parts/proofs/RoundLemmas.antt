@@ -9,7 +9,7 @@ use Rattle.conn_machine.specs.declared.event.Entry.{Entry}
 use Rattle.conn_machine.specs.declared.event.Event.{Event}
 use Rattle.conn_machine.specs.declared.event.Event.TheVariants as event
 use Rattle.conn_machine.specs.declared.state.State.{State}
-use Rattle.conn_machine.specs.BetweenTurns.{OthersLeaveTheRestToTheListener}
+use Rattle.conn_machine.specs.BetweenTurns.{OthersLeaveTheRestToTheListener, QuietTablesAreTheListeners}
 use Rattle.conn_machine.specs.Folds.{opening_record}
 use Rattle.conn_machine.specs.Passes.{EachHasItsOwn}
 use Rattle.conn_machine.specs.Runs.{after, first_row}
@@ -29,6 +29,7 @@ use Rattle.listener_parts.specs.Letting.{IsLateWay, LetsGo, gone_events}
 use Rattle.listener_parts.specs.Rounds.{AreAsked, AreCredits, IsStill, OpenedWithNone, PassesTime, RetiresSome, Signals, SignalsSome, StartsAsked, StartsAtFirst, StartsEach, StartsSome, TicksTo, ticks_to, time_events}
 use Rattle.listener_parts.proofs.AloneLemmas.{alone_same, others_alone, ready_alone, state_behind, turn_alone}
 use Rattle.listener_parts.proofs.DidLemmas.{did_as, did_more, did_no_more, did_nothing, did_turn}
+use Rattle.listener_parts.proofs.DownLemmas.{down_found}
 
 -- ## Time
 
@@ -375,11 +376,12 @@ starts_turn children old new turn none = record {
   did = did_turn (map event.StartChild children) None old new turn none;
 }
 
-pub starts_at_first : (children : List ℕ) (found : List Entry) (a b c : View) → HadTurn found (map event.StartChild children) a b
+pub starts_at_first : QuietTablesAreTheListeners → (children : List ℕ) (found : List Entry) (a b c : View) → a.who.number ≡ 0 → HadTurn found (map event.StartChild children) a b
     → AreStarted (state_found a found) children → Did [] None b c → StartsAtFirst a c
-starts_at_first children found a b c turn started credited = record {
+starts_at_first law children found a b c number turn started credited = record {
   children = children;
   found = found;
+  alone = λ opened none. down_found law found (map event.StartChild children) a b opened number none turn;
   behind = b;
   turn = turn;
   started = started;

@@ -15,6 +15,7 @@ use Rattle.board_turns.specs.Turns.{HadTurn, state_found}
 use Rattle.listener_turns.specs.Children.{AreStarted}
 use Rattle.listener_turns.specs.Looks.{IsAtRest}
 use Rattle.listener_turns.specs.Signals.{ready_events}
+use Rattle.listener_parts.specs.Closing.{HasNoLive}
 use Rattle.listener_parts.specs.Did.{Did}
 use Rattle.listener_parts.specs.Letting.{AllLeftBy, Departure, IsLateWay, gone_events}
 
@@ -114,10 +115,12 @@ pub record StartsEach (old new : View) : Type 0 where
   pub asked : AreAsked old children new
   pub did : Did (map event.StartChild children) None old new
 
--- in the first turn that added an entry children were started, each the lowest that is gone then, from the state that the turn found on
+-- in the first turn that added an entry children were started, each the lowest that is gone then, from the state that the turn found on; where
+-- no pass had a connection as the server opened, and none is live, nobody did anything before that
 pub record StartsAtFirst (old new : View) : Type 0 where
   pub children : List ℕ
   pub found : List Entry
+  pub alone : OpenedWithNone old → HasNoLive (state_of old) → found ≡ old.seen
   pub behind : View
   pub turn : HadTurn found (map event.StartChild children) old behind
   pub started : AreStarted (state_found old found) children

@@ -1,8 +1,8 @@
 //! How the server stops, and how connections that wait are closed behind that.
 //! Why it is so stands in docs/DECISIONS.md: 117, Parts of the listener's round.
-ghost use Rattle.std.specs.Prelude.{◌≡◌, ℕ, [], None, Some, true, false, if◌then◌else◌};
+ghost use Rattle.std.specs.Prelude.{◌≡◌, [], None, Some, true, false, if◌then◌else◌};
 ghost use Rattle.conn_machine.specs.States.{is_halted};
-ghost use Rattle.conn_machine.specs.Table.{is_allowed, may_retire};
+ghost use Rattle.conn_machine.specs.Table.{is_allowed};
 ghost use Rattle.conn_machine.specs.declared.event.Commanded.TheVariants.{Stop};
 ghost use Rattle.conn_machine.specs.declared.event.Event.TheVariants as event;
 ghost use Rattle.conn_machine.specs.declared.state.Going.TheVariants.{Halted};
@@ -11,10 +11,10 @@ ghost use Rattle.board_turns.specs.Books.{state_of};
 ghost use Rattle.board_turns.specs.Turns.{IsListener};
 ghost use Rattle.listener_turns.specs.Holds.{is_taken_for};
 ghost use Rattle.listener_turns.specs.declared.held.Due.TheVariants as due;
-ghost use Rattle.listener_parts.specs.Closing.{ClosesDown, IsHaltedWay, IsOwnReason, halts_for};
+ghost use Rattle.listener_parts.specs.Closing.{ClosesDown, HasNoLive, IsClosedDown, IsHaltedWay, IsOwnReason, halts_for};
 ghost use Rattle.listener_parts.specs.Did.{Did, LeavesAlone, StandsAs};
 ghost use Rattle.listener_parts.specs.Letting.{LetsGo, LetsOneGo};
-ghost use Rattle.listener_parts.specs.Rounds.{AreCredits, NoneHasCredit};
+ghost use Rattle.listener_parts.specs.Rounds.{AreCredits, NoneHasCredit, OpenedWithNone};
 
 use crate::credits::{Credits, take_all_credits_back};
 use crate::starting::{Workers, retire_rest};
@@ -24,7 +24,7 @@ use board_turns::turns_rest_on_these;
 use conn_machine::Why;
 use conn_machine::laws_between_turns::others_leave_the_rest_to_the_listener;
 use conn_state::Known;
-use listener_turns::{Due, Held, close, halt, hold};
+use listener_turns::{Due, Held, close, halt, hold, take_look};
 use mpm_base::{Cause, Link, Tail};
 use std::sync::Wait;
 use worker_group::laws::connections_in_hand_may_be_closed;
@@ -130,8 +130,37 @@ fn close_one<R: Wait, L: Link, N: Known>(
     true
 }
 
+/// Closes each connection that waits, until none is live: the workers are gone, so none of them has one any more. Takes no memory.
+fn close_rest<R: Wait, L: Link, N: Known>(
+    rt: &R,
+    shared: &Shared<Board<L, N>>,
+    pass: &mut Pass<Board<L, N>>,
+)
+    requires own { pass.old.seat.table_id ≡ shared.now.table.shared.table_id }
+    requires listener { IsListener pass.old.seat.me }
+    requires none { pass.old.seat.me.0.row ≡ None }
+    requires halted { is_halted (state_of pass.old.seat.me.0).going ≡ true }
+    ensures own { pass.new.seat.table_id ≡ pass.old.seat.table_id }
+    ensures listener { IsListener pass.new.seat.me }
+    ensures gone { LetsGo IsHaltedWay pass.old.seat.me.0 pass.new.seat.me.0 }
+    ensures credits { pass.new.seat.me.0.credits ≡ pass.old.seat.me.0.credits }
+    ensures rest { LeavesAlone (state_of pass.old.seat.me.0) (state_of pass.new.seat.me.0) }
+    ensures live { HasNoLive (state_of pass.new.seat.me.0) }
+{
+    turns_rest_on_these();
+    others_leave_the_rest_to_the_listener();
+    for _ in rt.forever() {
+        close_waiting(rt, shared, pass);
+        let look = take_look(rt, shared, pass);
+        if !look.live {
+            return;
+        }
+    }
+    unreachable!()
+}
+
 /// Goes down behind a stop: each connection that waits is closed, the workers of all children come back and end, what they left waiting is
-/// closed, the credits are taken back, and each child is let go of. Takes no memory.
+/// closed, the credits are taken back, and each child is let go of: then no connection is live, and each child is gone. Takes no memory.
 pub fn close_down<R: Wait, L: Link, N: Known, W: Workers>(
     rt: &R,
     shared: &Shared<Board<L, N>>,
@@ -144,15 +173,16 @@ pub fn close_down<R: Wait, L: Link, N: Known, W: Workers>(
     requires none { pass.old.seat.me.0.row ≡ None }
     requires credits { AreCredits credits.old pass.old.seat.me.0 }
     requires halted { is_halted (state_of pass.old.seat.me.0).going ≡ true }
+    requires opened { OpenedWithNone pass.old.seat.me.0 }
     ensures own { pass.new.seat.table_id ≡ pass.old.seat.table_id }
     ensures listener { IsListener pass.new.seat.me }
     ensures down { ClosesDown pass.old.seat.me.0 pass.new.seat.me.0 }
     ensures rest { StandsAs (state_of pass.old.seat.me.0) (state_of pass.new.seat.me.0) }
-    ensures all { (child : ℕ) → may_retire (state_of pass.new.seat.me.0) child ≡ false }
+    ensures closed { IsClosedDown (state_of pass.new.seat.me.0) }
 {
     close_waiting(rt, shared, pass);
     workers.finish(rt);
-    close_waiting(rt, shared, pass);
+    close_rest(rt, shared, pass);
     take_credits_back_at_last(rt, shared, pass, credits);
     retire_rest(rt, shared, pass, &*credits);
 }

@@ -12,7 +12,9 @@ use crate::credits::{CHILDREN, Credits};
 use board::Board;
 use board_lock::{Pass, Shared};
 use board_turns::turns_rest_on_these;
-use conn_machine::laws_between_turns::others_leave_the_rest_to_the_listener;
+use conn_machine::laws_between_turns::{
+    others_leave_the_rest_to_the_listener, quiet_tables_are_the_listeners,
+};
 use conn_state::Known;
 use listener_turns::{Look, fold, is_idle};
 use mpm_base::{Link, Moment};
@@ -118,7 +120,8 @@ fn are_idle_of<L: Link, N: Known>(
     is_idle(shared, pass, child, threads)
 }
 
-/// Folds the history where it may be folded. Where memory lacks for that it stays as it is, until the next round.
+/// Folds the history where it may be folded. Where memory lacks for that it stays as it is, until the next round. Behind a rest nobody did
+/// anything before.
 pub fn fold_history<R: Wait, L: Link, N: Known>(
     rt: &R,
     shared: &Shared<Board<L, N>>,
@@ -132,8 +135,12 @@ pub fn fold_history<R: Wait, L: Link, N: Known>(
     ensures did { Did [] None pass.old.seat.me.0 pass.new.seat.me.0 }
     ensures credits { pass.new.seat.me.0.credits ≡ pass.old.seat.me.0.credits }
     ensures rest { LeavesAlone (state_of pass.old.seat.me.0) (state_of pass.new.seat.me.0) }
+    ensures still { OpenedWithNone pass.old.seat.me.0
+        → IsAtRest (state_of pass.old.seat.me.0)
+        → pass.new.seat.me.0.seen ≡ pass.old.seat.me.0.seen }
 {
     turns_rest_on_these();
     others_leave_the_rest_to_the_listener();
+    quiet_tables_are_the_listeners();
     let _ = fold(rt, shared, pass);
 }

@@ -1,18 +1,22 @@
 //! How children are started, and let go of.
 ghost use Rattle.std.specs.Prelude.{◌≡◌, ℕ, None, false, IfErr, OnOk};
+ghost use Rattle.conn_machine.specs.Sound.{IsSound};
 ghost use Rattle.conn_machine.specs.Table.{may_retire};
 ghost use Rattle.board_book.specs.Faults.{IsRefusedFor};
 ghost use Rattle.board_book.specs.Finds.{startable};
 ghost use Rattle.board_turns.specs.Books.{book_of, state_of};
 ghost use Rattle.board_turns.specs.Turns.{IsListener};
+ghost use Rattle.listener_parts.specs.Closing.{HasNoLive};
 ghost use Rattle.listener_parts.specs.Did.{StandsAs};
-ghost use Rattle.listener_parts.specs.Rounds.{AreCredits, NoneHasCredit, RetiresSome, StartsAtFirst, StartsEach, StartsSome};
+ghost use Rattle.listener_parts.specs.Rounds.{AreCredits, NoneHasCredit, OpenedWithNone, RetiresSome, StartsAtFirst, StartsEach, StartsSome};
 
 use crate::credits::{CHILDREN, Credits, credit_all, credit_started, take_credit_back};
 use board::{Board, BoardFault};
 use board_lock::{Pass, Shared};
 use board_turns::turns_rest_on_these;
-use conn_machine::laws_between_turns::others_leave_the_rest_to_the_listener;
+use conn_machine::laws_between_turns::{
+    others_leave_the_rest_to_the_listener, quiet_tables_are_the_listeners,
+};
 use conn_state::Known;
 use listener_turns::{retire_child, retire_children, start_child, start_children, take_look};
 use mpm_base::Link;
@@ -49,6 +53,7 @@ pub fn start_first<R: Wait, L: Link, N: Known>(
 {
     turns_rest_on_these();
     others_leave_the_rest_to_the_listener();
+    quiet_tables_are_the_listeners();
     start_children(rt, shared, pass)?;
     credit_all(rt, shared, pass, credits);
     Ok(())
@@ -148,7 +153,7 @@ fn retire_one<R: Wait, L: Link, N: Known, W: Workers>(
 }
 
 /// Lets go of each child that stops and has no live connection, all in one turn, where none has a credit any more, and the workers of each
-/// are gone. Takes no memory.
+/// are gone. Where no connection is live none is then. Takes no memory.
 pub fn retire_rest<R: Wait, L: Link, N: Known>(
     rt: &R,
     shared: &Shared<Board<L, N>>,
@@ -166,8 +171,13 @@ pub fn retire_rest<R: Wait, L: Link, N: Known>(
     ensures rest { StandsAs (state_of pass.old.seat.me.0) (state_of pass.new.seat.me.0) }
     ensures credits { AreCredits credits.now pass.new.seat.me.0 }
     ensures all { (child : ℕ) → may_retire (state_of pass.new.seat.me.0) child ≡ false }
+    ensures sound { IsSound (state_of pass.new.seat.me.0) }
+    ensures live { OpenedWithNone pass.old.seat.me.0
+        → HasNoLive (state_of pass.old.seat.me.0)
+        → HasNoLive (state_of pass.new.seat.me.0) }
 {
     turns_rest_on_these();
     others_leave_the_rest_to_the_listener();
+    quiet_tables_are_the_listeners();
     retire_children(rt, shared, pass);
 }

@@ -1,5 +1,6 @@
 use Rattle.std.proofs.Common.{List, ℕ, slice_index, ap, sym, ◌∙◌}
 use Rattle.listener_parts.proofs.AloneLemmas.{retires_all, turn_stands}
+use Rattle.listener_parts.proofs.DownLemmas.{retires_live}
 use Rattle.listener_parts.proofs.RoundLemmas.{credits_stay, retires_turn}
 use Rattle.listener_parts.proofs.starting.retire_rest.Goals as goal
 
@@ -18,3 +19,8 @@ returns-clause-rest g c =
 
 pub returns-clause-credits : goal.returns-clause-credits
 returns-clause-credits g c = credits_stay c.args.credits.now _ _ c.retire_children.ensures.turn.1.1.stays.credits c.requires.credits
+
+pub returns-clause-live : goal.returns-clause-live
+returns-clause-live g c opened none =
+    let t = c.retire_children.ensures.turn in
+    retires_live c.quiet_tables_are_the_listeners.ensures c.turns_rest_on_these.ensures t.0 _ _ c.requires.listener.number t.1 opened none

@@ -27,7 +27,7 @@ returns-in_ok-start_children-clause-rest g c =
 pub returns-in_ok-start_children-clause-first : goal.returns-in_ok-start_children-clause-first
 returns-in_ok-start_children-clause-first g c =
     let s = c.start_children.ensures.started in
-    starts_at_first s.0 s.1 _ _ _ s.2 s.3 c.credit_all.ensures.did
+    starts_at_first c.quiet_tables_are_the_listeners.ensures s.0 s.1 _ _ _ c.requires.listener.number s.2 s.3 c.credit_all.ensures.did
 
 pub returns-in_ok-start_children-clause-all : goal.returns-in_ok-start_children-clause-all
 returns-in_ok-start_children-clause-all g c = startable_still _ _ c.credit_all.ensures.rest ∙ c.in_ok-start_children.ensures.all
@@ -47,7 +47,7 @@ returns-in_err-start_children-clause-rest g c =
 pub returns-in_err-start_children-clause-first : goal.returns-in_err-start_children-clause-first
 returns-in_err-start_children-clause-first g c =
     let s = c.start_children.ensures.started in
-    starts_at_first s.0 s.1 _ _ _ s.2 s.3 (did_nothing _ None (c.start_children.ensures.row ∙ c.requires.none))
+    starts_at_first c.quiet_tables_are_the_listeners.ensures s.0 s.1 _ _ _ c.requires.listener.number s.2 s.3 (did_nothing _ None (c.start_children.ensures.row ∙ c.requires.none))
 
 pub returns-in_err-start_children-clause-credits : goal.returns-in_err-start_children-clause-credits
 returns-in_err-start_children-clause-credits g c = credits_stay c.args.credits.now _ _ c.start_children.ensures.started.2.stays.credits c.requires.credits
