@@ -1,5 +1,6 @@
 -- How a connection is taken: it is accepted in one turn, its link is watched, and it waits or is closed.
 use Rattle.std.specs.Prelude.{◌≡◌, ◌⊎◌, ℕ, Bool, true, false, List, [], ◌∷◌, Option, None}
+use Rattle.mpm_base.specs.Count.{next_count}
 use Rattle.mpm_base.specs.Front.{FrontSeen, front_after_turning_away, front_after_watch}
 use Rattle.mpm_base.specs.Link.{LinkTold}
 use Rattle.mpm_base.specs.declared.conn.Cause.TheVariants as cause
@@ -61,11 +62,12 @@ pub record TakesUntil (name : ConnName) (fault : BoardFault) (old new : View) : 
 
 -- ## With its front
 
--- a connection of the link was taken, and its link was to be watched under its name
+-- a connection of the link was taken, and counted, and its link was to be watched under its name
 pub record TakesLink (link : Option LinkTold) (front front' : FrontSeen) (old new : View) : Type 0 where
   pub name : ConnName
   pub watched : Bool
   pub takes : TakesOne name watched old new
+  pub counted : (state_of new).accepted ≡ next_count (state_of old).accepted
   pub front_is : front' ≡ front_after_watch name watched link front
 
 -- none was taken for the fault, and the front turned the link away
@@ -73,13 +75,15 @@ pub record TurnsAway (fault : BoardFault) (link : Option LinkTold) (front front'
     (old new : View) : Type 0 where
   pub did : Did [] None old new
   pub why : IsRefusedFor fault (book_of new)
+  pub uncounted : (state_of new).accepted ≡ (state_of old).accepted
   pub front_is : front' ≡ front_after_turning_away link front
 
--- one was taken, whose link is watched, and given up for the fault as its wait was refused
+-- one was taken, and counted, whose link is watched, and given up for the fault as its wait was refused
 pub record GivesUpNew (fault : BoardFault) (link : Option LinkTold) (front front' : FrontSeen)
     (old new : View) : Type 0 where
   pub name : ConnName
   pub takes : TakesUntil name fault old new
+  pub counted : (state_of new).accepted ≡ next_count (state_of old).accepted
   pub front_is : front' ≡ front_after_watch name true link front
 
 -- why the link's connection doesn't wait

@@ -15,15 +15,15 @@ returns-in_default-clause-rest g c =
 pub returns-in_default-clause-credits : goal.returns-in_default-clause-credits
 returns-in_default-clause-credits g c = credits_stay c.args.credits.now _ _ c.take_look-look.ensures.turn.1.stays.credits c.requires.credits
 
-pub returns-then-child-ge32-clause-retires : goal.returns-then-child-ge32-clause-retires
-returns-then-child-ge32-clause-retires g c = retires_of _ _ c.take_look-look.ensures.turn (c.take_look-look.ensures.row ∙ c.requires.none)
+pub returns-then-child-ge-CHILDREN-clause-retires : goal.returns-then-child-ge-CHILDREN-clause-retires
+returns-then-child-ge-CHILDREN-clause-retires g c = retires_of _ _ c.take_look-look.ensures.turn (c.take_look-look.ensures.row ∙ c.requires.none)
 
-pub returns-then-child-ge32-clause-rest : goal.returns-then-child-ge32-clause-rest
-returns-then-child-ge32-clause-rest g c =
+pub returns-then-child-ge-CHILDREN-clause-rest : goal.returns-then-child-ge-CHILDREN-clause-rest
+returns-then-child-ge-CHILDREN-clause-rest g c =
     turn_stands c.others_leave_the_rest_to_the_listener.ensures c.turns_rest_on_these.ensures [] _ _ c.requires.listener.number tt c.take_look-look.ensures.turn
 
-pub returns-then-child-ge32-clause-credits : goal.returns-then-child-ge32-clause-credits
-returns-then-child-ge32-clause-credits g c = credits_stay c.args.credits.now _ _ c.take_look-look.ensures.turn.1.stays.credits c.requires.credits
+pub returns-then-child-ge-CHILDREN-clause-credits : goal.returns-then-child-ge-CHILDREN-clause-credits
+returns-then-child-ge-CHILDREN-clause-credits g c = credits_stay c.args.credits.now _ _ c.take_look-look.ensures.turn.1.stays.credits c.requires.credits
 
 -- ## Its credit
 

@@ -18,7 +18,7 @@ use Rattle.listener_parts.proofs.taking.take.Goals as goal
 
 pub returns-in-Err-clause-fails : goal.returns-in-Err-clause-fails
 returns-in-Err-clause-fails g c =
-    inl (record { did = did_turns [] None _ _ c.in-Err.ensures.err c.in-Err.ensures.no_row; why = c.in-Err.ensures.why; front_is = c.turn_away.ensures })
+    inl (record { did = did_turns [] None _ _ c.in-Err.ensures.err c.in-Err.ensures.no_row; why = c.in-Err.ensures.why; uncounted = c.in-Err.ensures.stays.stands.accepted; front_is = c.turn_away.ensures })
 
 -- ## The new connection
 
@@ -66,6 +66,7 @@ returns-clause-takes g c =
       name = c.in-Ok.taken.name;
       watched = c.watch-watched.result;
       takes = takes_one c.in-Ok.taken.name c.watch-watched.result _ _ _ c.in-Ok.ensures.took left c.settle.ensures.none;
+      counted = c.settle.ensures.rest.stands.accepted ∙ c.in-Ok.ensures.taken.counted;
       front_is = c.watch-watched.ensures.watches.front;
     })
     c.settle.ensures.left
@@ -80,6 +81,7 @@ returns-clause-fails g c =
     (λ f refused watched. inr (record {
       name = name;
       takes = takes_until name f _ _ _ c.in-Ok.ensures.took refused c.settle.ensures.none;
+      counted = c.settle.ensures.rest.stands.accepted ∙ c.in-Ok.ensures.taken.counted;
       front_is = c.watch-watched.ensures.watches.front ∙ ap (λ (b : Bool). front_after_watch name b link (g.F.Front.seen c.args.front.now)) watched;
     }))
     c.settle.ensures.refused c.settle.ensures.waited
