@@ -1,6 +1,7 @@
 pub mod AloneLemmas
 pub mod DidLemmas
 pub mod DownLemmas
+pub mod FrameLemmas
 pub mod HeldLemmas
 pub mod LettingLemmas
 pub mod LingeringLemmas
@@ -9,3 +10,4 @@ pub mod NewLemmas
 pub mod RestLemmas
 pub mod RoundLemmas
 pub mod StopLemmas
+pub mod TimeLemmas

@@ -23,7 +23,7 @@ entries_made p base f history (e ∷ added) are = (
 )
 
 -- and both are made as one
-made_join : (base : State) (f : Folded) (before xs ys : List Entry) → AreMadeBehind base f before xs → AreMadeBehind base f (before ++ xs) ys
+pub made_join : (base : State) (f : Folded) (before xs ys : List Entry) → AreMadeBehind base f before xs → AreMadeBehind base f (before ++ xs) ys
     → AreMadeBehind base f before (xs ++ ys)
 made_join base f before [] ys first second = subst (λ (l : List Entry). AreMadeBehind base f l ys) (append-nil before) second
 made_join base f before (x ∷ xs) ys first second = (
