@@ -1,5 +1,5 @@
 -- How time passes, slots are signalled, and children start and go, in parts of some turns.
-use Rattle.std.proofs.Common.{◌≡◌, ◌⊎◌, inl, inr, ℕ, zero, suc, ◌+◌, ◌<◌, ◌≤◌, Bool, true, false, List, [], ◌∷◌, ◌++◌, map, max, nat_lt, length, None, Some, replicate, slice_set, slice_index, if◌then◌else◌, refl, sym, ap, subst, ◌∙◌, append_assoc, arith}
+use Rattle.std.proofs.Common.{◌≡◌, ◌≢◌, ◌⊎◌, inl, inr, ℕ, zero, suc, ◌+◌, ◌<◌, ◌≤◌, Bool, true, false, List, [], ◌∷◌, ◌++◌, map, max, nat_lt, length, None, Some, replicate, slice_set, slice_index, if◌then◌else◌, refl, sym, ap, subst, ◌∙◌, append_assoc, arith}
 use Rattle.std.proofs.lemmas.Bool.Decides.{nat_tests}
 use Rattle.std.proofs.lemmas.List.{map-append}
 use Rattle.std.proofs.lemmas.Result.{on_err_weaker, on_ok_weaker}
@@ -22,11 +22,11 @@ use Rattle.board_turns.specs.Turns.{HadATurn, HadTurn, state_found}
 use Rattle.idle_workers.specs.Found.{TakesCreditBack}
 use Rattle.board_book.specs.Finds.{startable}
 use Rattle.listener_turns.specs.Children.{AreStarted}
-use Rattle.listener_turns.specs.Looks.{IsAtRest}
+use Rattle.listener_turns.specs.Looks.{IsAtRest, LooksIdle}
 use Rattle.listener_turns.specs.Signals.{SignalsAll, SignalsFirst, ready_events}
 use Rattle.listener_parts.specs.Did.{AreOfConns, Did, LeavesAlone}
 use Rattle.listener_parts.specs.Letting.{IsLateWay, LetsGo, gone_events}
-use Rattle.listener_parts.specs.Rounds.{AreAsked, AreCredits, IsStill, OpenedWithNone, PassesTime, RetiresSome, Signals, SignalsSome, StartsAsked, StartsAtFirst, StartsEach, StartsSome, TicksTo, ticks_to, time_events}
+use Rattle.listener_parts.specs.Rounds.{AreAsked, AreCredits, IsStill, OpenedWithNone, PassesTime, RetiresSome, Signals, SignalsSome, StartsAsked, StartsAtFirst, StartsEach, StartsSome, TicksTo, WasFoundIdle, ticks_to, time_events}
 use Rattle.listener_parts.proofs.AloneLemmas.{alone_same, others_alone, ready_alone, state_behind, turn_alone}
 use Rattle.listener_parts.proofs.DidLemmas.{did_as, did_more, did_no_more, did_nothing, did_turn}
 use Rattle.listener_parts.proofs.DownLemmas.{down_found}
@@ -457,4 +457,48 @@ each_end a b c starts nothing = record {
   children = starts.children;
   asked = asked_end a b c starts.children starts.asked nothing;
   did = did_no_more (map event.StartChild starts.children) None None a b c starts.did nothing;
+}
+
+-- ## Idle workers
+
+idle_behind : (child threads : ℕ) (a b c : View) → Did [] None a b → WasFoundIdle child threads b c → WasFoundIdle child threads a c
+idle_behind child threads a b c did idle = record {
+  before = idle.before;
+  behind = idle.behind;
+  first = did_no_more [] None None a b idle.before did idle.first;
+  looked = idle.looked;
+  rest = idle.rest;
+}
+
+idle_before : (child threads : ℕ) (a b c : View) → WasFoundIdle child threads a b → Did [] None b c → WasFoundIdle child threads a c
+idle_before child threads a b c idle did = record {
+  before = idle.before;
+  behind = idle.behind;
+  first = idle.first;
+  looked = idle.looked;
+  rest = did_no_more [] None None idle.behind b c idle.rest did;
+}
+
+-- one child more was found so
+pub idle_next : (credits : List ℕ) (last : ℕ) (a b c : View) → Did [] None a b → Did [] None b c
+    → ((child : ℕ) → child < last → slice_index credits child ≢ 0 → WasFoundIdle child (slice_index credits child) a b)
+    → (slice_index credits last ≢ 0 → WasFoundIdle last (slice_index credits last) b c)
+    → (child : ℕ) → child < last + 1 → slice_index credits child ≢ 0 → WasFoundIdle child (slice_index credits child) a c
+idle_next credits last a b c first second all one child below some =
+    elim (at_or_below child last below) [
+      | inl same ↦
+          idle_behind child (slice_index credits child) a b c first
+          (subst (λ (k : ℕ). WasFoundIdle k (slice_index credits k) b c) (sym same) (one (subst (λ (k : ℕ). slice_index credits k ≢ 0) same some)))
+      | inr less ↦ idle_before child (slice_index credits child) a b c (all child less some) second
+    ]
+
+-- the child was found so by the step
+pub found_idle : (child threads credit : ℕ) (old new : View) (idle : Bool) → threads ≡ credit → idle ≡ true → LooksIdle child threads old idle new
+    → old.row ≡ None → new.row ≡ None → WasFoundIdle child credit old new
+found_idle child threads credit old new idle same is looks none none' = record {
+  before = old;
+  behind = new;
+  first = did_nothing old None none;
+  looked = subst (λ (n : ℕ). LooksIdle child n old true new) same (subst (λ (b : Bool). LooksIdle child threads old b new) is looks);
+  rest = did_nothing new None none';
 }

@@ -1,5 +1,5 @@
 -- The further parts of a round: time passes, slots are signalled, children are started and let go of, and what the next wait is told.
-use Rattle.std.specs.Prelude.{◌≡◌, ℕ, true, List, [], ◌∷◌, ◌++◌, length, map, min, nat_lt, slice_index, None, Some, if◌then◌else◌}
+use Rattle.std.specs.Prelude.{◌≡◌, ◌≢◌, ◌<◌, ℕ, true, List, [], ◌∷◌, ◌++◌, length, map, min, nat_lt, slice_index, None, Some, if◌then◌else◌}
 use Rattle.mpm_base.specs.Moment.{greatest_moment}
 use Rattle.conn_machine.specs.declared.event.Entry.{Entry}
 use Rattle.conn_machine.specs.declared.event.Event.{Event}
@@ -13,7 +13,7 @@ use Rattle.board_book.specs.Finds.{startable}
 use Rattle.board_turns.specs.Books.{state_of}
 use Rattle.board_turns.specs.Turns.{HadTurn, state_found}
 use Rattle.listener_turns.specs.Children.{AreStarted}
-use Rattle.listener_turns.specs.Looks.{IsAtRest}
+use Rattle.listener_turns.specs.Looks.{IsAtRest, LooksIdle}
 use Rattle.listener_turns.specs.Signals.{ready_events}
 use Rattle.listener_parts.specs.Closing.{HasNoLive}
 use Rattle.listener_parts.specs.Did.{Did}
@@ -141,3 +141,16 @@ NoneHasCredit credits = (child : ℕ) → slice_index credits child ≡ 0
 pub record IsStill (old new : View) : Type 0 where
   pub seen : new.seen ≡ old.seen
   pub rest : IsAtRest (state_of new)
+
+-- between the two a step on the child's idle word found that each of its workers is idle, of which it has so many
+pub record WasFoundIdle (child threads : ℕ) (old new : View) : Type 0 where
+  pub before : View
+  pub behind : View
+  pub first : Did [] None old before
+  pub looked : LooksIdle child threads before true behind
+  pub rest : Did [] None behind new
+
+-- so it was of each child that has a credit
+abbrev pub AllWereIdle : List ℕ → View → View → Type 0
+AllWereIdle credits old new =
+    (child : ℕ) → child < 32 → slice_index credits child ≢ 0 → WasFoundIdle child (slice_index credits child) old new

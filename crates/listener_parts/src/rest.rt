@@ -1,12 +1,12 @@
 //! What the next wait of the front is told, and folds of the history.
 //! Why it is so stands in docs/DECISIONS.md: 117, Parts of the listener's round.
-ghost use Rattle.std.specs.Prelude.{◌≡◌, ◌<◌, [], None, true};
+ghost use Rattle.std.specs.Prelude.{◌≡◌, ◌≢◌, ◌<◌, [], None, true, slice_index};
 ghost use Rattle.board_book.specs.Finds.{next_deadline_of};
 ghost use Rattle.board_turns.specs.Books.{state_of};
 ghost use Rattle.board_turns.specs.Turns.{IsListener};
 ghost use Rattle.listener_turns.specs.Looks.{IsAtRest, IsSeenIn};
 ghost use Rattle.listener_parts.specs.Did.{Did, LeavesAlone};
-ghost use Rattle.listener_parts.specs.Rounds.{AreCredits, IsStill, OpenedWithNone};
+ghost use Rattle.listener_parts.specs.Rounds.{AllWereIdle, AreCredits, IsStill, OpenedWithNone, WasFoundIdle};
 
 use crate::credits::{CHILDREN, Credits};
 use board::Board;
@@ -52,6 +52,8 @@ pub fn rest_of<L: Link, N: Known>(
     ensures until { result.until ≡ next_deadline_of (state_of pass.old.seat.me.0) }
     ensures quiet { result.quiet ≡ true
         → IsStill pass.old.seat.me.0 pass.new.seat.me.0 }
+    ensures idle { result.quiet ≡ true
+        → AllWereIdle credits.now pass.old.seat.me.0 pass.new.seat.me.0 }
 {
     let at_rest = look.quiet;
     if !at_rest {
@@ -84,6 +86,8 @@ fn are_idle<L: Link, N: Known>(
     ensures did { Did [] None pass.old.seat.me.0 pass.new.seat.me.0 }
     ensures credits { AreCredits credits.now pass.new.seat.me.0 }
     ensures still { pass.new.seat.me.0.seen ≡ pass.old.seat.me.0.seen }
+    ensures idle { result ≡ true
+        → AllWereIdle credits.now pass.old.seat.me.0 pass.new.seat.me.0 }
 {
     for child in 0..CHILDREN {
         if !are_idle_of(shared, pass, credits, child) {
@@ -112,6 +116,10 @@ fn are_idle_of<L: Link, N: Known>(
     ensures did { Did [] None pass.old.seat.me.0 pass.new.seat.me.0 }
     ensures credits { AreCredits credits.now pass.new.seat.me.0 }
     ensures still { pass.new.seat.me.0.seen ≡ pass.old.seat.me.0.seen }
+    ensures idle { result ≡ true
+        → slice_index credits.now child ≢ 0
+        → WasFoundIdle child (slice_index credits.now child) pass.old.seat.me.0
+        pass.new.seat.me.0 }
 {
     let threads = credits.of(child);
     if threads == 0 {

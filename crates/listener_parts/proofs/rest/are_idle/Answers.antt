@@ -1,6 +1,6 @@
-use Rattle.std.proofs.Common.{[], None, refl, ◌∙◌}
+use Rattle.std.proofs.Common.{[], None, refl, sym, ◌∙◌, true≢false, arith}
 use Rattle.listener_parts.proofs.DidLemmas.{did_no_more, did_nothing}
-use Rattle.listener_parts.proofs.RoundLemmas.{opened_still, rests_still}
+use Rattle.listener_parts.proofs.RoundLemmas.{idle_next, opened_still, rests_still}
 use Rattle.listener_parts.proofs.rest.are_idle.Goals as goal
 
 pub loop-child-init : goal.loop-child-init
@@ -10,6 +10,7 @@ loop-child-init g c = record {
   did = did_nothing c.args.pass.now.seat.me.0 None c.requires.none;
   credits = c.requires.credits;
   still = refl;
+  idle = λ child below some. absurd (omega (arith, below));
 }
 
 pub are_idle_of-requires-clause-none : goal.are_idle_of-requires-clause-none
@@ -31,6 +32,9 @@ loop-child-preserved g c = record {
   did = did_no_more [] None None _ _ _ c.loop-child.invariant.did c.are_idle_of.ensures.did;
   credits = c.are_idle_of.ensures.credits;
   still = c.are_idle_of.ensures.still ∙ c.loop-child.invariant.still;
+  idle =
+      idle_next c.args.credits.now c.loop-child.child _ _ _ c.loop-child.invariant.did c.are_idle_of.ensures.did c.loop-child.invariant.idle
+      (c.are_idle_of.ensures.idle c.if-not-are_idle_of.false);
 }
 
 pub returns-then-not-are_idle_of-clause-did : goal.returns-then-not-are_idle_of-clause-did
@@ -38,3 +42,9 @@ returns-then-not-are_idle_of-clause-did g c = did_no_more [] None None _ _ _ c.l
 
 pub returns-then-not-are_idle_of-clause-still : goal.returns-then-not-are_idle_of-clause-still
 returns-then-not-are_idle_of-clause-still g c = c.are_idle_of.ensures.still ∙ c.loop-child.invariant.still
+
+pub returns-then-not-are_idle_of-clause-idle : goal.returns-then-not-are_idle_of-clause-idle
+returns-then-not-are_idle_of-clause-idle g c z = absurd (true≢false (sym z))
+
+pub returns-clause-idle : goal.returns-clause-idle
+returns-clause-idle g c _ child below some = c.loop-child.invariant.idle child (omega (arith, below, c.loop-child-test.false)) some

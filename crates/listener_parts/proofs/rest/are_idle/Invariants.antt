@@ -1,7 +1,7 @@
-use Rattle.std.proofs.Common.{◌≡◌, [], None}
+use Rattle.std.proofs.Common.{◌≡◌, ◌≢◌, ◌<◌, ℕ, [], None, slice_index}
 use Rattle.board_turns.specs.Turns.{IsListener}
 use Rattle.listener_parts.specs.Did.{Did}
-use Rattle.listener_parts.specs.Rounds.{AreCredits}
+use Rattle.listener_parts.specs.Rounds.{AreCredits, WasFoundIdle}
 use Rattle.listener_parts.proofs.rest.are_idle.Given as goal
 
 -- nothing was done meanwhile
@@ -13,4 +13,6 @@ invariant-loop-child g l =
       did : Did [] None l.initial.pass.seat.me.0 l.pass.seat.me.0;
       credits : AreCredits l.credits l.pass.seat.me.0;
       still : l.pass.seat.me.0.seen ≡ l.initial.pass.seat.me.0.seen;
+      idle : (child : ℕ) → child < l.child → slice_index l.credits child ≢ 0
+          → WasFoundIdle child (slice_index l.credits child) l.initial.pass.seat.me.0 l.pass.seat.me.0;
     }

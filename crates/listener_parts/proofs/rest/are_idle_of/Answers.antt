@@ -1,6 +1,6 @@
 use Rattle.std.proofs.Common.{None, List, ℕ, slice_index, ap, sym, ◌∙◌}
 use Rattle.listener_parts.proofs.DidLemmas.{did_look, did_nothing}
-use Rattle.listener_parts.proofs.RoundLemmas.{credits_stay}
+use Rattle.listener_parts.proofs.RoundLemmas.{credits_stay, found_idle}
 use Rattle.listener_parts.proofs.rest.are_idle_of.Goals as goal
 
 -- ## It has no credit
@@ -22,3 +22,11 @@ returns-clause-credits g c = credits_stay c.args.credits.now _ _ c.is_idle.ensur
 
 pub returns-clause-still : goal.returns-clause-still
 returns-clause-still g c = c.is_idle.ensures.looks.still c.requires.opened c.requires.rest
+
+pub returns-then-threads-eq0-clause-idle : goal.returns-then-threads-eq0-clause-idle
+returns-then-threads-eq0-clause-idle g c _ some = absurd (some (sym c.of-threads.ensures ∙ c.if-threads-eq0.true))
+
+pub returns-clause-idle : goal.returns-clause-idle
+returns-clause-idle g c idle some =
+    found_idle c.args.child c.of-threads.result _ _ _ c.is_idle.result c.of-threads.ensures idle c.is_idle.ensures.looks c.requires.none
+    (c.is_idle.ensures.row ∙ c.requires.none)

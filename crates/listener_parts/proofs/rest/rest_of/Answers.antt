@@ -18,6 +18,9 @@ returns-then-not-at_rest-clause-until g c = c.requires.seen.until
 pub returns-then-not-at_rest-clause-quiet : goal.returns-then-not-at_rest-clause-quiet
 returns-then-not-at_rest-clause-quiet g c z = absurd (true≢false (sym z))
 
+pub returns-then-not-at_rest-clause-idle : goal.returns-then-not-at_rest-clause-idle
+returns-then-not-at_rest-clause-idle g c z = absurd (true≢false (sym z))
+
 -- ## Nothing is
 
 pub are_idle-quiet-requires-clause-rest : goal.are_idle-quiet-requires-clause-rest
