@@ -52,6 +52,8 @@ pub fn stop<R: Wait, L: Link, N: Known>(
         ≡ (state_of pass.old.seat.me.0).accepted }
     ensures stays { result ≡ false
         → LeavesAlone (state_of pass.old.seat.me.0) (state_of pass.new.seat.me.0) }
+    ensures refused { result ≡ false
+        → is_allowed (state_of pass.new.seat.me.0) (event.Command (Stop why)) ≡ false }
     ensures may { IsOwnReason why
         → is_allowed (state_of pass.old.seat.me.0) (event.Command (Stop why)) ≡ true
         → result ≡ true }

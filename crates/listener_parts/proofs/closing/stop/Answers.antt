@@ -27,3 +27,6 @@ pub returns-clause-may : goal.returns-clause-may
 returns-clause-may g c own may =
     stop_may c.others_leave_the_rest_to_the_listener.ensures c.turns_rest_on_these.ensures c.args.why c.halt.result _ _ c.requires.listener.number own may
     c.halt.ensures.turn c.halt.ensures.stays
+
+pub returns-clause-refused : goal.returns-clause-refused
+returns-clause-refused g c = c.halt.ensures.stays
