@@ -271,6 +271,7 @@ closes_lingering s why how c lingers_for fits is_left =
 pub late_closes : (why : Due) (known : Option KnownOutside) (v : View) (c : SeenConn) (kind : Kind) (lingered : Option Cause) (late : Bool) (ending : Cause)
     → (h : HoldsFor why known v c kind lingered late) → lingered ≡ Some ending → nat_le h.row.deadline (state_of v).moment ≡ true
     → IsClosable (state_of v) ending tail.Late c
+unfolding held_lingering
 late_closes why known v c kind lingered late ending h some over =
     let held = held_lingering why known v c kind lingered late ending h some in
     closes_lingering (state_of v) ending tail.Late c held over held.shut

@@ -166,8 +166,8 @@ pub lets_go_conns : (a b c d : View) → LetsGo IsRetiringWay a b → LetsGo IsL
 lets_go_conns a b c d retiring cut drained = record {
   departures = record { retiring = retiring.gone; cut = cut.gone; drained = drained.gone };
   ways = record { retiring = retiring.ways; cut = cut.ways; drained = drained.ways };
-  did = did_more (gone_events retiring.gone) (gone_events cut.gone ++ gone_events drained.gone) None None a b d retiring.did
-      (did_more (gone_events cut.gone) (gone_events drained.gone) None None b c d cut.did drained.did);
+  did = did_more (gone_events retiring.gone ++ gone_events cut.gone) (gone_events drained.gone) None None a c d
+      (did_more (gone_events retiring.gone) (gone_events cut.gone) None None a b c retiring.did cut.did) drained.did;
 }
 
 pub lets_go_until : (f : BoardFault) (a b c d : View) → LetsGo IsRetiringWay a b → LetsGo IsLateWay b c → DrainsUntil f c d → LetsGoUntil f a d

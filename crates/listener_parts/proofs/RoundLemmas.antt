@@ -139,8 +139,7 @@ passes_later to a b c later ticked lets =
       early_ways = ticked.early_ways;
       late_ways = lets.ways;
       did = did_as _ _ None a c
-          (append_assoc (gone_events ticked.early) (event.Tick to ∷ []) (gone_events lets.gone)
-          ∙ ap (λ (ms : List ℕ). time_events ticked.early ms lets.gone) (sym is))
+          (ap (λ (ms : List ℕ). time_events ticked.early ms lets.gone) (sym is))
           (did_more (gone_events ticked.early ++ event.Tick to ∷ []) (gone_events lets.gone) None None a b c ticked.did lets.did);
     }
 
@@ -437,6 +436,7 @@ each_none v did = record { children = []; asked = did; did = did }
 
 pub each_more : (a b c d : View) (k : ℕ) (found : List Entry) → StartsEach a b → HadTurn found (event.StartChild k ∷ []) b c
     → startable (state_found b found) ≡ Some k → c.row ≡ None → Did [] None c d → StartsEach a d
+unfolding starts_more
 each_more a b c d k found starts turn asked none credited = record {
   children = starts.children ++ k ∷ [];
   asked = asked_more a b d starts.children k starts.asked

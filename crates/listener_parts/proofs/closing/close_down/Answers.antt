@@ -37,18 +37,18 @@ pub returns-clause-rest : goal.returns-clause-rest
 returns-clause-rest g c =
     stands_more _ _ _
     (alone_more _ _ _ (alone_more _ _ _ c.close_waiting.ensures.rest c.close_rest.ensures.rest)
-    (alone_still _ _ c.take_credits_back_at_last.ensures.did.origin c.take_credits_back_at_last.ensures.seen)).stands
+    (alone_still c.close_rest.new.pass.seat.me.0 c.take_credits_back_at_last.new.pass.seat.me.0 c.take_credits_back_at_last.ensures.did.origin c.take_credits_back_at_last.ensures.seen)).stands
     c.retire_rest.ensures.rest
 
 pub returns-clause-closed : goal.returns-clause-closed
 returns-clause-closed g c =
     let back = c.take_credits_back_at_last.ensures in
     let opened =
-    opened_still _ _ (back.did.origin ∙ c.close_rest.ensures.gone.did.origin ∙ c.close_waiting.ensures.gone.did.origin) c.requires.opened in
-    let none = ap (λ (s : State). list_any is_live s.rows) (still_state _ _ back.did.origin back.seen) ∙ c.close_rest.ensures.live in
+    opened_still c.args.pass.now.seat.me.0 c.take_credits_back_at_last.new.pass.seat.me.0 (back.did.origin ∙ c.close_rest.ensures.gone.did.origin ∙ c.close_waiting.ensures.gone.did.origin) c.requires.opened in
+    let none = ap (λ (s : State). list_any is_live s.rows) (still_state c.close_rest.new.pass.seat.me.0 c.take_credits_back_at_last.new.pass.seat.me.0 back.did.origin back.seen) ∙ c.close_rest.ensures.live in
     let stands =
     stands_more _ _ _
-    (alone_more _ _ _ (alone_more _ _ _ c.close_waiting.ensures.rest c.close_rest.ensures.rest) (alone_still _ _ back.did.origin back.seen)).stands
+    (alone_more _ _ _ (alone_more _ _ _ c.close_waiting.ensures.rest c.close_rest.ensures.rest) (alone_still c.close_rest.new.pass.seat.me.0 c.take_credits_back_at_last.new.pass.seat.me.0 back.did.origin back.seen)).stands
     c.retire_rest.ensures.rest in
     is_closed_down _ c.retire_rest.ensures.sound (ap is_halted stands.going ∙ c.requires.halted) c.retire_rest.ensures.all
     (c.retire_rest.ensures.live opened none)

@@ -36,21 +36,21 @@ loop-preserved g c = record {
       c.take_look-look.ensures.turn));
 }
 
-pub returns-then-not-live-clause-gone : goal.returns-then-not-live-clause-gone
-returns-then-not-live-clause-gone g c =
+pub returns-then-not-look-clause-gone : goal.returns-then-not-look-clause-gone
+returns-then-not-look-clause-gone g c =
     lets_end IsHaltedWay _ _ _ (lets_join IsHaltedWay _ _ _ c.loop.invariant.gone c.close_waiting.ensures.gone)
     (did_turn [] None _ _ c.take_look-look.ensures.turn (c.take_look-look.ensures.row ∙ c.close_waiting.ensures.gone.did.row))
 
-pub returns-then-not-live-clause-credits : goal.returns-then-not-live-clause-credits
-returns-then-not-live-clause-credits g c =
+pub returns-then-not-look-clause-credits : goal.returns-then-not-look-clause-credits
+returns-then-not-look-clause-credits g c =
     c.take_look-look.ensures.turn.1.stays.credits ∙ c.close_waiting.ensures.credits ∙ c.loop.invariant.credits
 
-pub returns-then-not-live-clause-rest : goal.returns-then-not-live-clause-rest
-returns-then-not-live-clause-rest g c =
+pub returns-then-not-look-clause-rest : goal.returns-then-not-look-clause-rest
+returns-then-not-look-clause-rest g c =
     alone_more _ _ _ c.loop.invariant.rest
     (alone_more _ _ _ c.close_waiting.ensures.rest
     (turn_alone c.others_leave_the_rest_to_the_listener.ensures c.turns_rest_on_these.ensures [] _ _ c.close_waiting.ensures.listener.number tt
     c.take_look-look.ensures.turn))
 
-pub returns-then-not-live-clause-live : goal.returns-then-not-live-clause-live
-returns-then-not-live-clause-live g c = sym c.take_look-look.ensures.seen.live ∙ c.if-not-live.true
+pub returns-then-not-look-clause-live : goal.returns-then-not-look-clause-live
+returns-then-not-look-clause-live g c = sym c.take_look-look.ensures.seen.live ∙ c.if-not-look.true

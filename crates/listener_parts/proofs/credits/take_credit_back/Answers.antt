@@ -35,22 +35,22 @@ returns-then-uncredit-clause-stays g c z = absurd (true≢false z)
 
 -- ## It wasn't
 
-pub returns-else-uncredit-clause-listener : goal.returns-else-uncredit-clause-listener
-returns-else-uncredit-clause-listener g c =
+pub returns-clause-listener : goal.returns-clause-listener
+returns-clause-listener g c =
     listener_uncredited c.args.child c.of-threads.result _ _ c.uncredit.result c.uncredit.ensures.hand c.uncredit.ensures.uncredited c.requires.listener
 
-pub returns-else-uncredit-clause-did : goal.returns-else-uncredit-clause-did
-returns-else-uncredit-clause-did g c = did_uncredit c.args.child c.of-threads.result _ _ c.uncredit.result c.uncredit.ensures.uncredited c.requires.none
+pub returns-clause-did : goal.returns-clause-did
+returns-clause-did g c = did_uncredit c.args.child c.of-threads.result _ _ c.uncredit.result c.uncredit.ensures.uncredited c.requires.none
 
-pub returns-else-uncredit-clause-seen : goal.returns-else-uncredit-clause-seen
-returns-else-uncredit-clause-seen g c = (keeps_uncredited c.args.child c.of-threads.result _ _ c.uncredit.result c.uncredit.ensures.uncredited).seen
+pub returns-clause-seen : goal.returns-clause-seen
+returns-clause-seen g c = (keeps_uncredited c.args.child c.of-threads.result _ _ c.uncredit.result c.uncredit.ensures.uncredited).seen
 
-pub returns-else-uncredit-clause-credits : goal.returns-else-uncredit-clause-credits
-returns-else-uncredit-clause-credits g c =
+pub returns-clause-credits : goal.returns-clause-credits
+returns-clause-credits g c =
     let takes =
     subst (λ (done : Bool). TakesCreditBack c.args.child c.of-threads.result c.args.pass.now.seat.me.0 done c.uncredit.new.pass.seat.me.0) c.if-uncredit.false
     c.uncredit.ensures.uncredited in
     credits_stay c.args.credits.now _ _ (not_taken_back c.args.child c.of-threads.result _ _ takes) c.requires.credits
 
-pub returns-else-uncredit-clause-back : goal.returns-else-uncredit-clause-back
-returns-else-uncredit-clause-back g c z = absurd (true≢false (sym z))
+pub returns-clause-back : goal.returns-clause-back
+returns-clause-back g c z = absurd (true≢false (sym z))

@@ -20,20 +20,20 @@ pub loop-preserved : goal.loop-preserved
 loop-preserved g c = record {
   own = c.drain_one.ensures.own ∙ c.loop.invariant.own;
   listener = c.drain_one.ensures.listener;
-  drains = lets_more IsDrainedWay _ _ _ c.loop.invariant.drains (c.in_ok-drain_one.ensures.one c.if-not-drain_one.false);
+  drains = lets_more IsDrainedWay _ _ _ c.loop.invariant.drains (c.in_ok-drain_one.ensures.one c.if-not-branch.false);
   credits = c.drain_one.ensures.credits ∙ c.loop.invariant.credits;
   rest = alone_more _ _ _ c.loop.invariant.rest c.drain_one.ensures.rest;
 }
 
-pub returns-then-not-drain_one-clause-drains : goal.returns-then-not-drain_one-clause-drains
-returns-then-not-drain_one-clause-drains g c =
-    lets_end IsDrainedWay _ _ _ c.loop.invariant.drains (c.in_ok-drain_one.ensures.none c.if-not-drain_one.true)
+pub returns-then-not-branch-clause-drains : goal.returns-then-not-branch-clause-drains
+returns-then-not-branch-clause-drains g c =
+    lets_end IsDrainedWay _ _ _ c.loop.invariant.drains (c.in_ok-drain_one.ensures.none c.if-not-branch.true)
 
-pub returns-then-not-drain_one-clause-rest : goal.returns-then-not-drain_one-clause-rest
-returns-then-not-drain_one-clause-rest g c = alone_more _ _ _ c.loop.invariant.rest c.drain_one.ensures.rest
+pub returns-then-not-branch-clause-rest : goal.returns-then-not-branch-clause-rest
+returns-then-not-branch-clause-rest g c = alone_more _ _ _ c.loop.invariant.rest c.drain_one.ensures.rest
 
-pub returns-then-not-drain_one-clause-quiet : goal.returns-then-not-drain_one-clause-quiet
-returns-then-not-drain_one-clause-quiet g c = c.in_ok-drain_one.ensures.quiet c.if-not-drain_one.true
+pub returns-then-not-branch-clause-quiet : goal.returns-then-not-branch-clause-quiet
+returns-then-not-branch-clause-quiet g c = c.in_ok-drain_one.ensures.quiet c.if-not-branch.true
 
 pub returns-in_err-drain_one-clause-until : goal.returns-in_err-drain_one-clause-until
 returns-in_err-drain_one-clause-until g c = drains_until _ _ _ _ c.loop.invariant.drains c.in_err-drain_one.ensures.until

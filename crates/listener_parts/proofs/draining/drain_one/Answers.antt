@@ -156,50 +156,50 @@ linger_on-requires-clause-backed g c =
     backs_turned c.waits_are_backed_by_calls.ensures s why c.in-Some.held.conn c.linger_turn.new.self c.linger_turn.result c.in-Some.held.kind lingering c.linger_turn.ensures
     (not_ready c.linger_turn.result (sym c.tail_of.ensures ∙ c.in-None.is)) lingers
 
-pub returns-in_ok-linger_on-clause-one : goal.returns-in_ok-linger_on-clause-one
-returns-in_ok-linger_on-clause-one g c _ =
+pub returns-in_ok-linger_on-in-None-clause-one : goal.returns-in_ok-linger_on-in-None-clause-one
+returns-in_ok-linger_on-in-None-clause-one g c _ =
     let kind = c.in-Some.held.kind in
     let lingers =
     held_lingers due.Lingering g.N.Known.known _ c.in-Some.held.conn kind c.in-Some.held.cause c.in-Some.held.late c.in-Some-cause.cause c.in-Some.ensures.held c.in-Some-cause.is in
     lets_named IsDrainedWay due.Lingering c.in-Some.held.conn.name c.linger_turn.new.self.name (exit.Park kind) _ _ _
     (inl (record { kind = kind; lingers = lingers; way_is = refl })) c.in-Some.ensures.some c.linger_turn.ensures.name c.in_ok-linger_on.ensures.parked c.linger_on.ensures.none
 
-pub returns-in_ok-linger_on-clause-none : goal.returns-in_ok-linger_on-clause-none
-returns-in_ok-linger_on-clause-none g c z = absurd (true≢false z)
+pub returns-in_ok-linger_on-in-None-clause-none : goal.returns-in_ok-linger_on-in-None-clause-none
+returns-in_ok-linger_on-in-None-clause-none g c z = absurd (true≢false z)
 
-pub returns-in_ok-linger_on-clause-credits : goal.returns-in_ok-linger_on-clause-credits
-returns-in_ok-linger_on-clause-credits g c = c.in_ok-linger_on.ensures.parked.1.stays.credits ∙ c.in-Some.ensures.some.1.stays.credits
+pub returns-in_ok-linger_on-in-None-clause-credits : goal.returns-in_ok-linger_on-in-None-clause-credits
+returns-in_ok-linger_on-in-None-clause-credits g c = c.in_ok-linger_on.ensures.parked.1.stays.credits ∙ c.in-Some.ensures.some.1.stays.credits
 
-pub returns-in_ok-linger_on-clause-rest : goal.returns-in_ok-linger_on-clause-rest
-returns-in_ok-linger_on-clause-rest g c =
+pub returns-in_ok-linger_on-in-None-clause-rest : goal.returns-in_ok-linger_on-in-None-clause-rest
+returns-in_ok-linger_on-in-None-clause-rest g c =
     one_alone c.others_leave_the_rest_to_the_listener.ensures c.turns_rest_on_these.ensures due.Lingering c.in-Some.held.conn.name _ _ _ _ c.requires.listener.number
     c.in-Some.ensures.some (left_alone (exit.Park c.in-Some.held.kind) c.linger_turn.new.self.name) c.in_ok-linger_on.ensures.parked
 
-pub returns-in_ok-linger_on-clause-quiet : goal.returns-in_ok-linger_on-clause-quiet
-returns-in_ok-linger_on-clause-quiet g c z = absurd (true≢false z)
+pub returns-in_ok-linger_on-in-None-clause-quiet : goal.returns-in_ok-linger_on-in-None-clause-quiet
+returns-in_ok-linger_on-in-None-clause-quiet g c z = absurd (true≢false z)
 
 -- ## One whose wait was refused
 
-pub returns-in_err-linger_on-clause-until : goal.returns-in_err-linger_on-clause-until
-returns-in_err-linger_on-clause-until g c =
+pub returns-in_err-linger_on-in-None-clause-until : goal.returns-in_err-linger_on-in-None-clause-until
+returns-in_err-linger_on-in-None-clause-until g c =
     gives_up_drained _ due.Lingering c.in-Some.held.conn.name c.linger_turn.new.self.name c.in-Some-cause.cause _ _ _ c.in-Some.ensures.some c.linger_turn.ensures.name
     c.in_err-linger_on.ensures.refused c.linger_on.ensures.none
 
-pub returns-in_err-linger_on-clause-credits : goal.returns-in_err-linger_on-clause-credits
-returns-in_err-linger_on-clause-credits g c =
+pub returns-in_err-linger_on-in-None-clause-credits : goal.returns-in_err-linger_on-in-None-clause-credits
+returns-in_err-linger_on-in-None-clause-credits g c =
     let refused = c.in_err-linger_on.ensures.refused in
     refused.made.1.stays.credits ∙ refused.tried.1.stays.credits ∙ c.in-Some.ensures.some.1.stays.credits
 
-pub returns-in_err-linger_on-clause-rest : goal.returns-in_err-linger_on-clause-rest
-returns-in_err-linger_on-clause-rest g c =
+pub returns-in_err-linger_on-in-None-clause-rest : goal.returns-in_err-linger_on-in-None-clause-rest
+returns-in_err-linger_on-in-None-clause-rest g c =
     let law = c.others_leave_the_rest_to_the_listener.ensures in
     let rests = c.turns_rest_on_these.ensures in
     alone_more _ _ _ (held_alone law rests due.Lingering c.in-Some.held.conn.name _ _ c.requires.listener.number c.in-Some.ensures.some)
     (refused_alone law rests _ _ _ _ (held_number due.Lingering c.in-Some.held.conn.name _ _ c.requires.listener.number c.in-Some.ensures.some)
     (drained_alone _ c.in-Some-cause.cause c.linger_turn.new.self.name) c.in_err-linger_on.ensures.refused)
 
-pub returns-in_err-linger_on-clause-lasts : goal.returns-in_err-linger_on-clause-lasts
-returns-in_err-linger_on-clause-lasts g c =
+pub returns-in_err-linger_on-in-None-clause-lasts : goal.returns-in_err-linger_on-in-None-clause-lasts
+returns-in_err-linger_on-in-None-clause-lasts g c =
     refused_lasts c.others_leave_the_rest_to_the_listener.ensures c.turns_rest_on_these.ensures _ _ _ _
     (held_number due.Lingering c.in-Some.held.conn.name _ _ c.requires.listener.number c.in-Some.ensures.some)
     (drained_alone _ c.in-Some-cause.cause c.linger_turn.new.self.name) c.in_err-linger_on.ensures.refused

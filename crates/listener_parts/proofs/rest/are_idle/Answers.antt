@@ -20,10 +20,10 @@ pub are_idle_of-requires-clause-credits : goal.are_idle_of-requires-clause-credi
 are_idle_of-requires-clause-credits g c = c.loop-child.invariant.credits
 
 pub are_idle_of-requires-clause-opened : goal.are_idle_of-requires-clause-opened
-are_idle_of-requires-clause-opened g c = opened_still _ _ c.loop-child.invariant.did.origin c.requires.opened
+are_idle_of-requires-clause-opened g c = opened_still c.args.pass.now.seat.me.0 c.loop-child.pass.seat.me.0 c.loop-child.invariant.did.origin c.requires.opened
 
 pub are_idle_of-requires-clause-rest : goal.are_idle_of-requires-clause-rest
-are_idle_of-requires-clause-rest g c = rests_still _ _ c.loop-child.invariant.did.origin c.loop-child.invariant.still c.requires.rest
+are_idle_of-requires-clause-rest g c = rests_still c.args.pass.now.seat.me.0 c.loop-child.pass.seat.me.0 c.loop-child.invariant.did.origin c.loop-child.invariant.still c.requires.rest
 
 pub loop-child-preserved : goal.loop-child-preserved
 loop-child-preserved g c = record {

@@ -27,7 +27,7 @@ pub are_idle-quiet-requires-clause-rest : goal.are_idle-quiet-requires-clause-re
 are_idle-quiet-requires-clause-rest g c = c.requires.seen.quiet.0 c.if-not-at_rest.false
 
 pub returns-clause-rest : goal.returns-clause-rest
-returns-clause-rest g c = alone_still _ _ c.are_idle-quiet.ensures.did.origin c.are_idle-quiet.ensures.still
+returns-clause-rest g c = alone_still c.args.pass.now.seat.me.0 c.are_idle-quiet.new.pass.seat.me.0 c.are_idle-quiet.ensures.did.origin c.are_idle-quiet.ensures.still
 
 pub returns-clause-until : goal.returns-clause-until
 returns-clause-until g c = c.requires.seen.until

@@ -41,7 +41,7 @@ pub returns-then-not-take_credit_back-clause-rest : goal.returns-then-not-take_c
 returns-then-not-take_credit_back-clause-rest g c =
     stands_more _ _ _
     (turn_stands c.others_leave_the_rest_to_the_listener.ensures c.turns_rest_on_these.ensures [] _ _ c.requires.listener.number tt c.take_look-look.ensures.turn)
-    (alone_still _ _ c.take_credit_back.ensures.did.origin c.take_credit_back.ensures.seen).stands
+    (alone_still c.take_look-look.new.pass.seat.me.0 c.take_credit_back.new.pass.seat.me.0 c.take_credit_back.ensures.did.origin c.take_credit_back.ensures.seen).stands
 
 -- ## It is let go of
 
@@ -61,7 +61,7 @@ returns-clause-rest g c =
     let rests = c.turns_rest_on_these.ensures in
     stands_more _ _ _
     (stands_more _ _ _ (turn_stands law rests [] _ _ c.requires.listener.number tt c.take_look-look.ensures.turn)
-    (alone_still _ _ c.take_credit_back.ensures.did.origin c.take_credit_back.ensures.seen).stands)
+    (alone_still c.take_look-look.new.pass.seat.me.0 c.take_credit_back.new.pass.seat.me.0 c.take_credit_back.ensures.did.origin c.take_credit_back.ensures.seen).stands)
     (turn_stands law rests _ _ _ c.take_credit_back.ensures.listener.number (gone_stands c.in-Some.child c.retire_child.result) c.retire_child.ensures.turn)
 
 pub returns-clause-credits : goal.returns-clause-credits

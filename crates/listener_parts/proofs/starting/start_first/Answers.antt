@@ -12,25 +12,25 @@ credit_all-requires-clause-none g c = c.start_children.ensures.row ∙ c.require
 pub credit_all-requires-clause-credits : goal.credit_all-requires-clause-credits
 credit_all-requires-clause-credits g c = credits_stay c.args.credits.now _ _ c.start_children.ensures.started.2.stays.credits c.requires.credits
 
-pub returns-in_ok-start_children-clause-starts : goal.returns-in_ok-start_children-clause-starts
-returns-in_ok-start_children-clause-starts g c =
+pub returns-clause-starts : goal.returns-clause-starts
+returns-clause-starts g c =
     let s = c.start_children.ensures.started in
     starts_end _ _ _ (starts_turn s.0 _ _ (s.1, s.2) (c.start_children.ensures.row ∙ c.requires.none)) c.credit_all.ensures.did
 
-pub returns-in_ok-start_children-clause-rest : goal.returns-in_ok-start_children-clause-rest
-returns-in_ok-start_children-clause-rest g c =
+pub returns-clause-rest : goal.returns-clause-rest
+returns-clause-rest g c =
     let s = c.start_children.ensures.started in
     stands_more _ _ _
     (turn_stands c.others_leave_the_rest_to_the_listener.ensures c.turns_rest_on_these.ensures _ _ _ c.requires.listener.number (starts_all s.0) (s.1, s.2))
     c.credit_all.ensures.rest.stands
 
-pub returns-in_ok-start_children-clause-first : goal.returns-in_ok-start_children-clause-first
-returns-in_ok-start_children-clause-first g c =
+pub returns-clause-first : goal.returns-clause-first
+returns-clause-first g c =
     let s = c.start_children.ensures.started in
     starts_at_first c.quiet_tables_are_the_listeners.ensures s.0 s.1 _ _ _ c.requires.listener.number s.2 s.3 c.credit_all.ensures.did
 
-pub returns-in_ok-start_children-clause-all : goal.returns-in_ok-start_children-clause-all
-returns-in_ok-start_children-clause-all g c = startable_still _ _ c.credit_all.ensures.rest ∙ c.in_ok-start_children.ensures.all
+pub returns-clause-all : goal.returns-clause-all
+returns-clause-all g c = startable_still _ _ c.credit_all.ensures.rest ∙ c.in_ok-start_children.ensures.all
 
 -- ## One was refused
 

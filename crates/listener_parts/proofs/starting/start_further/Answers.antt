@@ -20,53 +20,53 @@ pub credit_started-requires-clause-none : goal.credit_started-requires-clause-no
 credit_started-requires-clause-none g c = c.start_child.ensures.row ∙ c.loop.invariant.starts.did.row
 
 pub credit_started-requires-clause-credits : goal.credit_started-requires-clause-credits
-credit_started-requires-clause-credits g c = credits_stay c.loop.credits _ _ c.in-Some-start_child.ensures.some.1.stays.credits c.loop.invariant.credits
+credit_started-requires-clause-credits g c = credits_stay c.loop.credits _ _ c.in-Some.ensures.some.1.stays.credits c.loop.invariant.credits
 
 pub loop-preserved : goal.loop-preserved
 loop-preserved g c =
-    let some = c.in-Some-start_child.ensures.some in
+    let some = c.in-Some.ensures.some in
     record {
       own = c.credit_started.ensures.own ∙ c.start_child.ensures.own ∙ c.loop.invariant.own;
       listener = c.credit_started.ensures.listener;
       starts =
-          each_more _ _ _ _ c.in-Some-start_child.child some.0 c.loop.invariant.starts some.1 some.2 (c.start_child.ensures.row ∙ c.loop.invariant.starts.did.row)
+          each_more _ _ _ _ c.in-Some.child some.0 c.loop.invariant.starts some.1 some.2 (c.start_child.ensures.row ∙ c.loop.invariant.starts.did.row)
           c.credit_started.ensures.did;
       rest =
           stands_more _ _ _ c.loop.invariant.rest
           (stands_more _ _ _
-          (turn_stands c.others_leave_the_rest_to_the_listener.ensures c.turns_rest_on_these.ensures (event.StartChild c.in-Some-start_child.child ∷ []) _ _
-          c.loop.invariant.listener.number (one_stands c.in-Some-start_child.child) (some.0, some.1)) c.credit_started.ensures.rest.stands);
+          (turn_stands c.others_leave_the_rest_to_the_listener.ensures c.turns_rest_on_these.ensures (event.StartChild c.in-Some.child ∷ []) _ _
+          c.loop.invariant.listener.number (one_stands c.in-Some.child) (some.0, some.1)) c.credit_started.ensures.rest.stands);
       credits = c.credit_started.ensures.credits;
     }
 
 -- ## None is to be started
 
-pub returns-in_default-start_child-clause-starts : goal.returns-in_default-start_child-clause-starts
-returns-in_default-start_child-clause-starts g c =
+pub returns-in_default-clause-starts : goal.returns-in_default-clause-starts
+returns-in_default-clause-starts g c =
     each_end _ _ _ c.loop.invariant.starts
-    (did_turn [] None _ _ c.in_default-start_child.ensures.none.0 (c.start_child.ensures.row ∙ c.loop.invariant.starts.did.row))
+    (did_turn [] None _ _ c.in_default.ensures.none.0 (c.start_child.ensures.row ∙ c.loop.invariant.starts.did.row))
 
-pub returns-in_default-start_child-clause-rest : goal.returns-in_default-start_child-clause-rest
-returns-in_default-start_child-clause-rest g c =
+pub returns-in_default-clause-rest : goal.returns-in_default-clause-rest
+returns-in_default-clause-rest g c =
     stands_more _ _ _ c.loop.invariant.rest
-    (turn_stands c.others_leave_the_rest_to_the_listener.ensures c.turns_rest_on_these.ensures [] _ _ c.loop.invariant.listener.number tt c.in_default-start_child.ensures.none.0)
+    (turn_stands c.others_leave_the_rest_to_the_listener.ensures c.turns_rest_on_these.ensures [] _ _ c.loop.invariant.listener.number tt c.in_default.ensures.none.0)
 
-pub returns-in_default-start_child-clause-credits : goal.returns-in_default-start_child-clause-credits
-returns-in_default-start_child-clause-credits g c = credits_stay c.loop.credits _ _ c.in_default-start_child.ensures.none.0.1.stays.credits c.loop.invariant.credits
+pub returns-in_default-clause-credits : goal.returns-in_default-clause-credits
+returns-in_default-clause-credits g c = credits_stay c.loop.credits _ _ c.in_default.ensures.none.0.1.stays.credits c.loop.invariant.credits
 
-pub returns-in_default-start_child-clause-all : goal.returns-in_default-start_child-clause-all
-returns-in_default-start_child-clause-all g c = c.in_default-start_child.ensures.none.1
+pub returns-in_default-clause-all : goal.returns-in_default-clause-all
+returns-in_default-clause-all g c = c.in_default.ensures.none.1
 
 -- ## It was refused
 
-pub returns-in_err-start_child-clause-starts : goal.returns-in_err-start_child-clause-starts
-returns-in_err-start_child-clause-starts g c =
+pub returns-in_err-child-clause-starts : goal.returns-in_err-child-clause-starts
+returns-in_err-child-clause-starts g c =
     each_end _ _ _ c.loop.invariant.starts (did_turn [] None _ _ c.in_err-start_child.ensures.err (c.start_child.ensures.row ∙ c.loop.invariant.starts.did.row))
 
-pub returns-in_err-start_child-clause-rest : goal.returns-in_err-start_child-clause-rest
-returns-in_err-start_child-clause-rest g c =
+pub returns-in_err-child-clause-rest : goal.returns-in_err-child-clause-rest
+returns-in_err-child-clause-rest g c =
     stands_more _ _ _ c.loop.invariant.rest
     (turn_stands c.others_leave_the_rest_to_the_listener.ensures c.turns_rest_on_these.ensures [] _ _ c.loop.invariant.listener.number tt c.in_err-start_child.ensures.err)
 
-pub returns-in_err-start_child-clause-credits : goal.returns-in_err-start_child-clause-credits
-returns-in_err-start_child-clause-credits g c = credits_stay c.loop.credits _ _ c.in_err-start_child.ensures.err.1.stays.credits c.loop.invariant.credits
+pub returns-in_err-child-clause-credits : goal.returns-in_err-child-clause-credits
+returns-in_err-child-clause-credits g c = credits_stay c.loop.credits _ _ c.in_err-start_child.ensures.err.1.stays.credits c.loop.invariant.credits

@@ -22,11 +22,11 @@ try_accept-requires-clause-none g c = c.loop.invariant.none
 
 pub loop-preserved : goal.loop-preserved
 loop-preserved g c =
-    let none = c.in_default-try_accept.ensures.none in
+    let none = c.in_default.ensures.none in
     record {
       own = c.try_accept.ensures.own ∙ c.loop.invariant.own;
       listener = c.try_accept.ensures.listener;
-      none = c.in_default-try_accept.ensures.none_row;
+      none = c.in_default.ensures.none_row;
       turns = more_turns [] [] _ _ _ c.loop.invariant.turns (one_turn [] _ _ none);
       rest =
           alone_more _ _ _ c.loop.invariant.rest
@@ -35,39 +35,39 @@ loop-preserved g c =
 
 -- ## One was
 
-pub returns-in-Some-try_accept-clause-took : goal.returns-in-Some-try_accept-clause-took
-returns-in-Some-try_accept-clause-took g c =
-    more_turns [] (event.Accept c.in-Some-try_accept.taken.name.slot ∷ []) _ _ _ c.loop.invariant.turns (one_turn _ _ _ c.in-Some-try_accept.ensures.took)
+pub returns-in-Some-2-clause-took : goal.returns-in-Some-2-clause-took
+returns-in-Some-2-clause-took g c =
+    more_turns [] (event.Accept c.in-Some.taken.name.slot ∷ []) _ _ _ c.loop.invariant.turns (one_turn _ _ _ c.in-Some.ensures.took)
 
-pub returns-in-Some-try_accept-clause-taken : goal.returns-in-Some-try_accept-clause-taken
-returns-in-Some-try_accept-clause-taken g c =
-    let t = c.in-Some-try_accept.taken in
-    subst (λ (n : ℕ). HasTaken c.try_accept.new.pass.seat.me.0 t.name t.child t.generation n) c.loop.invariant.rest.stands.accepted c.in-Some-try_accept.ensures.taken
+pub returns-in-Some-2-clause-taken : goal.returns-in-Some-2-clause-taken
+returns-in-Some-2-clause-taken g c =
+    let t = c.in-Some.taken in
+    subst (λ (n : ℕ). HasTaken c.try_accept.new.pass.seat.me.0 t.name t.child t.generation n) c.loop.invariant.rest.stands.accepted c.in-Some.ensures.taken
 
-pub returns-in-Some-try_accept-clause-credits : goal.returns-in-Some-try_accept-clause-credits
-returns-in-Some-try_accept-clause-credits g c = c.in-Some-try_accept.ensures.took.1.stays.credits ∙ c.loop.invariant.turns.credits
+pub returns-in-Some-2-clause-credits : goal.returns-in-Some-2-clause-credits
+returns-in-Some-2-clause-credits g c = c.in-Some.ensures.took.1.stays.credits ∙ c.loop.invariant.turns.credits
 
-pub returns-in-Some-try_accept-clause-rest : goal.returns-in-Some-try_accept-clause-rest
-returns-in-Some-try_accept-clause-rest g c =
+pub returns-in-Some-2-clause-rest : goal.returns-in-Some-2-clause-rest
+returns-in-Some-2-clause-rest g c =
     alone_then_accepted _ _ _ c.loop.invariant.rest
-    (accepts_behind c.others_leave_the_rest_to_the_listener.ensures c.turns_rest_on_these.ensures c.in-Some-try_accept.taken.name.slot _ _
-    c.loop.invariant.listener.number c.in-Some-try_accept.ensures.took)
+    (accepts_behind c.others_leave_the_rest_to_the_listener.ensures c.turns_rest_on_these.ensures c.in-Some.taken.name.slot _ _
+    c.loop.invariant.listener.number c.in-Some.ensures.took)
 
 -- ## It was refused
 
-pub returns-in_err-try_accept-clause-err : goal.returns-in_err-try_accept-clause-err
-returns-in_err-try_accept-clause-err g c = more_turns [] [] _ _ _ c.loop.invariant.turns (one_turn [] _ _ c.in_err-try_accept.ensures.err)
+pub returns-in_err-taken-clause-err : goal.returns-in_err-taken-clause-err
+returns-in_err-taken-clause-err g c = more_turns [] [] _ _ _ c.loop.invariant.turns (one_turn [] _ _ c.in_err-taken.ensures.err)
 
-pub returns-in_err-try_accept-clause-stays : goal.returns-in_err-try_accept-clause-stays
-returns-in_err-try_accept-clause-stays g c =
+pub returns-in_err-taken-clause-stays : goal.returns-in_err-taken-clause-stays
+returns-in_err-taken-clause-stays g c =
     alone_more _ _ _ c.loop.invariant.rest
-    (turn_alone c.others_leave_the_rest_to_the_listener.ensures c.turns_rest_on_these.ensures [] _ _ c.loop.invariant.listener.number tt c.in_err-try_accept.ensures.err)
+    (turn_alone c.others_leave_the_rest_to_the_listener.ensures c.turns_rest_on_these.ensures [] _ _ c.loop.invariant.listener.number tt c.in_err-taken.ensures.err)
 
-pub returns-in_err-try_accept-clause-credits : goal.returns-in_err-try_accept-clause-credits
-returns-in_err-try_accept-clause-credits g c = c.in_err-try_accept.ensures.err.1.stays.credits ∙ c.loop.invariant.turns.credits
+pub returns-in_err-taken-clause-credits : goal.returns-in_err-taken-clause-credits
+returns-in_err-taken-clause-credits g c = c.in_err-taken.ensures.err.1.stays.credits ∙ c.loop.invariant.turns.credits
 
-pub returns-in_err-try_accept-clause-rest : goal.returns-in_err-try_accept-clause-rest
-returns-in_err-try_accept-clause-rest g c =
+pub returns-in_err-taken-clause-rest : goal.returns-in_err-taken-clause-rest
+returns-in_err-taken-clause-rest g c =
     alone_accepted _ _
     (alone_more _ _ _ c.loop.invariant.rest
-    (turn_alone c.others_leave_the_rest_to_the_listener.ensures c.turns_rest_on_these.ensures [] _ _ c.loop.invariant.listener.number tt c.in_err-try_accept.ensures.err))
+    (turn_alone c.others_leave_the_rest_to_the_listener.ensures c.turns_rest_on_these.ensures [] _ _ c.loop.invariant.listener.number tt c.in_err-taken.ensures.err))

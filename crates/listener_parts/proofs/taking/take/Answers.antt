@@ -5,6 +5,7 @@ use Rattle.mpm_base.specs.Link.{LinkTold}
 use Rattle.conn_state.specs.Conn.{IsFresh}
 use Rattle.conn_state.specs.Known.{IsOfClient}
 use Rattle.board_book.specs.declared.faults.BoardFault.{BoardFault}
+use Rattle.board_turns.specs.Books.{state_of}
 use Rattle.board_turns.specs.Turns.{HadATurn}
 use Rattle.worker_group.specs.Service.{give_up_events, left_events}
 use Rattle.listener_parts.specs.Letting.{RefusedWait}
@@ -40,7 +41,7 @@ settle-requires-clause-taken g c =
     let told = e.told ∙ c.watch-watched.ensures.watches.link_is in (
       _,
       c.in-Ok.ensures.taken,
-      subst (λ (o : Option LinkTold). IfSome o (λ t. t.rank ≡ _)) (sym told) c.requires.arrival,
+      subst (λ (o : Option LinkTold). IfSome o (λ t. t.rank ≡ (state_of c.args.pass.now.seat.me.0).accepted)) (sym told) c.requires.arrival,
     )
 
 pub settle-requires-clause-serves : goal.settle-requires-clause-serves
@@ -90,4 +91,4 @@ pub returns-clause-credits : goal.returns-clause-credits
 returns-clause-credits g c = c.settle.ensures.credits ∙ c.accept_one.ensures.credits
 
 pub returns-clause-rest : goal.returns-clause-rest
-returns-clause-rest g c = accepted_then_alone _ _ _ c.accept_one.ensures.rest c.settle.ensures.rest
+returns-clause-rest g c = accepted_then_alone (state_of c.args.pass.now.seat.me.0) (state_of c.accept_one.new.pass.seat.me.0) (state_of c.settle.new.pass.seat.me.0) c.accept_one.ensures.rest c.settle.ensures.rest

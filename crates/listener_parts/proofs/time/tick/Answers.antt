@@ -25,7 +25,7 @@ let_go_late-requires-clause-none g c = c.pass_time.ensures.row ∙ c.loop.invari
 
 pub loop-preserved : goal.loop-preserved
 loop-preserved g c =
-    let none = turn_by false (event.Tick c.args.moment ∷ []) _ _ _ c.if-pass_time.false c.in_ok-pass_time.ensures.turn in
+    let none = turn_by false (event.Tick c.args.moment ∷ []) _ _ _ c.if-branch.false c.in_ok-pass_time.ensures.turn in
     record {
       own = c.let_go_late.ensures.own ∙ c.pass_time.ensures.own ∙ c.loop.invariant.own;
       listener = c.let_go_late.ensures.listener;
@@ -40,38 +40,38 @@ loop-preserved g c =
           (turn_alone c.others_leave_the_rest_to_the_listener.ensures c.turns_rest_on_these.ensures [] _ _ c.loop.invariant.listener.number tt none) c.let_go_late.ensures.rest);
       first = λ rested.
           absurd (ticks_not c.quiet_tables_are_the_listeners.ensures c.turns_rest_on_these.ensures c.args.moment _ _ _ c.loop.invariant.listener.number rested
-          (c.loop.invariant.first rested) none (c.in_ok-pass_time.ensures.stays c.if-pass_time.false));
+          (c.loop.invariant.first rested) none (c.in_ok-pass_time.ensures.stays c.if-branch.false));
     }
 
 -- ## Time passed
 
-pub returns-then-pass_time-clause-ticks : goal.returns-then-pass_time-clause-ticks
-returns-then-pass_time-clause-ticks g c =
-    ticks c.args.moment _ _ _ c.loop.invariant.gone (turn_by true (event.Tick c.args.moment ∷ []) _ _ _ c.if-pass_time.true c.in_ok-pass_time.ensures.turn)
+pub returns-then-branch-clause-ticks : goal.returns-then-branch-clause-ticks
+returns-then-branch-clause-ticks g c =
+    ticks c.args.moment _ _ _ c.loop.invariant.gone (turn_by true (event.Tick c.args.moment ∷ []) _ _ _ c.if-branch.true c.in_ok-pass_time.ensures.turn)
     (c.pass_time.ensures.row ∙ c.loop.invariant.gone.did.row)
 
-pub returns-then-pass_time-clause-at_once : goal.returns-then-pass_time-clause-at_once
-returns-then-pass_time-clause-at_once g c rested =
+pub returns-then-branch-clause-at_once : goal.returns-then-branch-clause-at_once
+returns-then-branch-clause-at_once g c rested =
     ticks_at_once c.quiet_tables_are_the_listeners.ensures c.args.moment _ _ _ c.loop.invariant.listener.number rested (c.loop.invariant.first rested)
-    (turn_by true (event.Tick c.args.moment ∷ []) _ _ _ c.if-pass_time.true c.in_ok-pass_time.ensures.turn)
+    (turn_by true (event.Tick c.args.moment ∷ []) _ _ _ c.if-branch.true c.in_ok-pass_time.ensures.turn)
 
-pub returns-then-pass_time-clause-no_row : goal.returns-then-pass_time-clause-no_row
-returns-then-pass_time-clause-no_row g c = c.pass_time.ensures.row ∙ c.loop.invariant.gone.did.row
+pub returns-then-branch-clause-no_row : goal.returns-then-branch-clause-no_row
+returns-then-branch-clause-no_row g c = c.pass_time.ensures.row ∙ c.loop.invariant.gone.did.row
 
-pub returns-then-pass_time-clause-credits : goal.returns-then-pass_time-clause-credits
-returns-then-pass_time-clause-credits g c = c.in_ok-pass_time.ensures.turn.1.stays.credits ∙ c.loop.invariant.credits
+pub returns-then-branch-clause-credits : goal.returns-then-branch-clause-credits
+returns-then-branch-clause-credits g c = c.in_ok-pass_time.ensures.turn.1.stays.credits ∙ c.loop.invariant.credits
 
-pub returns-then-pass_time-clause-moment : goal.returns-then-pass_time-clause-moment
-returns-then-pass_time-clause-moment g c =
+pub returns-then-branch-clause-moment : goal.returns-then-branch-clause-moment
+returns-then-branch-clause-moment g c =
     (tick_behind c.others_leave_the_rest_to_the_listener.ensures c.turns_rest_on_these.ensures c.args.moment _ _ c.loop.invariant.listener.number
-    (turn_by true (event.Tick c.args.moment ∷ []) _ _ _ c.if-pass_time.true c.in_ok-pass_time.ensures.turn)).stands.moment
+    (turn_by true (event.Tick c.args.moment ∷ []) _ _ _ c.if-branch.true c.in_ok-pass_time.ensures.turn)).stands.moment
 
-pub returns-then-pass_time-clause-rest : goal.returns-then-pass_time-clause-rest
-returns-then-pass_time-clause-rest g c =
+pub returns-then-branch-clause-rest : goal.returns-then-branch-clause-rest
+returns-then-branch-clause-rest g c =
     alone_as _ _ c.args.moment
     (alone_before _ _ _ c.args.moment c.loop.invariant.rest
     (tick_behind c.others_leave_the_rest_to_the_listener.ensures c.turns_rest_on_these.ensures c.args.moment _ _ c.loop.invariant.listener.number
-    (turn_by true (event.Tick c.args.moment ∷ []) _ _ _ c.if-pass_time.true c.in_ok-pass_time.ensures.turn)))
+    (turn_by true (event.Tick c.args.moment ∷ []) _ _ _ c.if-branch.true c.in_ok-pass_time.ensures.turn)))
 
 -- ## It was refused
 
