@@ -49,6 +49,10 @@ unused_parked (Parked kind) none = absurd (cc)
 unused_parked Queued none = refl
 unused_parked (Working cell phase) none = refl
 
+pub not_live : (live : Bool) → not live ≡ true → live ≡ false
+not_live true is = absurd (cc)
+not_live false is = refl
+
 or_left : (a b : Bool) → (a || b) ≡ false → a ≡ false
 or_left true b none = absurd (cc)
 or_left false b none = refl

@@ -1,8 +1,8 @@
 -- How connections that wait are let go of, one behind the other.
-use Rattle.std.proofs.Common.{◌≡◌, List, [], ◌∷◌, ◌++◌, None, sym, ap, subst, ◌∙◌, append-nil}
+use Rattle.std.proofs.Common.{◌≡◌, List, [], ◌∷◌, ◌++◌, Option, None, Some, sym, ap, subst, ◌∙◌, append-nil}
 use Rattle.std.proofs.lemmas.Grind.{flat_map-append}
 use Rattle.std.specs.List.{flat_map}
-use Rattle.std.specs.Prelude.{Result, IfErr}
+use Rattle.std.specs.Prelude.{Result, IfErr, IfNone, IfSome, OnErr}
 use Rattle.std.specs.declared.result.Result.TheVariants.{Ok, Err}
 use Rattle.mpm_base.specs.declared.conn.Cause.{Cause}
 use Rattle.mpm_base.specs.declared.conn.ConnName.{ConnName}
@@ -178,6 +178,21 @@ lets_go_until f a b c d retiring cut until = record {
 }
 
 -- ## Of an answer
+
+pub on_err : {T E : Type 0} (r : Result T E) (P : Type 0) → P → OnErr r P
+on_err (Ok x) P holds = tt
+on_err (Err e) P holds = holds
+
+pub if_err : {T E : Type 0} (r : Result T E) (P : Type 0) → P → IfErr r (λ x. P)
+if_err (Ok x) P holds = tt
+if_err (Err e) P holds = holds
+
+pub some_of : {X : Type 0} (o : Option X) (P : X → Type 0) → IfSome o P → (x : X) → o ≡ Some x → P x
+some_of o P holds x is = subst (λ q. IfSome q P) is holds
+
+pub none_of : {X : Type 0} (o : Option X) (P : Type 0) → IfNone o P → o ≡ None → P
+none_of None P holds is = holds
+none_of (Some x) P holds is = absurd (cc)
 
 pub if_err_as : {T E : Type 0} (r : Result T E) (P Q : E → Type 0) → ((e : E) → P e → Q e) → IfErr r P → IfErr r Q
 if_err_as (Ok x) P Q goes holds = tt

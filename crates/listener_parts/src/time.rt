@@ -60,6 +60,8 @@ pub fn let_time_pass<R: Wait, L: Link, N: Known>(
     let moment = moment.min(GREATEST_MOMENT);
     if moment > present {
         tick(rt, shared, pass, moment)?;
+        let_go_late(rt, shared, pass);
+        return Ok(());
     }
     let_go_late(rt, shared, pass);
     Ok(())

@@ -4,6 +4,7 @@ use Rattle.listener_parts.specs.Closing.{IsHaltedWay}
 use Rattle.listener_parts.proofs.AloneLemmas.{alone_more, alone_same, turn_alone}
 use Rattle.listener_parts.proofs.DidLemmas.{did_turn}
 use Rattle.listener_parts.proofs.LettingLemmas.{lets_end, lets_join, lets_none}
+use Rattle.listener_parts.proofs.DownLemmas.{not_live}
 use Rattle.listener_parts.proofs.closing.close_rest.Goals as goal
 
 pub loop-init : goal.loop-init
@@ -53,4 +54,4 @@ returns-then-not-look-clause-rest g c =
     c.take_look-look.ensures.turn))
 
 pub returns-then-not-look-clause-live : goal.returns-then-not-look-clause-live
-returns-then-not-look-clause-live g c = sym c.take_look-look.ensures.seen.live ∙ c.if-not-look.true
+returns-then-not-look-clause-live g c = sym c.take_look-look.ensures.seen.live ∙ not_live c.take_look-look.result.live c.if-not-look.true

@@ -1,5 +1,5 @@
-use Rattle.std.proofs.Common.{refl, ◌∙◌}
-use Rattle.listener_parts.specs.Letting.{IsDrainedWay}
+use Rattle.std.proofs.Common.{refl, rules, ◌∙◌}
+use Rattle.listener_parts.specs.Letting.{DrainsUntil, IsDrainedWay}
 use Rattle.listener_parts.proofs.AloneLemmas.{alone_more, alone_same}
 use Rattle.listener_parts.proofs.LettingLemmas.{drains_until, lets_end, lets_more, lets_none}
 use Rattle.listener_parts.proofs.draining.drain_all.Goals as goal
@@ -36,7 +36,10 @@ pub returns-then-not-branch-clause-quiet : goal.returns-then-not-branch-clause-q
 returns-then-not-branch-clause-quiet g c = c.in_ok-drain_one.ensures.quiet c.if-not-branch.true
 
 pub returns-in_err-drain_one-clause-until : goal.returns-in_err-drain_one-clause-until
-returns-in_err-drain_one-clause-until g c = drains_until _ _ _ _ c.loop.invariant.drains c.in_err-drain_one.ensures.until
+returns-in_err-drain_one-clause-until g c =
+    let until : DrainsUntil c.in_err-drain_one.field-0.0 c.args.pass.now.seat.me.0 c.drain_one.new.pass.seat.me.0 =
+    drains_until _ _ _ _ c.loop.invariant.drains c.in_err-drain_one.ensures.until in
+    search (rules, until)
 
 pub returns-in_err-drain_one-clause-rest : goal.returns-in_err-drain_one-clause-rest
 returns-in_err-drain_one-clause-rest g c = alone_more _ _ _ c.loop.invariant.rest c.drain_one.ensures.rest

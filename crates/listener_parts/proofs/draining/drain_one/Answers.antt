@@ -1,9 +1,10 @@
-use Rattle.std.proofs.Common.{true, false, [], None, inl, inr, refl, sym, ◌∙◌, true≢false}
+use Rattle.std.proofs.Common.{rules, true, false, [], None, inl, inr, refl, sym, ◌∙◌, true≢false}
 use Rattle.mpm_base.specs.declared.conn.Tail.TheVariants as tail
 use Rattle.listener_turns.specs.declared.held.Due.TheVariants as due
 use Rattle.worker_group.specs.declared.service.Exit.TheVariants as exit
 use Rattle.board_turns.specs.Books.{state_of}
-use Rattle.listener_parts.specs.Letting.{IsDrainedWay}
+use Rattle.board_turns.specs.Carries.{Lasts}
+use Rattle.listener_parts.specs.Letting.{GivesUpDrained, IsDrainedWay}
 use Rattle.listener_parts.proofs.AloneLemmas.{alone_more, left_alone, turn_alone}
 use Rattle.listener_parts.proofs.DidLemmas.{did_turn}
 use Rattle.listener_parts.proofs.HeldLemmas.{held_lingering, held_lingers, held_way, holds_turned, late_closes, lingering_some}
@@ -71,9 +72,11 @@ returns-then-late-clause-quiet g c z = absurd (true≢false z)
 -- ## One that was drained
 
 pub linger_turn-requires : goal.linger_turn-requires
-linger_turn-requires g c =
-    (held_way due.Lingering g.N.Known.known _ c.in-Some.held.conn c.in-Some.held.kind c.in-Some.held.cause c.in-Some.held.late c.in-Some-cause.cause
-    c.in-Some.ensures.held c.in-Some-cause.is).half_closed
+linger_turn-requires g c = record {
+  lingers =
+      (held_way due.Lingering g.N.Known.known _ c.in-Some.held.conn c.in-Some.held.kind c.in-Some.held.cause c.in-Some.held.late c.in-Some-cause.cause
+      c.in-Some.ensures.held c.in-Some-cause.is).half_closed;
+}
 
 pub close-requires-in-Some-tail_of-clause-hand : goal.close-requires-in-Some-tail_of-clause-hand
 close-requires-in-Some-tail_of-clause-hand g c = c.hold.ensures.listener.turnless.hand
@@ -162,18 +165,18 @@ returns-in_ok-linger_on-in-None-clause-one g c _ =
     let lingers =
     held_lingers due.Lingering g.N.Known.known _ c.in-Some.held.conn kind c.in-Some.held.cause c.in-Some.held.late c.in-Some-cause.cause c.in-Some.ensures.held c.in-Some-cause.is in
     lets_named IsDrainedWay due.Lingering c.in-Some.held.conn.name c.linger_turn.new.self.name (exit.Park kind) _ _ _
-    (inl (record { kind = kind; lingers = lingers; way_is = refl })) c.in-Some.ensures.some c.linger_turn.ensures.name c.in_ok-linger_on.ensures.parked c.linger_on.ensures.none
+    (inl (record { kind = kind; lingers = lingers; way_is = refl })) c.in-Some.ensures.some c.linger_turn.ensures.name c.in_ok-linger_on-in-None.ensures.parked c.linger_on.ensures.none
 
 pub returns-in_ok-linger_on-in-None-clause-none : goal.returns-in_ok-linger_on-in-None-clause-none
 returns-in_ok-linger_on-in-None-clause-none g c z = absurd (true≢false z)
 
 pub returns-in_ok-linger_on-in-None-clause-credits : goal.returns-in_ok-linger_on-in-None-clause-credits
-returns-in_ok-linger_on-in-None-clause-credits g c = c.in_ok-linger_on.ensures.parked.1.stays.credits ∙ c.in-Some.ensures.some.1.stays.credits
+returns-in_ok-linger_on-in-None-clause-credits g c = c.in_ok-linger_on-in-None.ensures.parked.1.stays.credits ∙ c.in-Some.ensures.some.1.stays.credits
 
 pub returns-in_ok-linger_on-in-None-clause-rest : goal.returns-in_ok-linger_on-in-None-clause-rest
 returns-in_ok-linger_on-in-None-clause-rest g c =
     one_alone c.others_leave_the_rest_to_the_listener.ensures c.turns_rest_on_these.ensures due.Lingering c.in-Some.held.conn.name _ _ _ _ c.requires.listener.number
-    c.in-Some.ensures.some (left_alone (exit.Park c.in-Some.held.kind) c.linger_turn.new.self.name) c.in_ok-linger_on.ensures.parked
+    c.in-Some.ensures.some (left_alone (exit.Park c.in-Some.held.kind) c.linger_turn.new.self.name) c.in_ok-linger_on-in-None.ensures.parked
 
 pub returns-in_ok-linger_on-in-None-clause-quiet : goal.returns-in_ok-linger_on-in-None-clause-quiet
 returns-in_ok-linger_on-in-None-clause-quiet g c z = absurd (true≢false z)
@@ -182,12 +185,14 @@ returns-in_ok-linger_on-in-None-clause-quiet g c z = absurd (true≢false z)
 
 pub returns-in_err-linger_on-in-None-clause-until : goal.returns-in_err-linger_on-in-None-clause-until
 returns-in_err-linger_on-in-None-clause-until g c =
+    let until : GivesUpDrained c.in_err-linger_on-in-None.field-0.0 c.args.pass.now.seat.me.0 c.linger_on.new.pass.seat.me.0 =
     gives_up_drained _ due.Lingering c.in-Some.held.conn.name c.linger_turn.new.self.name c.in-Some-cause.cause _ _ _ c.in-Some.ensures.some c.linger_turn.ensures.name
-    c.in_err-linger_on.ensures.refused c.linger_on.ensures.none
+    c.in_err-linger_on-in-None.ensures.refused c.linger_on.ensures.none in
+    search (rules, until)
 
 pub returns-in_err-linger_on-in-None-clause-credits : goal.returns-in_err-linger_on-in-None-clause-credits
 returns-in_err-linger_on-in-None-clause-credits g c =
-    let refused = c.in_err-linger_on.ensures.refused in
+    let refused = c.in_err-linger_on-in-None.ensures.refused in
     refused.made.1.stays.credits ∙ refused.tried.1.stays.credits ∙ c.in-Some.ensures.some.1.stays.credits
 
 pub returns-in_err-linger_on-in-None-clause-rest : goal.returns-in_err-linger_on-in-None-clause-rest
@@ -195,11 +200,13 @@ returns-in_err-linger_on-in-None-clause-rest g c =
     let law = c.others_leave_the_rest_to_the_listener.ensures in
     let rests = c.turns_rest_on_these.ensures in
     alone_more _ _ _ (held_alone law rests due.Lingering c.in-Some.held.conn.name _ _ c.requires.listener.number c.in-Some.ensures.some)
-    (refused_alone law rests _ _ _ _ (held_number due.Lingering c.in-Some.held.conn.name _ _ c.requires.listener.number c.in-Some.ensures.some)
-    (drained_alone _ c.in-Some-cause.cause c.linger_turn.new.self.name) c.in_err-linger_on.ensures.refused)
+    (refused_alone law rests c.in_err-linger_on-in-None.field-0.0 _ _ _ (held_number due.Lingering c.in-Some.held.conn.name _ _ c.requires.listener.number c.in-Some.ensures.some)
+    (drained_alone c.in_err-linger_on-in-None.field-0.0 c.in-Some-cause.cause c.linger_turn.new.self.name) c.in_err-linger_on-in-None.ensures.refused)
 
 pub returns-in_err-linger_on-in-None-clause-lasts : goal.returns-in_err-linger_on-in-None-clause-lasts
 returns-in_err-linger_on-in-None-clause-lasts g c =
+    let lasts : Lasts c.in_err-linger_on-in-None.field-0.0 (state_of c.linger_on.new.pass.seat.me.0) =
     refused_lasts c.others_leave_the_rest_to_the_listener.ensures c.turns_rest_on_these.ensures _ _ _ _
     (held_number due.Lingering c.in-Some.held.conn.name _ _ c.requires.listener.number c.in-Some.ensures.some)
-    (drained_alone _ c.in-Some-cause.cause c.linger_turn.new.self.name) c.in_err-linger_on.ensures.refused
+    (drained_alone c.in_err-linger_on-in-None.field-0.0 c.in-Some-cause.cause c.linger_turn.new.self.name) c.in_err-linger_on-in-None.ensures.refused in
+    search (rules, lasts)

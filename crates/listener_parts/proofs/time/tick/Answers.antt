@@ -1,9 +1,10 @@
 use Rattle.std.proofs.Common.{false, true, [], ◌∷◌, None, refl, ◌∙◌}
 use Rattle.conn_machine.specs.declared.event.Event.TheVariants as event
+use Rattle.board_turns.specs.Books.{state_of}
 use Rattle.listener_parts.specs.Letting.{IsLateWay}
 use Rattle.listener_parts.proofs.AloneLemmas.{alone_more, alone_same, turn_alone}
 use Rattle.listener_parts.proofs.DidLemmas.{did_turn, turn_by}
-use Rattle.listener_parts.proofs.LettingLemmas.{lets_end, lets_join, lets_none}
+use Rattle.listener_parts.proofs.LettingLemmas.{lets_end, lets_join, lets_none, on_err}
 use Rattle.listener_parts.proofs.RestLemmas.{ticks_at_once, ticks_not}
 use Rattle.listener_parts.proofs.RoundLemmas.{alone_as, alone_before, alone_moment, tick_behind, ticks}
 use Rattle.listener_parts.proofs.time.tick.Goals as goal
@@ -68,7 +69,7 @@ returns-then-branch-clause-moment g c =
 
 pub returns-then-branch-clause-rest : goal.returns-then-branch-clause-rest
 returns-then-branch-clause-rest g c =
-    alone_as _ _ c.args.moment
+    alone_as (state_of c.args.pass.now.seat.me.0) (state_of c.pass_time.new.pass.seat.me.0) c.args.moment
     (alone_before _ _ _ c.args.moment c.loop.invariant.rest
     (tick_behind c.others_leave_the_rest_to_the_listener.ensures c.turns_rest_on_these.ensures c.args.moment _ _ c.loop.invariant.listener.number
     (turn_by true (event.Tick c.args.moment ∷ []) _ _ _ c.if-branch.true c.in_ok-pass_time.ensures.turn)))
@@ -77,8 +78,8 @@ returns-then-branch-clause-rest g c =
 
 pub returns-in_err-pass_time-clause-refused : goal.returns-in_err-pass_time-clause-refused
 returns-in_err-pass_time-clause-refused g c =
-    lets_end IsLateWay _ _ _ c.loop.invariant.gone
-    (did_turn [] None _ _ c.in_err-pass_time.ensures.err (c.pass_time.ensures.row ∙ c.loop.invariant.gone.did.row))
+    on_err c.from_residual.result _ (lets_end IsLateWay _ _ _ c.loop.invariant.gone
+    (did_turn [] None _ _ c.in_err-pass_time.ensures.err (c.pass_time.ensures.row ∙ c.loop.invariant.gone.did.row)))
 
 pub returns-in_err-pass_time-clause-no_row : goal.returns-in_err-pass_time-clause-no_row
 returns-in_err-pass_time-clause-no_row g c = c.pass_time.ensures.row ∙ c.loop.invariant.gone.did.row
@@ -88,8 +89,8 @@ returns-in_err-pass_time-clause-credits g c = c.in_err-pass_time.ensures.err.1.s
 
 pub returns-in_err-pass_time-clause-stays : goal.returns-in_err-pass_time-clause-stays
 returns-in_err-pass_time-clause-stays g c =
-    alone_more _ _ _ c.loop.invariant.rest
-    (turn_alone c.others_leave_the_rest_to_the_listener.ensures c.turns_rest_on_these.ensures [] _ _ c.loop.invariant.listener.number tt c.in_err-pass_time.ensures.err)
+    on_err c.from_residual.result _ (alone_more _ _ _ c.loop.invariant.rest
+    (turn_alone c.others_leave_the_rest_to_the_listener.ensures c.turns_rest_on_these.ensures [] _ _ c.loop.invariant.listener.number tt c.in_err-pass_time.ensures.err))
 
 pub returns-in_err-pass_time-clause-rest : goal.returns-in_err-pass_time-clause-rest
 returns-in_err-pass_time-clause-rest g c =
