@@ -51,6 +51,6 @@ pub use ready::Ready;
 pub use script_line::{ClientAct, CommandWord, LinkCall, ScriptLine, SiteLine};
 pub use sequence::Sequence;
 pub use shape::Shape;
-pub use sink::{Put, Sink};
+pub use sink::{Logs, Put, Sink};
 pub use store::{File, Names, Store, StoreFault};
 pub use words::Words;

@@ -1,8 +1,4 @@
-mod FoundLemmas
-mod GoesOnLemmas
-mod LeavesLemmas
-mod ListenerLemmas
 mod OpeningLemmas
 mod SendLemmas
-mod ServiceLemmas
-mod ThenLemmas
+mod StepLemmas
+mod TakingLemmas

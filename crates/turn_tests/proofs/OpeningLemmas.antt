@@ -1,6 +1,6 @@
 -- A lock with a board, and its passes.
 use Rattle.std.proofs.Common.{◌≡◌, ◌≢◌, ℕ, zero, suc, ◌≤◌, true, List, [], ◌∷◌, ◌++◌, length, Option, Some, None, refl, sym, ap, subst, ◌∙◌, arith}
-use Rattle.std.specs.Prelude.{map, slice_get, slice_index, option_to_list, IfSome}
+use Rattle.std.specs.Prelude.{map, replicate, slice_get, slice_index, option_to_list, IfSome}
 use Rattle.atomic_table.specs.Table.{Me}
 use Rattle.mpm_base.specs.declared.shape.Shape.{Shape}
 use Rattle.mpm_base.specs.Shape.{is_in_bounds}
@@ -9,12 +9,13 @@ use Rattle.conn_machine.specs.States.{opening_state}
 use Rattle.table_rule.specs.declared.view.Origin.{Origin}
 use Rattle.table_rule.specs.declared.view.View.{View}
 use Rattle.table_rule.specs.Tie.{IsNew}
-use Rattle.board_lock.specs.Passes.{fresh_view}
+use Rattle.board_lock.specs.Passes.{HasNoTurn, IsFree, fresh_view}
 use Rattle.recycle_perch.specs.Resting.{IsFreeCarrier}
 use Rattle.board.specs.Board.{SeenBoard}
 use Rattle.board.specs.Ledger.{ledger_of}
 use Rattle.board.specs.ReportLine.{line_of}
-use Rattle.turn_tests.specs.GoesOn.{IsFresh, IsListener, IsPlayer}
+use Rattle.turn_tests.specs.Passes.{HasNoCreditFrom, IsFresh}
+use Rattle.board_turns.specs.Turns.{IsListener}
 
 -- a board without a history may be put into a lock
 pub opens : (b : SeenBoard) (slots children passes : ℕ) (shape : Shape) → is_in_bounds shape ≡ true → 1 ≤ passes → passes ≤ 4099
@@ -31,48 +32,55 @@ opens b slots children passes shape bounds some few base folded history is ended
 
 -- ## Passes of a new lock
 
-fresh_player : {S : Type 0} (origin : Origin) (p : ℕ) (me : Me S View) → me ≡ (fresh_view origin p, []) → IsPlayer me
-fresh_player origin zero me is =
-    subst IsPlayer (sym is) record { turnless = record { hand = refl; turn = refl }; idle = λ other. record { turn = refl; hand = refl; row = refl } }
-fresh_player origin (suc p) me is =
-    subst IsPlayer (sym is) record { turnless = record { hand = refl; turn = refl }; idle = λ other. record { turn = refl; hand = refl; row = refl } }
+-- as many zeros
+none_of : (n k : ℕ) → slice_index (replicate n 0) k ≡ 0
+none_of zero k = refl
+none_of (suc n) zero = refl
+none_of (suc n) (suc k) = none_of n k
 
--- one may go to a thread
-pub player : {S : Type 0} (me : Me S View) → IsFresh me → IsPlayer me
-player me fresh = fresh_player fresh.0 fresh.1 me fresh.2
+module _ {S : Type 0} where
+  -- the listener's has no turn, no connection and no credit
+  fresh_listener : (origin : Origin) (p : ℕ) (me : Me S View) → me ≡ (fresh_view origin p, []) → me.0.who.number ≡ 0 → IsListener me
+  fresh_listener origin zero me is number = record { turnless = subst HasNoTurn (sym is) record { hand = refl; turn = refl }; number = number }
+  fresh_listener origin (suc p) me is number =
+      let other : suc p ≡ 0 = sym (ap (λ (m : Me S View). m.0.who.number) is) ∙ number in
+      absurd (cc)
 
--- pass 0 has no credit and no connection
-fresh_credit : {S : Type 0} (origin : Origin) (p : ℕ) (me : Me S View) → me ≡ (fresh_view origin p, []) → me.0.who.number ≡ 0 → slice_index me.0.credits 0 ≡ 0
-fresh_credit origin zero me is number = ap (λ (m : Me _ View). slice_index m.0.credits 0) is
-fresh_credit origin (suc p) me is number =
-    let other : suc p ≡ 0 = sym (ap (λ (m : Me _ View). m.0.who.number) is) ∙ number in
-    absurd (cc)
+  pub listener : (me : Me S View) → IsFresh me → me.0.who.number ≡ 0 → IsListener me
+  listener me fresh number = fresh_listener fresh.0 fresh.1 me fresh.2 number
 
-pub no_credit : {S : Type 0} (me : Me S View) → IsFresh me → me.0.who.number ≡ 0 → slice_index me.0.credits 0 ≡ 0
-no_credit me fresh number = fresh_credit fresh.0 fresh.1 me fresh.2 number
+  -- none has one
+  fresh_free : (origin : Origin) (p : ℕ) (me : Me S View) → me ≡ (fresh_view origin p, []) → HasNoTurn me
+  fresh_free origin zero me is = subst HasNoTurn (sym is) record { hand = refl; turn = refl }
+  fresh_free origin (suc p) me is = subst HasNoTurn (sym is) record { hand = refl; turn = refl }
 
-fresh_row : {S : Type 0} (origin : Origin) (p : ℕ) (me : Me S View) → me ≡ (fresh_view origin p, []) → me.0.row ≡ None
-fresh_row origin zero me is = ap (λ (m : Me _ View). m.0.row) is
-fresh_row origin (suc p) me is = ap (λ (m : Me _ View). m.0.row) is
+  pub no_turn : (me : Me S View) → IsFresh me → HasNoTurn me
+  no_turn me fresh = fresh_free fresh.0 fresh.1 me fresh.2
 
-pub no_row : {S : Type 0} (me : Me S View) → IsFresh me → me.0.row ≡ None
-no_row me fresh = fresh_row fresh.0 fresh.1 me fresh.2
+  fresh_row : (origin : Origin) (p : ℕ) (me : Me S View) → me ≡ (fresh_view origin p, []) → me.0.row ≡ None
+  fresh_row origin zero me is = ap (λ (m : Me S View). m.0.row) is
+  fresh_row origin (suc p) me is = ap (λ (m : Me S View). m.0.row) is
 
-pub listener : {S : Type 0} (me : Me S View) → IsFresh me → me.0.who.number ≡ 0 → IsListener me
-listener me fresh number = record { turnless = (player me fresh).turnless; number = number }
+  pub no_row : (me : Me S View) → IsFresh me → me.0.row ≡ None
+  no_row me fresh = fresh_row fresh.0 fresh.1 me fresh.2
 
--- one that went to a thread is that of the listener, or a carrier that has nothing
-pub player_listener : {S : Type 0} (me : Me S View) (n : ℕ) → IsPlayer me → n ≡ me.0.who.number → n ≡ 0 → IsListener me
-player_listener me n is same number = record { turnless = is.turnless; number = sym same ∙ number }
+  fresh_credit : (origin : Origin) (p : ℕ) (me : Me S View) → me ≡ (fresh_view origin p, []) → (k : ℕ) → slice_index me.0.credits k ≡ 0
+  fresh_credit origin zero me is k = ap (λ (m : Me S View). slice_index m.0.credits k) is ∙ none_of 32 k
+  fresh_credit origin (suc p) me is k = ap (λ (m : Me S View). slice_index m.0.credits k) is
 
-pub player_carrier : {S : Type 0} (me : Me S View) (n : ℕ) → IsPlayer me → n ≡ me.0.who.number → (n ≡ 0 → ⊥) → IsFreeCarrier me
-player_carrier me n is same other =
-    let number : me.0.who.number ≢ 0 = λ z. other (same ∙ z) in
-    record { free = record { hand = is.turnless.hand; idle = is.idle number }; number = number }
+  pub no_credit : (me : Me S View) → IsFresh me → HasNoCreditFrom 0 me.0.credits
+  no_credit me fresh k some = fresh_credit fresh.0 fresh.1 me fresh.2 k
 
--- pass 0 may go to a thread
-pub listener_player : {S : Type 0} (me : Me S View) → IsListener me → IsPlayer me
-listener_player me is = record { turnless = is.turnless; idle = λ other. absurd (other is.number) }
+  -- another one may carry, and has nothing
+  fresh_carrier : (origin : Origin) (p : ℕ) (me : Me S View) → me ≡ (fresh_view origin p, []) → me.0.who.number ≢ 0 → IsFreeCarrier me
+  fresh_carrier origin zero me is other = absurd (other (ap (λ (m : Me S View). m.0.who.number) is))
+  fresh_carrier origin (suc p) me is other = record {
+    free = subst IsFree (sym is) record { hand = refl; idle = record { turn = refl; hand = refl; row = refl } };
+    number = other;
+  }
+
+  pub carrier : (me : Me S View) → IsFresh me → me.0.who.number ≢ 0 → IsFreeCarrier me
+  carrier me fresh other = fresh_carrier fresh.0 fresh.1 me fresh.2 other
 
 -- ## Lists
 

@@ -1,4 +1,2 @@
-pub mod Books
-pub mod Carries
-pub mod GoesOn
-pub mod Rests
+pub mod Passes
+pub mod Taking

@@ -1,21 +1,35 @@
 //! A lock with a board, and its passes.
-ghost use Rattle.std.specs.Prelude.{◌≡◌, ◌≤◌, ℕ, IfOk, IfSome, Some, slice_get};
-ghost use Rattle.turn_tests.specs.GoesOn.{IsFresh, IsPlayer};
+ghost use Rattle.std.specs.Prelude.{◌≡◌, ◌≢◌, ◌≤◌, ℕ, IfOk, IfSome, None, Some, slice_get};
+ghost use Rattle.board_lock.specs.Passes.{HasNoTurn};
+ghost use Rattle.recycle_perch.specs.Resting.{IsFreeCarrier};
+ghost use Rattle.board_turns.specs.Turns.{IsListener};
+ghost use Rattle.turn_tests.specs.Passes.{HasNoCreditFrom, IsFresh};
 
-use crate::clients::CLIENTS;
+use crate::links::TestLink;
 use board::Board;
 use board_lock::{Pass, Shared};
 use conn_state::Nothing;
 use mpm_base::{NoMemory, Shape};
-use stand_ins::ScriptLink;
 use std::alloc::Global;
 
-/// A board of scripted links.
-pub type ScriptBoard = Board<ScriptLink, Nothing>;
+/// A board of the links of a test.
+pub type TestBoard = Board<TestLink, Nothing>;
 
-/// One child of four workers.
-const SHAPE: Shape = Shape {
-    threads: 4,
+/// How many connections it has at once.
+pub const SLOTS: u32 = 64;
+
+/// How many children it has, one for each generation.
+pub const CHILDREN: u32 = 32;
+
+/// How many workers a child has, whether all have threads or not.
+pub const WORKERS: u32 = 64;
+
+/// How many carriers rest on the perch at first: one for each permit of a child, and two more.
+pub const CARRIERS: u32 = WORKERS + 2;
+
+/// One child at a time.
+pub const SHAPE: Shape = Shape {
+    threads: WORKERS,
     factor: 400,
     read_ms: 60_000,
     keep_ms: 5_000,
@@ -26,11 +40,11 @@ const SHAPE: Shape = Shape {
     whole_ms: 0,
 };
 
-/// A lock with a board without connections, which has a slot more than there are clients, and so many passes.
+/// A lock with a board without connections, and so many passes.
 pub fn opened(
     alloc: Global,
     passes: u32,
-) -> Result<(Shared<ScriptBoard>, Vec<Pass<ScriptBoard>>), NoMemory>
+) -> Result<(Shared<TestBoard>, Vec<Pass<TestBoard>>), NoMemory>
     requires passes { (1 ≤ passes) × (passes ≤ 4099) }
     ensures own { IfOk result
         (λ made. (p : ℕ) (pass : _)
@@ -41,7 +55,7 @@ pub fn opened(
         → slice_get made.1.items p ≡ Some pass
         → IsFresh pass.seat.me) }
 {
-    let board = Board::make(alloc, CLIENTS + 1, 1, passes, SHAPE)?;
+    let board = Board::make(alloc, SLOTS, CHILDREN, passes, SHAPE)?;
     match Shared::make(alloc, board, passes) {
         Ok(made) => Ok(made),
         Err((fault, _)) => Err(fault),
@@ -50,9 +64,9 @@ pub fn opened(
 
 /// The last of the passes.
 pub fn last_of(
-    shared: &Shared<ScriptBoard>,
-    passes: &mut Vec<Pass<ScriptBoard>>,
-) -> Option<Pass<ScriptBoard>>
+    shared: &Shared<TestBoard>,
+    passes: &mut Vec<Pass<TestBoard>>,
+) -> Option<Pass<TestBoard>>
     requires own { (p : ℕ) (pass : _)
         → slice_get passes.old.items p ≡ Some pass
         → pass.seat.table_id ≡ shared.now.table.shared.table_id }
@@ -66,46 +80,13 @@ pub fn last_of(
         → slice_get passes.new.items p ≡ Some pass
         → IsFresh pass.seat.me }
     ensures last { IfSome result (λ pass. pass.seat.table_id ≡ shared.now.table.shared.table_id) }
-    ensures last_fresh { IfSome result (λ pass. IsFresh pass.seat.me) }
-    ensures ready { IfSome result (λ pass. IsPlayer pass.seat.me) }
+    ensures listener { IfSome result
+        (λ pass. pass.seat.me.0.who.number ≡ 0 → IsListener pass.seat.me) }
+    ensures free { IfSome result (λ pass. HasNoTurn pass.seat.me) }
+    ensures none { IfSome result (λ pass. pass.seat.me.0.row ≡ None) }
+    ensures later { IfSome result (λ pass. HasNoCreditFrom 0 pass.seat.me.0.credits) }
+    ensures carrier { IfSome result
+        (λ pass. pass.seat.me.0.who.number ≢ 0 → IsFreeCarrier pass.seat.me) }
 {
     passes.pop()
-}
-
-/// A pass on its way to a thread.
-#[derive(Drop)]
-pub struct Player<'a> {
-    pub shared: &'a Shared<ScriptBoard>,
-    pub pass: Pass<ScriptBoard>,
-    ghost own: { pass.seat.table_id ≡ shared.now.table.shared.table_id },
-    ghost ready: { IsPlayer pass.seat.me },
-}
-
-/// Players for so many of the last passes.
-pub fn players<'a>(
-    alloc: Global,
-    shared: &'a Shared<ScriptBoard>,
-    passes: &mut Vec<Pass<ScriptBoard>>,
-    count: u32,
-) -> Result<Vec<Player<'a>>, NoMemory>
-    requires own { (p : ℕ) (pass : _)
-        → slice_get passes.old.items p ≡ Some pass
-        → pass.seat.table_id ≡ shared.now.table.shared.table_id }
-    requires fresh { (p : ℕ) (pass : _)
-        → slice_get passes.old.items p ≡ Some pass
-        → IsFresh pass.seat.me }
-    ensures own { (p : ℕ) (pass : _)
-        → slice_get passes.new.items p ≡ Some pass
-        → pass.seat.table_id ≡ shared.now.table.shared.table_id }
-    ensures fresh { (p : ℕ) (pass : _)
-        → slice_get passes.new.items p ≡ Some pass
-        → IsFresh pass.seat.me }
-{
-    let mut made = Vec::new(alloc);
-    for _ in 0..count {
-        if let Some(pass) = last_of(shared, passes) {
-            made.push(Player { shared, pass })?;
-        }
-    }
-    Ok(made)
 }
