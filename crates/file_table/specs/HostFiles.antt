@@ -21,7 +21,7 @@ pub record IsFileOfHost (order : SiteOrder) (given : List File) (host : ℕ) (fi
   pub under : IsFileUnder wanted.root given file
 
 -- what a path names for a host is a file that the host has; such a file of a site is one of those under the host's root; and where two hosts
--- have it they have one root
+-- have that place in the site they have one root
 pub record HostsHaveTheirFiles : Type 0 where
   pub named : (site : SeenSite) (host : ℕ) (path : List ℕ) → IsFoundFor site host (resource_of site host path)
   pub own : (order : SiteOrder) (given : List File) (site : SeenSite) (host place : ℕ) (file : File)

@@ -36,12 +36,13 @@ use Rattle.board.specs.Ledger.{ledger_of}
 use Rattle.worker_group.proofs.AnswerLemmas.{live_row-update}
 use Rattle.worker_group.proofs.ServeLemmas.{alive, test-at}
 use Rattle.worker_group.proofs.StartLemmas.{lives}
+use Rattle.board_turns.specs.Books.{state_of}
 use Rattle.board_turns.specs.GoesOnInside.{MadeEvent}
 use Rattle.board_turns.specs.Rests.{TurnsRestOn}
 use Rattle.board_turns.specs.Turns.{HadTurn}
-use Rattle.board_turns.proofs.FoundLemmas.{same_state}
+use Rattle.board_turns.proofs.FoundLemmas.{same_live, same_state}
 use Rattle.board_turns.proofs.GoesOnLemmas.{made_added}
-use Rattle.board_turns.proofs.ThenLemmas.{edition_then, row_then, state_then, stays_as}
+use Rattle.board_turns.proofs.ThenLemmas.{edition_then, nothing_state, row_then, state_then, stays_as}
 use Rattle.board_turns.proofs.TurnLemmas.{had_one}
 use Rattle.listener_turns.specs.declared.held.Due.{Due}
 use Rattle.listener_turns.specs.declared.held.Due.TheVariants as due
@@ -285,3 +286,13 @@ pub parks_held : {K T : Type 0} (known : Option KnownOutside) (v w u : Me (Optio
 parks_held known v w u old new c (Ok x) rests took gave err back state sound holds = tt
 parks_held known v w u old new c (Err e) rests took gave err back state sound holds =
     subst (Holds known u.0) (sym back) (holds_still known v w u old new c rests took gave err state sound holds)
+
+-- and its row stands as it stood
+pub parks_stays : {K T : Type 0} (known : Option KnownOutside) (v w u : Me (Option K) View) (old new : SeenBoard) (c : SeenConn) (r : Result T (BoardFault × SeenConn))
+    → TurnsRestOn → TookTurn v w (ledger_of old) → GaveBack w u (ledger_of new) → OnErr r (new ≡ old) → after old.book.base old.book.history ≡ old.book.state
+    → Holds known v.0 c → OnErr r (live_row (state_of u.0).rows c.name ≡ live_row (state_of v.0).rows c.name)
+parks_stays known v w u old new c (Ok x) rests took gave err state holds = tt
+parks_stays known v w u old new c (Err e) rests took gave err state holds =
+    ap (λ (s : State). live_row s.rows c.name)
+    (nothing_state v w u old rests took (subst (λ (b : SeenBoard). GaveBack w u (ledger_of b)) err gave) state)
+    ∙ same_live v w old c.name rests took state holds.row

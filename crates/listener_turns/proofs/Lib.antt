@@ -1,6 +1,6 @@
 mod ChildrenLemmas
 mod HeldLemmas
-mod ListenerLemmas
-mod LookLemmas
+pub mod ListenerLemmas
+pub mod LookLemmas
 mod ManyLemmas
 mod TakenLemmas

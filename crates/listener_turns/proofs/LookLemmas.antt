@@ -122,7 +122,7 @@ found_live s (Some name) quiet found at rest finds is =
 -- ## The idle word
 
 -- behind a look that found all at rest nobody but the listener adds an entry
-rest_stays : QuietTablesAreTheListeners → (v : View) (history : List Entry) → EachHasItsOwn v.origin.state (first_row (opening_record v.origin.passes))
+pub rest_stays : QuietTablesAreTheListeners → (v : View) (history : List Entry) → EachHasItsOwn v.origin.state (first_row (opening_record v.origin.passes))
     → v.who.number ≡ 0 → AreMade v.origin.state (opening_record v.origin.passes) history → HasSeen v.who.number v.seen history → IsAtRest (state_of v)
     → history ≡ v.seen
 rest_stays law v history own number made seen rest =

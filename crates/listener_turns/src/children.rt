@@ -1,6 +1,7 @@
 //! The turns in which children start, get the credit of their workers, and are let go of.
 //! Why it is so stands in docs/DECISIONS.md: 109, Turns of the listener.
 ghost use Rattle.std.specs.Prelude.{◌≡◌, ◌<◌, List, [], ◌∷◌, map, false, ℕ, IfErr, IfNone, IfOk, IfSome, OnOk, None, Some, if◌then◌else◌, slice_index};
+ghost use Rattle.conn_machine.specs.Sound.{IsSound};
 ghost use Rattle.conn_machine.specs.Table.{is_allowed, may_retire};
 ghost use Rattle.conn_machine.specs.declared.event.Entry.{Entry};
 ghost use Rattle.conn_machine.specs.declared.event.Event.TheVariants as event;
@@ -181,6 +182,7 @@ pub fn retire_children<R: Wait, L: Link, N: Known>(
     ensures turn { (children : List ℕ)
         × HadATurn (map event.Retire children) pass.old.seat.me.0 pass.new.seat.me.0 }
     ensures all { (child : ℕ) → may_retire (state_of pass.new.seat.me.0) child ≡ false }
+    ensures sound { IsSound (state_of pass.new.seat.me.0) }
 {
     turns_rest_on_these();
     let mut turn = shared.turn(rt, pass);

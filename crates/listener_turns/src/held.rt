@@ -1,7 +1,7 @@
 //! The turns of a connection that the listener holds: it is taken up, and let go of, and between these its link is called.
 //! Why it is so stands in docs/DECISIONS.md: 109, Turns of the listener.
 ghost use Rattle.std.specs.Prelude.{◌≡◌, ◌<◌, [], ◌∷◌, true, None, Some, IfErr, IfNone, IfSome, OnErr, OnOk, nat_le};
-ghost use Rattle.conn_machine.specs.Rows.{is_parked, lives_and};
+ghost use Rattle.conn_machine.specs.Rows.{is_parked, live_row, lives_and};
 ghost use Rattle.conn_machine.specs.States.{is_halted};
 ghost use Rattle.conn_machine.specs.Table.{is_allowed};
 ghost use Rattle.conn_machine.specs.declared.event.Event.TheVariants as event;
@@ -168,6 +168,9 @@ pub fn park<R: Wait, L: Link, N: Known>(
     ensures why { IfErr result (λ e. IsRefusedFor e.0 (book_of pass.new.seat.me.0)) }
     ensures back { IfErr result (λ e. e.1 ≡ conn) }
     ensures held { IfErr result (λ e. Holds N.known pass.new.seat.me.0 e.1) }
+    ensures stays { OnErr result
+        (live_row (state_of pass.new.seat.me.0).rows conn.name
+        ≡ live_row (state_of pass.old.seat.me.0).rows conn.name) }
 {
     turns_rest_on_these();
     others_leave_the_rest_to_the_listener();

@@ -1,6 +1,7 @@
-use Rattle.std.proofs.Common.{map, ap, sym, ◌∙◌}
+use Rattle.std.proofs.Common.{map, ap, sym, subst, ◌∙◌}
 use Rattle.conn_machine.specs.declared.event.Event.TheVariants as event
 use Rattle.conn_machine.specs.declared.state.State.{State}
+use Rattle.conn_machine.specs.Sound.{IsSound}
 use Rattle.conn_machine.specs.Table.{may_retire}
 use Rattle.board_turns.proofs.FoundLemmas.{pass_as}
 use Rattle.board_turns.proofs.ThenLemmas.{listener_then}
@@ -37,3 +38,11 @@ returns-clause-all g c k =
     (state_left _ _ _ 0 (map event.Retire m.0) c.turn-turn.result.kept c.retire_each.new.board c.turns_rest_on_these.ensures c.turn-turn.ensures.turn c.done.ensures.given c.requires.listener.number m.1
     c.show.ensures.state c.show-2.ensures.state)
     ∙ c.retire_each.ensures.all k
+
+pub returns-clause-sound : goal.returns-clause-sound
+returns-clause-sound g c =
+    let m = c.retire_each.ensures.retired in
+    subst IsSound
+    (sym (state_left _ _ _ 0 (map event.Retire m.0) c.turn-turn.result.kept c.retire_each.new.board c.turns_rest_on_these.ensures c.turn-turn.ensures.turn c.done.ensures.given c.requires.listener.number m.1
+    c.show.ensures.state c.show-2.ensures.state))
+    c.show-2.ensures.sound

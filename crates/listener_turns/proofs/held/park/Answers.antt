@@ -4,7 +4,7 @@ use Rattle.board_turns.proofs.FoundLemmas.{pass_as, row_as}
 use Rattle.board_turns.proofs.GoesOnLemmas.{changed, may_change}
 use Rattle.board_turns.proofs.ThenLemmas.{listener_then}
 use Rattle.board_turns.proofs.TurnLemmas.{parked_turn, unparked_turn, unparked_why}
-use Rattle.listener_turns.proofs.HeldLemmas.{parks_held, parks_none}
+use Rattle.listener_turns.proofs.HeldLemmas.{parks_held, parks_none, parks_stays}
 use Rattle.listener_turns.proofs.ListenerLemmas.{own_edition, waits_here}
 use Rattle.listener_turns.proofs.held.park.Goals as goal
 
@@ -86,3 +86,9 @@ returns-clause-held g c =
     let q = c.park-parked in
     parks_held g.N.Known.known _ _ _ c.turn-turn.result.kept q.new.self c.args.conn q.result c.turns_rest_on_these.ensures c.turn-turn.ensures.turn c.done.ensures.given
     q.ensures.err q.ensures.back c.show.ensures.state c.show.ensures.sound c.requires.holds
+
+pub returns-clause-stays : goal.returns-clause-stays
+returns-clause-stays g c =
+    let q = c.park-parked in
+    parks_stays g.N.Known.known _ _ _ c.turn-turn.result.kept q.new.self c.args.conn q.result c.turns_rest_on_these.ensures c.turn-turn.ensures.turn
+    c.done.ensures.given q.ensures.err c.show.ensures.state c.requires.holds
