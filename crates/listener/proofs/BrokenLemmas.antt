@@ -8,7 +8,7 @@ use Rattle.worker_group.specs.declared.service.Exit.TheVariants as exit
 use Rattle.worker_group.specs.Acts.{Acts, ActsInSteps}
 use Rattle.worker_group.specs.Service.{give_up_events}
 use Rattle.rounds.specs.ClosingInside.{GivesUpDrained, lingering_give_up_events}
-use Rattle.listener.specs.RoundInside.{ChangesNothing, EndsRound, GivesUpTaken}
+use Rattle.listener_round.specs.RoundInside.{ChangesNothing, EndsRound, GivesUpTaken}
 use Rattle.listener.proofs.EventLemmas.{AreSilent, silent-held, silent-none, silent-taken}
 
 -- events none of which ticks, and nothing else

@@ -31,30 +31,19 @@ use Rattle.rounds.specs.Moments.{moment_for}
 use Rattle.rounds.specs.PartsInside.{GoesDown, ServesSome, StartsSome, halt_events, halts_for}
 use Rattle.run_report.specs.Endings.{HasEndedGracefully}
 use Rattle.listener.specs.Counted.{AsksOnce, CountsBut, CountsRun, stops_at}
-use Rattle.listener.specs.CountedInside.{ClocksAt, ClocksOn, CountsBroken, CountsOn, CountsSo, CountsToEnd, CountsUntil, IsAtClock, KeepsClockFrom, MovesClock, TurnsCount}
-use Rattle.listener.specs.FirstNumbersInside.{opened_book}
+use Rattle.listener.specs.CountedInside.{ClocksAt, ClocksOn, CountsToEnd, IsAtClock, KeepsClockFrom, MovesClock, TurnsCount}
+use Rattle.listener_round.specs.CountedInside.{CountsBroken, CountsOn, CountsSo, CountsUntil}
+use Rattle.listener_round.specs.FirstNumbersInside.{opened_book}
 use Rattle.listener.specs.FoldsInside.{ListensOn}
 use Rattle.listener.specs.ListenInside.{TurnsEnd}
-use Rattle.listener.specs.StandingInside.{owed_at}
-use Rattle.listener.specs.declared.run_numbers.RunNumbers.{RunNumbers}
+use Rattle.listener_round.specs.StandingInside.{owed_at}
+use Rattle.listener_round.specs.declared.run_numbers.RunNumbers.{RunNumbers}
 use Rattle.rounds.proofs.AddedLemmas.{added-events, events_in}
 use Rattle.rounds.proofs.PassLemmas.{serves-acts}
-use Rattle.listener.proofs.CommandlessLemmas.{AreCommandless, commandless-gone, commandless-retires, commandless-served, commandless-starts, orders-added, orders-kept}
-use Rattle.listener.proofs.CountedLemmas.{CountsAlike, counts-alike, counts-more, just-as, just-none, same-counts}
-use Rattle.listener.proofs.PartLemmas.{ActsOrderless}
+use Rattle.listener_round.proofs.CommandlessLemmas.{AreCommandless, commandless-gone, commandless-retires, commandless-served, commandless-starts, orders-added, orders-kept}
+use Rattle.listener_round.proofs.CountedLemmas.{CountsAlike, counts-more, just-as, just-none}
 
 -- ## The parts of turns
-
--- where nothing was ordered
-pub alike-orderless : (a b : SeenBook) → ActsOrderless a b → b.state.going ≡ a.state.going → b.state.accepted ≡ a.state.accepted → CountsAlike a b
-alike-orderless a b acts going accepted =
-    record { orders = orders-kept 0 acts.events None a b acts.acts acts.none; going = going; accepted = accepted }
-
--- so the front counted on where it counted nothing
-pub counts-orderless : (old new : FrontCounts) (a b : SeenBook) → new ≡ old → ActsOrderless a b → b.state.going ≡ a.state.going
-    → b.state.accepted ≡ a.state.accepted → CountsOn 0 old new a b
-counts-orderless old new a b same acts going accepted =
-    counts-alike old new a b (same-counts old new same) (alike-orderless a b acts going accepted)
 
 -- at the start
 pub alike-started : (a b : SeenBook) → StartsSome a b → LeavesRest a b → CountsAlike a b
@@ -223,13 +212,6 @@ gives-none (Err fault) from old new a b going counts so serves halts =
     ]
 
 -- ## The clock
-
--- a moment that stayed, or passed, is not behind the greater one
-pub moment-stays : (s s' : State) (to : ℕ) → s'.moment ≡ s.moment → s'.moment ≤ max s.moment to
-moment-stays s s' to same = omega (arith, same)
-
-pub moment-passed : (s s' : State) (to : ℕ) → s'.moment ≡ max s.moment to → s'.moment ≤ max s.moment to
-moment-passed s s' to passed = omega (arith, passed)
 
 -- the moment behind a wait goes on with the clock
 pub clock-on : (answer : Woke) (present old new m : ℕ) (s s' : State) → MovesClock answer present old new m → present ≡ s.moment

@@ -12,11 +12,11 @@ use Rattle.rounds.specs.EndsInside.{HaltsAs}
 use Rattle.rounds.specs.PartsInside.{GoesDown}
 use Rattle.rounds.specs.declared.ends.End.{End}
 use Rattle.rounds.specs.declared.ends.End.TheVariants as end
-use Rattle.listener.specs.Heard.{AreReadInPlace, Heard}
-use Rattle.listener.specs.Pace.{AreMadeOf, AreSharesOf, AreSharesOfAll, Brought, IsCutShort, KeepsPace, Share, answers_in, brought, made_from, made_of, moment_behind, moved, ordered, progress_at, signalled, taken, ticked, ticks_by}
-use Rattle.listener.specs.ShareInside.{TurnsMake}
-use Rattle.listener.specs.Times.{answers_of}
-use Rattle.listener.proofs.BroughtLemmas.{brings-halts, brings-retires, brought-as, brought-kept, moves-both, stopped_by, unbrought-gone}
+use Rattle.listener_round.specs.Heard.{AreReadInPlace, Heard}
+use Rattle.listener_round.specs.Pace.{AreMadeOf, AreSharesOf, AreSharesOfAll, Brought, IsCutShort, KeepsPace, Share, answers_in, brought, made_from, made_of, moment_behind, moved, ordered, progress_at, signalled, taken, ticked, ticks_by}
+use Rattle.listener.specs.TurnsInside.{TurnsMake}
+use Rattle.listener_round.specs.Times.{answers_of}
+use Rattle.listener_round.proofs.BroughtLemmas.{brings-halts, brings-retires, brought-as, brought-kept, moves-both, stopped_by, unbrought-gone}
 use Rattle.listener.proofs.FrontCallLemmas.{left_front}
 use Rattle.listener.proofs.PlacedLemmas.{behind-moved, behind-none}
 use Rattle.listener.proofs.ShareLemmas.{answers-more, made-more, shares-moved}

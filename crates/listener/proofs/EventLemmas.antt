@@ -16,7 +16,7 @@ use Rattle.rounds.specs.declared.ends.End.{End}
 use Rattle.rounds.specs.EndsInside.{why_of}
 use Rattle.rounds.specs.ClosingInside.{Departure, departure_events, lingering_give_up_events}
 use Rattle.rounds.specs.PartsInside.{Departures, gone_events, departures_events, halt_events, halts_for, time_events}
-use Rattle.listener.specs.RoundInside.{Round, Intake, round_events, intake_events}
+use Rattle.listener_round.specs.RoundInside.{Round, Intake, round_events, intake_events}
 
 -- ## Ticks
 

@@ -11,11 +11,11 @@ use Rattle.conn_state.specs.Known.{KnownOutside}
 use Rattle.board.specs.Board.{AreClosed, SeenBoard}
 use Rattle.board_book.specs.Book.{folded_book}
 use Rattle.board.specs.ReportLine.{line_of}
-use Rattle.listener.specs.FirstNumbers.{folded_by, opened_by}
+use Rattle.listener_round.specs.FirstNumbers.{folded_by, opened_by}
 use Rattle.listener.specs.FoldsInside.{FoldsJoin, ShowsForFolds}
-use Rattle.listener.specs.Listen.{HasFolded}
+use Rattle.listener_round.specs.Folded.{HasFolded}
 use Rattle.rounds.specs.Timely.{AreTimely, IsTimely}
-use Rattle.listener.specs.declared.run_numbers.RunNumbers.{RunNumbers}
+use Rattle.listener_round.specs.declared.run_numbers.RunNumbers.{RunNumbers}
 use Rattle.rounds.proofs.TimelyLemmas.{all-both}
 
 -- ## What was folded, and what is kept

@@ -7,10 +7,11 @@ use Rattle.board_book.specs.Finds.{next_deadline_of}
 use Rattle.worker_group.specs.Service.{IsUp}
 use Rattle.rounds.specs.declared.ends.Rest.{Rest}
 use Rattle.listener.specs.FoldsInside.{ListensOn}
-use Rattle.listener.specs.ListenInside.{IsAtStart, IsInStep, TookAll}
+use Rattle.listener.specs.ListenInside.{IsAtStart}
+use Rattle.listener_round.specs.FrontInside.{IsInStep, TookAll}
 use Rattle.rounds.specs.AtRest.{IsAtRest}
 use Rattle.rounds.specs.TableInside.{StandsInTime}
-use Rattle.listener.specs.StandingInside.{IsOpenedBy, KnowsLater}
+use Rattle.listener_round.specs.StandingInside.{IsOpenedBy, KnowsLater}
 use Rattle.listener.specs.TurnsInside.{SeenListener}
 use Rattle.listener.proofs.OverLemmas.{IsBeforeTurn}
 use Rattle.listener.proofs.PaceLemmas.{GoesAbreast, HasPatience, Rests}

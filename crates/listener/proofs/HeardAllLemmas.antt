@@ -9,18 +9,19 @@ use Rattle.mpm_base.specs.declared.front.Woke.{Woke}
 use Rattle.conn_machine.specs.declared.event.Entry.{Entry}
 use Rattle.conn_machine.specs.declared.state.State.{State}
 use Rattle.conn_machine.specs.Events.{count_events, is_order}
-use Rattle.listener.specs.FirstNumbers.{opened_by}
-use Rattle.listener.specs.Generations.{Opening}
-use Rattle.listener.specs.Heard.{AreReadAt, AreReadBehind, AreReadInPlace, AreToldBy, Heard, open_line_of, open_lines}
-use Rattle.listener.specs.HeardInside.{AreAllRead, GivesLast, HasHeard, HasHeardAll, HearsMore, KeepsHeard, ReadsAt, StaysHeard, Unanswered, WritesOn, with_last}
-use Rattle.listener.specs.ListenInside.{OnlyReadsAndTakes}
-use Rattle.listener.specs.Pace.{AreSharesOf, Brought, Share, brought, made_from, moment_behind, moved, signalled, ticked, ticks_by}
-use Rattle.listener.specs.ShareInside.{ReadsFor}
-use Rattle.listener.specs.declared.run_numbers.RunNumbers.{RunNumbers}
-use Rattle.listener.proofs.HeardLineLemmas.{IsToldOn, has-later, heard-command, keeps-same}
-use Rattle.listener.proofs.OpenLemmas.{open-later}
-use Rattle.listener.proofs.PlacedLemmas.{AreWithin, behind-later, behind-more, within-answered}
-use Rattle.listener.proofs.WrittenLemmas.{writes-more, writes-none}
+use Rattle.listener_round.specs.FirstNumbers.{opened_by}
+use Rattle.listener_round.specs.Generations.{Opening}
+use Rattle.listener_round.specs.Heard.{AreReadAt, AreReadBehind, AreReadInPlace, AreToldBy, Heard, open_line_of, open_lines}
+use Rattle.listener_round.specs.HeardInside.{AreAllRead, GivesLast, HasHeard, HasHeardAll, HearsMore, KeepsHeard, ReadsAt, StaysHeard, Unanswered, WritesOn, with_last}
+use Rattle.listener_round.specs.FrontInside.{OnlyReadsAndTakes}
+use Rattle.listener_round.specs.Pace.{AreSharesOf, Brought, Share, brought, made_from, moment_behind, moved, signalled, ticked, ticks_by}
+use Rattle.listener_round.specs.ShareInside.{ReadsFor}
+use Rattle.listener_round.specs.declared.run_numbers.RunNumbers.{RunNumbers}
+use Rattle.listener_round.proofs.HeardLineLemmas.{IsToldOn, has-later, heard-command, keeps-same}
+use Rattle.listener_round.proofs.OpenLemmas.{open-later}
+use Rattle.listener_round.proofs.PlacedLemmas.{AreWithin, within-answered}
+use Rattle.listener.proofs.PlacedLemmas.{behind-later, behind-more}
+use Rattle.listener_round.proofs.WrittenLemmas.{writes-more, writes-none}
 
 -- ## The start
 

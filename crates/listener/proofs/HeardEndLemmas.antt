@@ -10,17 +10,17 @@ use Rattle.conn_machine.specs.Shown.{totals_of}
 use Rattle.command_answers.specs.Answers.{open_line}
 use Rattle.worker_group.specs.Acts.{events_of}
 use Rattle.rounds.specs.ClosedDown.{IsBrokenOff}
-use Rattle.listener.specs.FirstNumbers.{opened_by}
-use Rattle.listener.specs.Generations.{Opening}
-use Rattle.listener.specs.Heard.{AreAnswered, AreCounted, AreToldBy, Heard, NoneIsLeft, asks_for_state, open_lines}
-use Rattle.listener.specs.HeardInside.{AllAnswered, HasHeard, HasHeardAll, KeepsHeard, Unanswered, WritesOn, with_last}
-use Rattle.listener.specs.LineAnswers.{IsAnswerTo}
-use Rattle.listener.specs.Pace.{Share}
-use Rattle.listener.specs.declared.run_numbers.RunNumbers.{RunNumbers}
-use Rattle.listener.proofs.HeardLemmas.{answered-later}
-use Rattle.listener.proofs.HeardLineLemmas.{IsHeardOn, answered-line, counted-line, has-kept, told-on}
-use Rattle.listener.proofs.OpenLemmas.{open-later, open-snoc, state_text}
-use Rattle.listener.proofs.PlacedLemmas.{within-answered}
+use Rattle.listener_round.specs.FirstNumbers.{opened_by}
+use Rattle.listener_round.specs.Generations.{Opening}
+use Rattle.listener_round.specs.Heard.{AreAnswered, AreCounted, AreToldBy, Heard, NoneIsLeft, asks_for_state, open_lines}
+use Rattle.listener_round.specs.HeardInside.{AllAnswered, HasHeard, HasHeardAll, KeepsHeard, Unanswered, WritesOn, with_last}
+use Rattle.listener_round.specs.LineAnswers.{IsAnswerTo}
+use Rattle.listener_round.specs.Pace.{Share}
+use Rattle.listener_round.specs.declared.run_numbers.RunNumbers.{RunNumbers}
+use Rattle.listener_round.proofs.HeardLemmas.{answered-later}
+use Rattle.listener_round.proofs.HeardLineLemmas.{IsHeardOn, answered-line, counted-line, has-kept, told-on}
+use Rattle.listener_round.proofs.OpenLemmas.{open-later, open-snoc, state_text}
+use Rattle.listener_round.proofs.PlacedLemmas.{within-answered}
 
 -- ## What is left of each
 

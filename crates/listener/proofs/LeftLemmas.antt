@@ -18,18 +18,19 @@ use Rattle.conn_state.specs.Known.{KnownOutside}
 use Rattle.board_book.specs.Editions.{KeepsEditions}
 use Rattle.board.specs.Editions.{GenerationsKeepTheirEditions}
 use Rattle.listener.specs.Counted.{CountsRun, GivesNoEnding}
-use Rattle.listener.specs.HeardInside.{WritesOn}
+use Rattle.listener_round.specs.HeardInside.{WritesOn}
 use Rattle.listener.specs.RunsInside.{BacksWaits, HasRunBy, open_lines_of}
-use Rattle.listener.specs.FirstNumbers.{numbers_of}
-use Rattle.listener.specs.Generations.{Opening, renewed}
+use Rattle.listener_round.specs.FirstNumbers.{numbers_of}
+use Rattle.listener_round.specs.Generations.{Opening, renewed}
 use Rattle.listener.specs.Listen.{HasClosedAll, IsRunFrom}
-use Rattle.listener.specs.OrdersInside.{known_outside}
-use Rattle.listener.specs.Served.{all_ended, all_entries}
+use Rattle.listener_round.specs.OrdersInside.{known_outside}
+use Rattle.listener.specs.Served.{all_ended}
+use Rattle.listener_round.specs.Folded.{all_entries}
 use Rattle.listener.specs.Outside.{KeepsFront}
-use Rattle.listener.specs.Times.{IsInTime, waits_of}
+use Rattle.listener_round.specs.Times.{IsInTime, waits_of}
 use Rattle.listener.specs.TurnsInside.{HasStood, SeenListener}
-use Rattle.listener.specs.declared.run_numbers.RunNumbers.{RunNumbers}
-use Rattle.listener.specs.Stores.{IsRenewed, KeepsStore, RisesBy}
+use Rattle.listener_round.specs.declared.run_numbers.RunNumbers.{RunNumbers}
+use Rattle.listener_round.specs.Stores.{IsRenewed, KeepsStore, RisesBy}
 use Rattle.listener.proofs.ServedLemmas.{serves-editions}
 
 -- ## Why the server stopped

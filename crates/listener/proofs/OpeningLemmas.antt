@@ -5,16 +5,16 @@ use Rattle.mpm_base.specs.Store.{StoreSeen, StoreTold}
 use Rattle.conn_state.specs.Known.{KnownOutside}
 use Rattle.board_book.specs.Book.{SeenBook}
 use Rattle.board_book.specs.Editions.{orders_in}
-use Rattle.listener.specs.FirstNumbersInside.{AreNumbers, opened_book}
+use Rattle.listener_round.specs.FirstNumbersInside.{AreNumbers, opened_book}
 use Rattle.listener.specs.FoldsInside.{FoldsJoin}
-use Rattle.listener.specs.Generations.{Opening, known_edition, made_edition, renewed, head_limits_of}
-use Rattle.listener.specs.ListenInside.{IsKnownOfFront, clients_known}
-use Rattle.listener.specs.OrdersInside.{KnowsComing, ServesNewest, known_outside, opening_by}
-use Rattle.listener.specs.StandingInside.{StandsSo, later_edition, standing}
+use Rattle.listener_round.specs.Generations.{Opening, known_edition, made_edition, renewed, head_limits_of}
+use Rattle.listener_round.specs.FrontInside.{IsKnownOfFront, clients_known}
+use Rattle.listener_round.specs.OrdersInside.{KnowsComing, ServesNewest, known_outside, opening_by}
+use Rattle.listener_round.specs.StandingInside.{StandsSo, later_edition, standing}
 use Rattle.listener.specs.TurnsInside.{IsBegun, SeenListener}
-use Rattle.listener.specs.declared.edition.LoadedEdition.{LoadedEdition}
-use Rattle.listener.specs.declared.edition.NamedConfig.{NamedConfig}
-use Rattle.listener.specs.declared.run_numbers.RunNumbers.{RunNumbers}
+use Rattle.listener_round.specs.declared.edition.LoadedEdition.{LoadedEdition}
+use Rattle.listener_round.specs.declared.edition.NamedConfig.{NamedConfig}
+use Rattle.listener_round.specs.declared.run_numbers.RunNumbers.{RunNumbers}
 use Rattle.listener.proofs.StartedLemmas.{IsIdle, nothing-bound, opens, starts-opened, unused-opened}
 
 -- ## What the type knows

@@ -17,10 +17,11 @@ use Rattle.listener.specs.declared.listen.Pause.{Pause}
 use Rattle.rounds.specs.declared.ends.Rest.{Rest}
 use Rattle.rounds.specs.ClosedDown.{HasNoLive}
 use Rattle.rounds.specs.EndsInside.{is_at_end}
-use Rattle.listener.specs.ListenInside.{HandsOut, HandsOutEach, HasNoneToHeed, HasReadAll, HeedsUntil, IsAtStart, IsInStep, ListensAsServed, TakesInTo, TookAll, TurnsEnd}
+use Rattle.listener_round.specs.FrontInside.{HandsOut, HasNoneToHeed, HasReadAll, IsInStep, ListensAsServed, TakesInTo, TookAll}
+use Rattle.listener.specs.ListenInside.{HandsOutEach, HeedsUntil, IsAtStart, TurnsEnd}
 use Rattle.rounds.specs.TableInside.{IsRestful}
 use Rattle.rounds.specs.Timely.{is_at_its_end}
-use Rattle.listener.specs.RoundInside.{GoesRound}
+use Rattle.listener_round.specs.RoundInside.{GoesRound}
 use Rattle.rounds.specs.PartsInside.{StartsSome}
 use Rattle.listener.specs.Stops.{HasGivenAll}
 use Rattle.listener.specs.TurnsInside.{AreOver, SeenListener}
@@ -29,8 +30,9 @@ use Rattle.rounds.proofs.ClosingLemmas.{GoesOnFrom}
 use Rattle.rounds.proofs.TimelyLemmas.{not-at_end}
 use Rattle.listener.proofs.CommandLemmas.{heeded-wait, heeds-asked, heeds-ended, heeds-failed, heeds-gone, heeds-none, heeds-overdue}
 use Rattle.run_report.proofs.CountLemmas.{rises-behind}
-use Rattle.listener.proofs.FrontLemmas.{all-taken, each-handed, failed-last, only-takes, step-listens, takes-same}
-use Rattle.listener.proofs.LinkLemmas.{hands-step}
+use Rattle.listener.proofs.FrontLemmas.{all-taken, each-handed, failed-last}
+use Rattle.listener_round.proofs.FrontLemmas.{only-takes, step-listens, takes-same}
+use Rattle.listener_round.proofs.LinkLemmas.{hands-step}
 use Rattle.listener.proofs.PaceLemmas.{GoesAbreast, HasPatience, IsAfter, abreast-round, pace-broken, pace-round, pace-served, pace-started, pace-timed, patience-started, patience-waited, served-patience}
 use Rattle.listener.proofs.TurnLemmas.{HasBrokenOff, HasGoneRound, HasKept, HasServedRows, IsBetween, between-round, between-served, did-broken, did-some, kept-round, kept-waited, waited-in_step}
 use Rattle.listener.proofs.WaitLemmas.{HasWaited, idle-wait}

@@ -24,12 +24,13 @@ use Rattle.worker_group.specs.Acts.{Acts, ActsInSteps}
 use Rattle.rounds.specs.declared.ends.End.{End}
 use Rattle.listener.specs.declared.listen.Pause.{Pause}
 use Rattle.rounds.specs.declared.ends.Rest.{Rest}
-use Rattle.listener.specs.ListenInside.{HasReadAll, IsAtStart, IsInStep, KeepsStep, OnlyReadsAndTakes, TookAll}
+use Rattle.listener_round.specs.FrontInside.{HasReadAll, IsInStep, KeepsStep, OnlyReadsAndTakes, TookAll}
+use Rattle.listener.specs.ListenInside.{IsAtStart}
 use Rattle.rounds.specs.TableInside.{IsRestful, NoneOverdue}
 use Rattle.listener.specs.Patient.{ArePatient, IsPatientRun, IsSteady, PassesPatiently}
 use Rattle.rounds.specs.AtRest.{IsAtRest}
 use Rattle.rounds.specs.PartsInside.{AreServed, GoesDown, PassesTime, StartsSome}
-use Rattle.listener.specs.RoundInside.{BreaksOff, GoesRound, Round, round_events}
+use Rattle.listener_round.specs.RoundInside.{BreaksOff, GoesRound, Round, round_events}
 use Rattle.rounds.specs.Moments.{moment_for, ticks_to}
 use Rattle.listener.specs.TurnsInside.{SeenListener}
 use Rattle.listener.proofs.BrokenLemmas.{ends-silently}

@@ -23,7 +23,7 @@ use Rattle.listener.specs.ListenInside.{AsksFor}
 use Rattle.rounds.specs.TableInside.{NoneOverdue}
 use Rattle.rounds.specs.Timely.{AllAt}
 use Rattle.listener.specs.Patient.{ArePatient, IsPatientEvent, PassesPatiently}
-use Rattle.listener.specs.RoundInside.{Round, round_events, intake_events}
+use Rattle.listener_round.specs.RoundInside.{Round, round_events, intake_events}
 use Rattle.rounds.specs.PartsInside.{gone_events, departures_events}
 use Rattle.rounds.proofs.AddedLemmas.{added-events, events_in}
 use Rattle.listener.proofs.EventLemmas.{ticks_in, ticks-round}

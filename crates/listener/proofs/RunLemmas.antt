@@ -24,16 +24,17 @@ use Rattle.board_book.specs.Book.{SeenBook, folded_book}
 use Rattle.board.specs.Board.{SeenBoard, Agrees, AreEnded, EndedOfOutside}
 use Rattle.board.specs.Ranks.{AllTell, has_rank}
 use Rattle.board.specs.ReportLine.{line_of}
-use Rattle.listener.specs.Links.{EndsEachOnce, EndsLinks}
+use Rattle.listener_round.specs.Links.{EndsEachOnce, EndsLinks}
 use Rattle.listener.specs.Tells.{Receives, AllReceive}
-use Rattle.listener.specs.Commands.{TellsStop}
-use Rattle.listener.specs.FirstNumbers.{opened_by}
-use Rattle.listener.specs.declared.run_numbers.RunNumbers.{RunNumbers}
-use Rattle.listener.specs.Listen.{HasClosedAll, HasFolded, IsRunFrom}
+use Rattle.listener_round.specs.Commands.{TellsStop}
+use Rattle.listener_round.specs.FirstNumbers.{opened_by}
+use Rattle.listener_round.specs.declared.run_numbers.RunNumbers.{RunNumbers}
+use Rattle.listener.specs.Listen.{HasClosedAll, IsRunFrom}
+use Rattle.listener_round.specs.Folded.{HasFolded, whole_book}
 use Rattle.rounds.specs.ClosedDown.{HasNoLive, IsClosedDown}
-use Rattle.listener.specs.ListenInside.{clients_known}
+use Rattle.listener_round.specs.FrontInside.{clients_known}
 use Rattle.rounds.specs.Timely.{AreTimely}
-use Rattle.listener.specs.Served.{all_ended, whole_book}
+use Rattle.listener.specs.Served.{all_ended}
 
 -- ## The history
 

@@ -22,13 +22,13 @@ use Rattle.board_book.specs.Book.{SeenBook}
 use Rattle.board_book.specs.Editions.{KeepsEditions}
 use Rattle.board.specs.Editions.{GenerationsKeepTheirEditions}
 use Rattle.board.specs.ReportLine.{line_of}
-use Rattle.listener.specs.FirstNumbers.{folded_by, opened_by}
-use Rattle.listener.specs.Generations.{Opening, config_among, config_at, known_edition, known_editions, made_edition, renewed}
-use Rattle.listener.specs.Listen.{HasFolded}
-use Rattle.listener.specs.Orders.{AreOrdered, HasNoConfig, HasNoSite, IsDoneBy, IsOrdered, IsRefusedAs, MakesSite, edition_with, ending_by, orders_with, shape_by}
-use Rattle.listener.specs.OrdersInside.{known_outside}
-use Rattle.listener.specs.Served.{AreServedIn, ServesByEditions, all_entries, whole_book}
-use Rattle.listener.specs.declared.run_numbers.RunNumbers.{RunNumbers}
+use Rattle.listener_round.specs.FirstNumbers.{folded_by, opened_by}
+use Rattle.listener_round.specs.Generations.{Opening, config_among, config_at, known_edition, known_editions, made_edition, renewed}
+use Rattle.listener_round.specs.Folded.{HasFolded, all_entries, whole_book}
+use Rattle.listener_round.specs.Orders.{AreOrdered, HasNoConfig, HasNoSite, IsDoneBy, IsOrdered, IsRefusedAs, MakesSite, edition_with, ending_by, orders_with, shape_by}
+use Rattle.listener_round.specs.OrdersInside.{known_outside}
+use Rattle.listener.specs.Served.{AreServedIn, ServesByEditions}
+use Rattle.listener_round.specs.declared.run_numbers.RunNumbers.{RunNumbers}
 
 -- ## Each connection that ended
 

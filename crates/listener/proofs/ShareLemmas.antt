@@ -1,13 +1,13 @@
 -- What comes with one wait more.
-use Rattle.std.proofs.Common.{◌≡◌, ◌<◌, ◌≤◌, ◌+◌, ◌-◌, ℕ, zero, suc, List, [], ◌∷◌, ◌++◌, drop, length, take, refl, sym, ap, subst, ◌∙◌, append-nil, append_assoc, arith}
+use Rattle.std.proofs.Common.{◌≡◌, ◌<◌, ◌≤◌, ◌+◌, ◌-◌, ℕ, List, [], ◌∷◌, ◌++◌, drop, length, take, refl, sym, ap, subst, ◌∙◌, append-nil, append_assoc, arith}
 use Rattle.std.proofs.lemmas.Grind.{flat_map-append}
-use Rattle.std.proofs.lemmas.List.{drop-append-le, drop-take, length-drop, take-append-drop, take-append-le}
+use Rattle.std.proofs.lemmas.List.{drop-append-le, length-drop, take-append-le}
 use Rattle.std.specs.Prelude.{⊤}
 use Rattle.std.specs.List.{list_any}
 use Rattle.mpm_base.specs.Count.{greatest_count}
 use Rattle.mpm_base.specs.Front.{FrontTold, Progress, WaitTold, progress_of}
-use Rattle.listener.specs.Commands.{asked_by, asks_to_end}
-use Rattle.listener.specs.Pace.{AreSharesOf, Brought, IsShareOf, Share, answer_if, answers_in, lines_between, made_from, made_of, moment_behind, moment_by, progress_at}
+use Rattle.listener_round.specs.Commands.{asked_by, asks_to_end}
+use Rattle.listener_round.specs.Pace.{AreSharesOf, Brought, IsShareOf, Share, answer_if, answers_in, lines_between, made_from, made_of, moment_behind, moment_by, progress_at}
 
 -- ## What is made of shares
 
@@ -34,28 +34,6 @@ pub between-kept : (lines come : List (List ℕ)) (from to : ℕ) → from ≤ l
 between-kept lines come from to first within =
     ap (take (to - from)) (drop-append-le from lines come first)
     ∙ take-append-le (to - from) (drop from lines) come (omega (arith, length-drop from lines))
-
-take-shorter : (i j : ℕ) (xs : List (List ℕ)) → i ≤ j → take i (take j xs) ≡ take i xs
-take-shorter zero j xs within = refl
-take-shorter (suc i) zero xs within = absurd (omega (arith, within))
-take-shorter (suc i) (suc j) [] within = refl
-take-shorter (suc i) (suc j) (x ∷ xs) within = ap (λ (zs : List (List ℕ)). x ∷ zs) (take-shorter i j xs (omega (arith, within)))
-
--- the first lines, and those between, are the first up to there
-pub first-both : (lines : List (List ℕ)) (from to : ℕ) → from ≤ to → take to lines ≡ take from lines ++ lines_between lines from to
-first-both lines from to order =
-    let up : to ≡ from + (to - from) = omega arith in
-    let parts : take from (take to lines) ++ drop from (take to lines) ≡ take to lines = take-append-drop from (take to lines) in
-    sym parts
-    ∙ ap (λ (zs : List (List ℕ)). zs ++ drop from (take to lines)) (take-shorter from to lines order)
-    ∙ ap (λ (n : ℕ). take from lines ++ drop from (take n lines)) up
-    ∙ ap (λ (zs : List (List ℕ)). take from lines ++ zs) (drop-take from (to - from) lines)
-
--- one line more
-pub between-none : (lines : List (List ℕ)) (from : ℕ) → lines_between lines from from ≡ []
-between-none lines from =
-    let none : from - from ≡ 0 = omega arith in
-    ap (λ (n : ℕ). take n (drop from lines)) none
 
 -- ## What a share is of
 

@@ -8,14 +8,13 @@ use Rattle.board_book.specs.Book.{SeenBook, folded_book}
 use Rattle.board_book.specs.Editions.{KeepsEditions}
 use Rattle.board.specs.Editions.{GenerationsKeepTheirEditions}
 use Rattle.board.specs.ReportLine.{line_of}
-use Rattle.listener.specs.FirstNumbers.{opened_by}
+use Rattle.listener_round.specs.FirstNumbers.{opened_by}
 use Rattle.listener.specs.FoldsInside.{FoldsJoin, ShowsForFolds}
-use Rattle.listener.specs.Listen.{HasFolded}
-use Rattle.listener.specs.Served.{whole_book}
-use Rattle.listener.specs.StandingInside.{Past, StandsOverFold, standing}
-use Rattle.listener.specs.declared.run_numbers.RunNumbers.{RunNumbers}
+use Rattle.listener_round.specs.Folded.{HasFolded, whole_book}
+use Rattle.listener_round.specs.StandingInside.{Past, StandsOverFold, standing}
+use Rattle.listener_round.specs.declared.run_numbers.RunNumbers.{RunNumbers}
 use Rattle.listener.proofs.FoldedRunLemmas.{has-joined}
-use Rattle.listener.proofs.StandingLemmas.{KeepsPast, keeps-plain, same-lines, stands-past}
+use Rattle.listener_round.proofs.StandingLemmas.{KeepsPast, keeps-plain, same-lines, stands-past}
 
 -- connections that ended stay of the outside in a book that keeps the editions
 abbrev pub OutsideStays : Type 0

@@ -12,19 +12,21 @@ use Rattle.conn_machine.specs.Children.{no_child}
 use Rattle.conn_machine.specs.declared.event.Entry.{Entry}
 use Rattle.conn_state.specs.Answered.{SeenEnded}
 use Rattle.board_book.specs.Book.{SeenBook}
-use Rattle.listener.specs.Commands.{HeedsLines, NoneStops}
-use Rattle.listener.specs.FirstNumbersInside.{AreNumbers, opened_book}
-use Rattle.listener.specs.Links.{EndsLinks, TakesLinks}
-use Rattle.listener.specs.ListenInside.{Follows, HasNoneToHeed, HasNotBegun, HasStopped, IsAtStart, IsInStep, WatchesAll, contacts, contacts_of}
-use Rattle.listener.specs.Outside.{clients_told, KeepsFront}
+use Rattle.listener_round.specs.Commands.{HeedsLines, NoneStops}
+use Rattle.listener_round.specs.FirstNumbersInside.{AreNumbers, opened_book}
+use Rattle.listener_round.specs.Links.{EndsLinks, TakesLinks}
+use Rattle.listener_round.specs.FrontInside.{Follows, HasNoneToHeed, IsInStep, WatchesAll}
+use Rattle.listener.specs.ListenInside.{HasNotBegun, HasStopped, IsAtStart, contacts, contacts_of}
+use Rattle.listener_round.specs.Clients.{clients_told}
+use Rattle.listener.specs.Outside.{KeepsFront}
 use Rattle.listener.specs.Patient.{HasNothingCome}
 use Rattle.rounds.specs.Timely.{AreTimely}
 use Rattle.listener.specs.StartedFirst.{IsStartedFirst}
 use Rattle.listener.specs.Stops.{TakesEach}
 use Rattle.listener.specs.Tells.{AllReceive}
-use Rattle.listener.specs.Times.{IsInTime, waits_of}
-use Rattle.listener.specs.Watched.{IsBoundOnce, IsHushed, IsOpenedAndHushed}
-use Rattle.listener.specs.declared.run_numbers.RunNumbers.{RunNumbers}
+use Rattle.listener_round.specs.Times.{IsInTime, waits_of}
+use Rattle.listener_round.specs.Watched.{IsBoundOnce, IsHushed, IsOpenedAndHushed}
+use Rattle.listener_round.specs.declared.run_numbers.RunNumbers.{RunNumbers}
 use Rattle.run_report.proofs.CountLemmas.{rises-behind}
 
 -- nothing was asked of the front but to be bound, and nothing of the clock

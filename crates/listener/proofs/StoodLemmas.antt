@@ -27,47 +27,50 @@ use Rattle.board_book.specs.declared.faults.BoardFault.{BoardFault}
 use Rattle.board_book.specs.Book.{SeenBook}
 use Rattle.rounds.specs.declared.ends.End.{End}
 use Rattle.rounds.specs.declared.ends.End.TheVariants as end
-use Rattle.listener.specs.Commands.{is_by_line, is_graceful_stop, stop_line}
+use Rattle.listener_round.specs.Commands.{is_by_line, is_graceful_stop, stop_line}
 use Rattle.command_answers.specs.Answers.{stopping_answer}
 use Rattle.mpm_base.specs.declared.given_words.GivenWords.{GivenWords}
 use Rattle.listener.specs.Counted.{CountsBut}
 use Rattle.listener.specs.CountedInside.{TurnsCount}
-use Rattle.listener.specs.FirstNumbers.{opened_by}
-use Rattle.listener.specs.Generations.{Opening}
-use Rattle.listener.specs.Heard.{AreAnswered, AreReadInPlace, Heard, open_lines}
-use Rattle.listener.specs.HeardInside.{AsksForNoState, HasHeardAll, HasHeardIn, Unanswered, WritesOn, never_answered, stop_unanswered, with_last}
-use Rattle.listener.specs.LineAnswers.IsAnswerTo.{stops}
-use Rattle.listener.specs.ListenInside.{AnswersStop, HandsOutEach, TurnsEnd, WatchesAll}
+use Rattle.listener_round.specs.FirstNumbers.{opened_by}
+use Rattle.listener_round.specs.Generations.{Opening}
+use Rattle.listener_round.specs.Heard.{AreAnswered, AreReadInPlace, Heard, open_lines}
+use Rattle.listener_round.specs.HeardInside.{AsksForNoState, HasHeardAll, HasHeardIn, Unanswered, WritesOn, never_answered, stop_unanswered, with_last}
+use Rattle.listener_round.specs.LineAnswers.IsAnswerTo.{stops}
+use Rattle.listener.specs.ListenInside.{AnswersStop, HandsOutEach, TurnsEnd}
+use Rattle.listener_round.specs.FrontInside.{WatchesAll}
 use Rattle.rounds.specs.EndsInside.{HaltsAs, IsAllGone, why_of}
-use Rattle.listener.specs.Orders.{AreOrdered, IsOrdered}
+use Rattle.listener_round.specs.Orders.{AreOrdered, IsOrdered}
 use Rattle.rounds.specs.PartsInside.{GoesDown, halt_events, halts_for}
-use Rattle.listener.specs.StandingInside.{EndsAsBegun, Past, entries_behind, newest_edition, owed_behind, spare_behind}
-use Rattle.listener.specs.Pace.{Brought, Share, brought, moved, ordered}
+use Rattle.listener_round.specs.StandingInside.{EndsAsBegun, Past, entries_behind, newest_edition, owed_behind, spare_behind}
+use Rattle.listener_round.specs.Pace.{Brought, Share, brought, moved, ordered}
 use Rattle.listener.specs.Patient.{IsPatientEvent, IsPatientRun}
 use Rattle.listener.specs.StartedFirst.{IsStartedFirst, first_children}
 use Rattle.listener.specs.TurnsInside.{HasStood, HasTurned, KeepsUp, SeenListener}
 use Rattle.worker_group.specs.Acts.{Acts, events_of}
 use Rattle.listener.specs.Stops.{TakesEach}
-use Rattle.listener.specs.Stores.{IsRenewed, KeepsStore, RisesBy, is_store_refusal}
+use Rattle.listener_round.specs.Stores.{IsRenewed, KeepsStore, RisesBy, is_store_refusal}
 use Rattle.rounds.specs.ClosedDown.{IsBrokenOff}
-use Rattle.listener.specs.declared.run_numbers.RunNumbers.{RunNumbers}
+use Rattle.listener_round.specs.declared.run_numbers.RunNumbers.{RunNumbers}
 use Rattle.rounds.proofs.AddedLemmas.{added-events, events_in}
-use Rattle.listener.proofs.CommandlessLemmas.{commandless-added, commandless-gone, commandless-retires}
-use Rattle.listener.proofs.StandingLemmas.{KeepsPast, counted-both, entries-acts, folded-acts, keeps-plain, ordered-both, orders_behind, rises-more}
+use Rattle.listener_round.proofs.CommandlessLemmas.{commandless-added, commandless-gone, commandless-retires}
+use Rattle.listener_round.proofs.StandingLemmas.{KeepsPast, counted-both, entries-acts, folded-acts, keeps-plain, ordered-both, orders_behind, rises-more}
 use Rattle.rounds.proofs.TimelyLemmas.{all-both}
-use Rattle.listener.proofs.BroughtLemmas.{brought-behind, stopped_by}
+use Rattle.listener_round.proofs.BroughtLemmas.{brought-behind, stopped_by}
 use Rattle.listener.proofs.CountedEndLemmas.{gives-none}
 use Rattle.listener.proofs.DownPaceLemmas.{PacesLines, down-brings, pace-down}
 use Rattle.listener.proofs.EventLemmas.{silent-gone, silent-halts, silent-retires, ticks_in}
 use Rattle.listener.proofs.FrontCallLemmas.{left-counts, left-so, left_front}
 use Rattle.listener.proofs.HeardEndLemmas.{LeavesLast, LinesLeft, lines-left}
-use Rattle.listener.proofs.HeardLemmas.{events-append}
-use Rattle.listener.proofs.HeardLineLemmas.{heard-answer, heard-command, heard-may, keeps-hushed}
-use Rattle.listener.proofs.HearsLemmas.{acts-events}
+use Rattle.listener_round.proofs.HeardLemmas.{events-append}
+use Rattle.listener_round.proofs.HeardLineLemmas.{heard-answer, heard-command, heard-may, keeps-hushed}
+use Rattle.listener_round.proofs.HearsLemmas.{acts-events}
 use Rattle.listener.proofs.PaceLemmas.{unhushed}
-use Rattle.listener.proofs.PlacedLemmas.{AreWithin, behind-later, within-answered, within-both}
+use Rattle.listener_round.proofs.PlacedLemmas.{AreWithin, within-answered}
+use Rattle.listener.proofs.PlacedLemmas.{behind-later, within-both}
 use Rattle.listener.proofs.PatientLemmas.{patient-tickless}
-use Rattle.listener.proofs.WatchLemmas.{nobody-down, watched-as, watched-left}
+use Rattle.listener.proofs.WatchLemmas.{nobody-down, watched-left}
+use Rattle.listener_round.proofs.WatchLemmas.{watched-as}
 use Rattle.listener.proofs.WholeLemmas.{begins-behind}
 
 -- ## What stopping the server adds

@@ -11,11 +11,11 @@ use Rattle.board_book.specs.declared.faults.BoardFault.{BoardFault}
 use Rattle.board_book.specs.Book.{SeenBook}
 use Rattle.rounds.specs.declared.ends.End.{End}
 use Rattle.rounds.specs.declared.ends.End.TheVariants as end
-use Rattle.listener.specs.Commands.{HeedsLines}
-use Rattle.listener.specs.Links.{TakesLinks}
+use Rattle.listener_round.specs.Commands.{HeedsLines}
+use Rattle.listener_round.specs.Links.{TakesLinks}
 use Rattle.listener.specs.ListenInside.{AnswersStop, HandedOut, HasStopped, TurnsEnd}
 use Rattle.listener.specs.Stops.{HasFailedLast, HasGivenAll, StoppedFor}
-use Rattle.listener.specs.Watched.{IsHushed}
+use Rattle.listener_round.specs.Watched.{IsHushed}
 use Rattle.rounds.specs.EndsInside.{MustHalt}
 use Rattle.rounds.specs.PartsInside.{GoesDown}
 use Rattle.listener.proofs.FrontCallLemmas.{failed-hushed, given-hushed, left-counts, left-told}

@@ -11,7 +11,7 @@ use Rattle.conn_machine.specs.Runs.{Run, after}
 use Rattle.conn_machine.specs.States.{is_halted}
 use Rattle.conn_machine.specs.Table.{is_allowed, next}
 use Rattle.board_book.specs.Book.{SeenBook}
-use Rattle.listener.specs.Commands.{TellsStop}
+use Rattle.listener_round.specs.Commands.{TellsStop}
 
 -- a server that stopped takes no command
 no-command : (stopped fits : Bool) → (not stopped && fits) ≡ true → stopped ≡ true → ⊥

@@ -4,7 +4,7 @@ use Rattle.conn_machine.specs.declared.event.Event.{Event}
 use Rattle.board_book.specs.Book.{SeenBook}
 use Rattle.worker_group.specs.Acts.{Acts}
 use Rattle.rounds.specs.PartsInside.{PassesTime, time_events}
-use Rattle.listener.specs.RoundInside.{Round, round_events}
+use Rattle.listener_round.specs.RoundInside.{Round, round_events}
 use Rattle.rounds.specs.Moments.{ticks_to}
 use Rattle.rounds.proofs.ActLemmas.{acts-spelled}
 

@@ -13,23 +13,25 @@ use Rattle.rounds.specs.declared.ends.End.{End}
 use Rattle.rounds.specs.declared.ends.End.TheVariants as end
 use Rattle.listener.specs.declared.listen.Pause.{Pause}
 use Rattle.rounds.specs.declared.ends.Rest.{Rest}
-use Rattle.listener.specs.ListenInside.{Follows, IsInStep, ListensAsServed, OnlyReadsAndTakes, StaysWatching, contacts_of}
-use Rattle.listener.specs.OrdersInside.{KnowsComing, ServesNewest}
-use Rattle.listener.specs.RoundInside.{BreaksOff, GoesRound, RoundEnds}
-use Rattle.listener.specs.ShareInside.{CutsShare, GoesOnInTime, HushesFor, MakesShare}
+use Rattle.listener_round.specs.FrontInside.{Follows, IsInStep, ListensAsServed, OnlyReadsAndTakes, StaysWatching}
+use Rattle.listener.specs.ListenInside.{contacts_of}
+use Rattle.listener_round.specs.OrdersInside.{KnowsComing, ServesNewest}
+use Rattle.listener_round.specs.RoundInside.{BreaksOff, GoesRound, RoundEnds}
+use Rattle.listener_round.specs.ShareInside.{CutsShare, GoesOnInTime, HushesFor, MakesShare}
 use Rattle.rounds.specs.PartsInside.{NoneHas, PassesTime, ServesSome, StaysTimely, StartsSome}
 use Rattle.rounds.specs.TableInside.{StandsInTime}
 use Rattle.rounds.specs.Timely.{AreTimely, is_at_its_end, is_staffed}
-use Rattle.listener.specs.HeardInside.{Hearing, Hears, HearsUntil, hearing, last_at, made_first}
-use Rattle.listener.specs.StandingInside.{StandsBroken, StandsOn, owed_at}
-use Rattle.listener.specs.Times.{IsInTime, waits_of}
+use Rattle.listener_round.specs.HeardInside.{Hearing, Hears, HearsUntil, hearing, last_at, made_first}
+use Rattle.listener_round.specs.StandingInside.{StandsBroken, StandsOn, owed_at}
+use Rattle.listener_round.specs.Times.{IsInTime, waits_of}
 use Rattle.listener.specs.TurnsInside.{InTime, SeenListener, stands_at}
 use Rattle.rounds.specs.Moments.{moment_for}
 use Rattle.rounds.proofs.AddedLemmas.{added-events}
 use Rattle.listener.proofs.BrokenLemmas.{ends-silently}
-use Rattle.listener.proofs.CommandlessLemmas.{AreCommandless, commandless-served, commandless-starts}
-use Rattle.listener.proofs.EditionLemmas.{coming-acts, newest-acts}
-use Rattle.listener.proofs.FrontLemmas.{contacts-kept, contacts-wait, follows-same, follows-trans, follows-wait, step-kept, step-wait, time-kept, time-wait, waits-after, waits-kept}
+use Rattle.listener_round.proofs.CommandlessLemmas.{AreCommandless, commandless-served, commandless-starts}
+use Rattle.listener_round.proofs.EditionLemmas.{coming-acts, newest-acts}
+use Rattle.listener.proofs.FrontLemmas.{contacts-kept, contacts-wait, follows-wait, step-wait, time-kept, time-wait, waits-after, waits-kept}
+use Rattle.listener_round.proofs.FrontLemmas.{follows-same, follows-trans, step-kept}
 use Rattle.rounds.proofs.PassLemmas.{serves-acts}
 use Rattle.rounds.proofs.ActLemmas.{none-has}
 use Rattle.rounds.proofs.TimelyLemmas.{still-in_time}

@@ -21,26 +21,27 @@ use Rattle.rounds.specs.TableInside.{asked_children}
 use Rattle.rounds.specs.Timely.{AllAt, AreTimely}
 use Rattle.conn_machine.specs.Table.{next}
 use Rattle.rounds.proofs.TimelyLemmas.{all-both}
-use Rattle.listener.specs.Commands.{asks_to_end}
-use Rattle.listener.specs.FirstNumbers.{opened_by}
-use Rattle.listener.specs.FirstNumbersInside.{opened_book}
+use Rattle.listener_round.specs.Commands.{asks_to_end}
+use Rattle.listener_round.specs.FirstNumbers.{opened_by}
+use Rattle.listener_round.specs.FirstNumbersInside.{opened_book}
 use Rattle.listener.specs.FoldsInside.{ListensOn}
-use Rattle.listener.specs.Generations.{Opening}
-use Rattle.listener.specs.HeardInside.{HasHeardAll}
-use Rattle.listener.specs.ListenInside.{HasNotBegun, StaysWatching, WatchesAll}
-use Rattle.listener.specs.Pace.{AreSharesOf, AreSharesOfAll, Brought, Share, answers_in, brought, made_from, moment_behind, moved, progress_at}
+use Rattle.listener_round.specs.Generations.{Opening}
+use Rattle.listener_round.specs.HeardInside.{HasHeardAll}
+use Rattle.listener.specs.ListenInside.{HasNotBegun}
+use Rattle.listener_round.specs.FrontInside.{StaysWatching, WatchesAll}
+use Rattle.listener_round.specs.Pace.{AreSharesOf, AreSharesOfAll, Brought, Share, answers_in, brought, made_from, moment_behind, moved, progress_at}
 use Rattle.listener.specs.Patient.{HasNothingCome, IsPatientEvent, IsPatientRun}
-use Rattle.listener.specs.StandingInside.{IsOpenedBy, Past, Standing, StandsFolded, StandsOn, StandsSo, entries_behind, standing}
+use Rattle.listener_round.specs.StandingInside.{IsOpenedBy, Past, StandsFolded, StandsOn, StandsSo, entries_behind, standing}
 use Rattle.listener.specs.StartedFirst.{IsStartedFirst, first_children}
-use Rattle.listener.specs.Times.{answers_of}
+use Rattle.listener_round.specs.Times.{answers_of}
 use Rattle.listener.specs.TurnsInside.{IsBegun, KeepsUp, SeenListener, stands_at}
-use Rattle.listener.specs.Watched.{AreClosedAtOnce, link_watched}
-use Rattle.listener.specs.declared.run_numbers.RunNumbers.{RunNumbers}
-use Rattle.listener.proofs.BroughtLemmas.{brings-starts, brought-as, brought-behind}
-use Rattle.listener.proofs.CommandlessLemmas.{commandless-added, commandless-starts}
+use Rattle.listener_round.specs.Watched.{AreClosedAtOnce, link_watched}
+use Rattle.listener_round.specs.declared.run_numbers.RunNumbers.{RunNumbers}
+use Rattle.listener_round.proofs.BroughtLemmas.{brings-starts, brought-as, brought-behind}
+use Rattle.listener_round.proofs.CommandlessLemmas.{commandless-added, commandless-starts}
 use Rattle.listener.proofs.HeardAllLemmas.{all-first, all-later}
 use Rattle.listener.proofs.ShareLemmas.{AreBegunBy}
-use Rattle.listener.proofs.StandingLemmas.{entries-acts, keeps-plain}
+use Rattle.listener_round.proofs.StandingLemmas.{entries-acts, keeps-plain, past-base}
 
 -- ## What holds on the way
 
@@ -135,11 +136,6 @@ patient-all : (o : Opening) (n : RunNumbers) (past : Past) (l : SeenListener) �
 patient-all o n past l base first second steady =
     all-both (IsPatientEvent steady.comings steady.front.waits) (opened_by n) past.entries l.board.book.history (first steady)
     (subst (λ (s : State). AllAt (IsPatientEvent steady.comings steady.front.waits) s l.board.book.history) base (second steady))
-
-pub past-base : (known : Option KnownOutside) (o : Opening) (n : RunNumbers) (past : Past) (spare owed : ℕ) (s : Standing)
-    → StandsSo known o n past spare owed s → s.book.base ≡ after (opened_by n) past.entries
-past-base known o n past spare owed s stands =
-    stands.folded.base_is ∙ ap (λ (p : Past). after (opened_by n) p.entries) (sym stands.past_is)
 
 pub keeps-up : (known : Option KnownOutside) (o : Opening) (n : RunNumbers) (past : Past) (spare owed : ℕ) (l : SeenListener) (whole : KeepsWhole known o n past spare owed l)
     → (IfSome o.front.told HasNothingCome → IsPatientRun l.front.told l.calls l.board.book.base l.board.book.history)

@@ -20,34 +20,35 @@ use Rattle.rounds.specs.Started.{BeginsWithStarts}
 use Rattle.rounds.specs.Timely.{AreTimely}
 use Rattle.listener.specs.StartedFirst.{IsStartedFirst, first_children}
 use Rattle.listener.specs.declared.listen.Pause.{Pause}
-use Rattle.listener.specs.declared.run_numbers.RunNumbers.{RunNumbers}
-use Rattle.listener.specs.FirstNumbers.{opened_by}
-use Rattle.listener.specs.Generations.{Opening}
-use Rattle.listener.specs.HeardInside.{HasHeard, HasHeardAll, HasHeardIn, Hears, HearsMore, Unanswered, last_at, made_first, never_answered}
-use Rattle.listener.specs.ListenInside.{HasNoneToHeed, HasNotBegun, IsAtStart, StaysWatching}
-use Rattle.listener.specs.Pace.{AreSharesOf, AreSharesOfAll, Brought, Share, answers_in, brought, made_from, made_of, moment_behind, moment_by, moved, ordered, signalled, ticked, ticks_by}
-use Rattle.listener.specs.ShareInside.{ComesWith, EndsUntaken, TurnsMake}
-use Rattle.listener.specs.Times.{answers_of}
-use Rattle.listener.specs.ListenInside.{WatchesAll}
-use Rattle.listener.specs.StandingInside.{IsOpenedBy, Past, entries_behind, owed_behind, spare_behind}
-use Rattle.listener.specs.TurnsInside.{HasShares, HasTurned, IsBegun, SeenListener, stands_at}
+use Rattle.listener_round.specs.declared.run_numbers.RunNumbers.{RunNumbers}
+use Rattle.listener_round.specs.FirstNumbers.{opened_by}
+use Rattle.listener_round.specs.Generations.{Opening}
+use Rattle.listener_round.specs.HeardInside.{HasHeard, HasHeardAll, HasHeardIn, Hears, HearsMore, Unanswered, last_at, made_first, never_answered}
+use Rattle.listener_round.specs.FrontInside.{HasNoneToHeed, StaysWatching, WatchesAll}
+use Rattle.listener.specs.ListenInside.{HasNotBegun, IsAtStart}
+use Rattle.listener_round.specs.Pace.{AreSharesOf, AreSharesOfAll, Brought, Share, answers_in, brought, made_from, made_of, moment_behind, moment_by, moved, ordered, signalled, ticked, ticks_by}
+use Rattle.listener_round.specs.ShareInside.{ComesWith}
+use Rattle.listener.specs.TurnsInside.{EndsUntaken, TurnsMake, HasShares, HasTurned, IsBegun, SeenListener, stands_at}
+use Rattle.listener_round.specs.Times.{answers_of}
+use Rattle.listener_round.specs.StandingInside.{IsOpenedBy, Past, entries_behind, owed_behind, spare_behind}
 use Rattle.rounds.proofs.PassLemmas.{serves-acts}
 use Rattle.rounds.proofs.AddedLemmas.{added-events}
-use Rattle.listener.proofs.BroughtLemmas.{brought-acts, brought-behind, brought-others, brought_by}
-use Rattle.listener.proofs.CommandlessLemmas.{AreCommandless, commandless-added, commandless-served}
-use Rattle.listener.proofs.FrontLemmas.{only-takes, takes-same}
-use Rattle.listener.proofs.HandedLemmas.{counts-same}
+use Rattle.listener_round.proofs.BroughtLemmas.{brought-acts, brought-behind, brought-others, brought_by}
+use Rattle.listener_round.proofs.CommandlessLemmas.{AreCommandless, commandless-added, commandless-served}
+use Rattle.listener_round.proofs.FrontLemmas.{only-takes, takes-same}
+use Rattle.listener_round.proofs.HandedLemmas.{counts-same}
 use Rattle.listener.proofs.HeardAllLemmas.{all-turn, keeps-wait, more-none}
-use Rattle.listener.proofs.HeardLineLemmas.{has-kept}
+use Rattle.listener_round.proofs.HeardLineLemmas.{has-kept}
 use Rattle.listener.proofs.PaceLemmas.{HasPatience, patience-past}
-use Rattle.listener.proofs.RoundShareLemmas.{reads-still}
+use Rattle.listener_round.proofs.RoundShareLemmas.{reads-still}
 use Rattle.listener.proofs.ShareLemmas.{made-more, moment-more}
 use Rattle.listener.proofs.SharedLemmas.{answer_for, answers-on, made-for, moment-for, share_for, shared-on, shares-on, ticks-for}
-use Rattle.listener.proofs.StandingLemmas.{entries-acts, keeps-plain, so-broken}
+use Rattle.listener_round.proofs.StandingLemmas.{entries-acts, keeps-plain, so-broken}
 use Rattle.listener.proofs.StandingTurnLemmas.{StandsStep, stands-acted, stands-then, stands-waited}
 use Rattle.listener.proofs.TurnLemmas.{DidSome, HasBrokenOff, HasGoneRound, HasKept, HasServedRows, HasTakenIn, hears_at}
 use Rattle.listener.proofs.WaitLemmas.{HasWaited}
-use Rattle.listener.proofs.WatchLemmas.{nobody-served, watched-as, watched-both, watched-wait}
+use Rattle.listener.proofs.WatchLemmas.{nobody-served, watched-wait}
+use Rattle.listener_round.proofs.WatchLemmas.{watched-as, watched-both}
 use Rattle.listener.proofs.WholeLemmas.{IsOnPace, IsShared, IsWhole, KeepsWhole, WholeFrom, begins-acts, begun-keeps, begun-pace, keeps-up, nothing_past, pace-kept, timely-begun, whole-acts}
 
 -- ## Where the turns end

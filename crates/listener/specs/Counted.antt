@@ -14,7 +14,7 @@ use Rattle.board_book.specs.Editions.{orders_in}
 use Rattle.rounds.specs.ClosedDown.{IsBrokenOff}
 use Rattle.rounds.specs.Moments.{moment_for}
 use Rattle.run_report.specs.Endings.{HasEndedGracefully}
-use Rattle.listener.specs.Commands.{is_graceful_stop}
+use Rattle.listener_round.specs.Commands.{is_graceful_stop}
 
 -- ## A front
 

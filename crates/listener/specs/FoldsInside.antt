@@ -20,7 +20,7 @@ use Rattle.file_table.specs.Site.{SeenSite}
 use Rattle.http_read.specs.declared.request.Limits.{Limits}
 use Rattle.rounds.specs.PartsInside.{NoneHas, StaysTimely}
 use Rattle.listener.specs.Patient.{IsPatientRun}
-use Rattle.listener.specs.StandingInside.{StandsOverFold}
+use Rattle.listener_round.specs.StandingInside.{StandsOverFold}
 
 -- the laws of folds, and of histories and connections that ended, as one fact: what a fold counted and what comes behind it are together
 -- what one fold counts of both

@@ -1,21 +1,15 @@
 -- What a run's history and its connections are, and how it ends.
 -- Why it is so stands in docs/DECISIONS.md: 74, What is said of folded entries.
-use Rattle.std.specs.Prelude.{◌≡◌, ◌+◌, List, length, map}
+use Rattle.std.specs.Prelude.{◌≡◌, ◌+◌, length}
 use Rattle.conn_machine.specs.Events.{count_events, is_accept}
 use Rattle.conn_machine.specs.Runs.{Run, after, first_row, IsInPassOrderFrom}
-use Rattle.conn_machine.specs.Folds.{fold_of}
 use Rattle.conn_machine.specs.Made.{AreMade, AreOfPasses}
-use Rattle.conn_machine.specs.declared.event.Entry.{Entry}
-use Rattle.conn_state.specs.Answered.{SeenEnded}
 use Rattle.conn_machine.specs.Laws.{StaysSound}
 use Rattle.conn_machine.specs.Passes.{EachHasItsOwn}
-use Rattle.board_book.specs.Book.{SeenBook}
-use Rattle.board.specs.Board.{SeenBoard, Agrees, AreClosed, AreEnded}
-use Rattle.board.specs.ReportLine.{line_of}
-use Rattle.listener.specs.Commands.{TellsStop}
-use Rattle.listener.specs.FirstNumbers.{folded_by, opened_by}
+use Rattle.board.specs.Board.{SeenBoard, Agrees}
+use Rattle.listener_round.specs.Commands.{TellsStop}
 use Rattle.rounds.specs.Timely.{AreTimely}
-use Rattle.listener.specs.declared.run_numbers.RunNumbers.{RunNumbers}
+use Rattle.listener_round.specs.declared.run_numbers.RunNumbers.{RunNumbers}
 use Rattle.rounds.specs.ClosedDown.{IsClosedDown}
 
 -- ## A run
@@ -35,21 +29,6 @@ pub record IsRunFrom (n : RunNumbers) (b : SeenBoard) : Type 0 where
   pub stays_sound : StaysSound b.book.base b.book.history
   pub stop : TellsStop b.book
   pub agrees : Agrees b
-
--- what was folded of a run by these numbers: entries from the state in which it opens, each of which is one that its pass, one of so many,
--- may make where it stands, and is made while it is time for it; the connections that ended in them are those that they close, in order,
--- each of which shows what an ended connection shows; the state before the history that is kept is the one behind them; and the record is
--- what one fold makes of them
-pub record HasFolded (n : RunNumbers) (b : SeenBook) : Type 0 where
-  pub entries : List Entry
-  pub ended : List SeenEnded
-  pub made : AreMade (opened_by n) (folded_by n) entries
-  pub few : AreOfPasses n.passes entries
-  pub timely : AreTimely (opened_by n) entries
-  pub base_is : b.base ≡ after (opened_by n) entries
-  pub record_is : b.folded ≡ fold_of (opened_by n) entries (map line_of ended) (folded_by n)
-  pub closed : AreClosed (opened_by n) entries ended
-  pub answered : AreEnded ended
 
 -- it closed each connection: none is live, each child is gone, and as many connections ended as were taken, those that were folded
 -- among both

@@ -1,20 +1,21 @@
 -- What ties all entries of a run, and all connections that ended, to its front and its clock, each as far as it tells.
-use Rattle.std.specs.Prelude.{◌≡◌, ℕ, List, Option, option_map, is_some, IfSome}
+use Rattle.std.specs.Prelude.{◌≡◌, ℕ, List, Option, is_some, IfSome}
 use Rattle.mpm_base.specs.Front.{FrontSeen, FrontTold}
 use Rattle.conn_machine.specs.declared.event.Entry.{Entry}
 use Rattle.conn_machine.specs.declared.state.State.{State}
 use Rattle.conn_state.specs.Answered.{SeenEnded}
-use Rattle.listener.specs.Commands.{HeedsLines}
-use Rattle.listener.specs.FirstNumbers.{opened_by}
-use Rattle.listener.specs.Links.{KeepsLinks}
-use Rattle.listener.specs.Pace.{KeepsPace}
+use Rattle.listener_round.specs.Commands.{HeedsLines}
+use Rattle.listener_round.specs.FirstNumbers.{opened_by}
+use Rattle.listener_round.specs.Links.{KeepsLinks}
+use Rattle.listener_round.specs.Pace.{KeepsPace}
 use Rattle.listener.specs.Patient.{IsPatientFrom}
 use Rattle.listener.specs.StartedFirst.{IsStartedFirst}
 use Rattle.listener.specs.Stops.{StoppedFor, TakesEach}
 use Rattle.listener.specs.Tells.{AllReceive}
-use Rattle.listener.specs.Times.{IsInTime, waits_of}
-use Rattle.listener.specs.Watched.{AreWatched, IsOpenedAndHushed}
-use Rattle.listener.specs.declared.run_numbers.RunNumbers.{RunNumbers}
+use Rattle.listener_round.specs.Times.{IsInTime, waits_of}
+use Rattle.listener_round.specs.Watched.{AreWatched, IsOpenedAndHushed}
+use Rattle.listener_round.specs.declared.run_numbers.RunNumbers.{RunNumbers}
+use Rattle.listener_round.specs.Clients.{clients_told, comings_told}
 
 -- what a run by these numbers, of which these are all entries and all connections that ended, did with a front that tells: it was bound once,
 -- to what the numbers say, dialled nothing, and listens no more; where it waited at all the children were started before all else; each
@@ -40,14 +41,6 @@ pub record KeepsOutside (n : RunNumbers) (f f' : FrontSeen) (calls : Option (Lis
   pub pace : KeepsPace n.slots f'.told calls s.going history
   pub patient : IsPatientFrom f.told f'.told calls (opened_by n) history
   pub stopped : StoppedFor f f' s
-
--- what the clients of a front send, in the order of arrival, where it tells that
-abbrev pub clients_told : Option FrontTold → Option (List (List ℕ))
-clients_told told = option_map (λ t. t.clients) told
-
--- the moments at which something comes by itself, where a front tells and is patient
-abbrev pub comings_told : Option FrontTold → Option (Option (List ℕ))
-comings_told told = option_map (λ t. t.comings) told
 
 -- nothing that a front or a clock told fell away: the front tells exactly where it did, of clients that send the same, and it is patient
 -- exactly where it was; and the clock tells its calls exactly where it did

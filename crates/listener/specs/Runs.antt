@@ -3,11 +3,12 @@ use Rattle.board.specs.Backed.{AllBacked}
 use Rattle.board.specs.Board.{SeenBoard}
 use Rattle.conn_machine.specs.declared.event.Entry.{Entry}
 use Rattle.conn_state.specs.Answered.{SeenEnded}
-use Rattle.listener.specs.FirstNumbers.{numbers_of, opened_by}
-use Rattle.listener.specs.Generations.{Opening}
-use Rattle.listener.specs.Listen.{HasClosedAll, HasFolded, IsRunFrom}
-use Rattle.listener.specs.Orders.{AreOrdered}
-use Rattle.listener.specs.Served.{ServesByEditions, all_ended, all_entries}
+use Rattle.listener_round.specs.FirstNumbers.{numbers_of, opened_by}
+use Rattle.listener_round.specs.Generations.{Opening}
+use Rattle.listener.specs.Listen.{HasClosedAll, IsRunFrom}
+use Rattle.listener_round.specs.Folded.{HasFolded, all_entries}
+use Rattle.listener_round.specs.Orders.{AreOrdered}
+use Rattle.listener.specs.Served.{ServesByEditions, all_ended}
 use Rattle.std.specs.Prelude.{◌++◌, List}
 
 -- what is left of a run that opened so: its history, and what was folded before; it closed each connection that it took, and each child is

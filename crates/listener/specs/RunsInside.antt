@@ -3,18 +3,17 @@ use Rattle.board.specs.Backed.{AllBacked}
 use Rattle.board.specs.Board.{SeenBoard}
 use Rattle.mpm_base.specs.Front.{FrontSeen}
 use Rattle.mpm_base.specs.Store.{StoreSeen}
-use Rattle.listener.specs.Commands.{GivesLines}
+use Rattle.listener_round.specs.Commands.{GivesLines}
 use Rattle.listener.specs.Counted.{CountsRun, GivesNoEnding}
-use Rattle.listener.specs.FirstNumbers.{numbers_of, opened_by}
-use Rattle.listener.specs.Generations.{Opening}
-use Rattle.listener.specs.Heard.{KeepsLines, open_lines}
+use Rattle.listener_round.specs.FirstNumbers.{numbers_of, opened_by}
+use Rattle.listener_round.specs.Generations.{Opening}
+use Rattle.listener_round.specs.Heard.{KeepsLines, open_lines}
 use Rattle.listener.specs.Outside.{KeepsOutside}
 use Rattle.listener.specs.Runs.{HasRun, ended_of_run, entries_of_run}
-use Rattle.listener.specs.Listen.{HasFolded}
-use Rattle.listener.specs.Served.{all_entries}
-use Rattle.listener.specs.Stores.{KeepsStore}
+use Rattle.listener_round.specs.Folded.{HasFolded, all_entries}
+use Rattle.listener_round.specs.Stores.{KeepsStore}
 use Rattle.std.specs.Prelude.{ℕ, ◌++◌, List, Option}
-use Rattle.listener.specs.declared.run_numbers.RunNumbers.{RunNumbers}
+use Rattle.listener_round.specs.declared.run_numbers.RunNumbers.{RunNumbers}
 
 -- what is left is of a run that opened so, over the front, the clock and the store that it left so: it kept to the front and the clock, the
 -- front counted what the run did, and gave a line for each command; each command line that was read was answered; and the store went on by

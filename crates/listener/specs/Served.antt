@@ -1,25 +1,13 @@
 -- By what the connections of a run were served that ended: each by the edition of its generation.
 use Rattle.std.specs.Prelude.{List, [], ◌∷◌, ◌++◌, ⊤}
-use Rattle.conn_machine.specs.declared.event.Entry.{Entry}
-use Rattle.conn_machine.specs.Runs.{after}
 use Rattle.conn_state.specs.Answered.{SeenEnded}
 use Rattle.conn_state.specs.Known.{KnownOutside}
 use Rattle.board.specs.Board.{SeenBoard}
 use Rattle.board_book.specs.Book.{SeenBook}
 use Rattle.board.specs.Editions.{HasItsEdition}
-use Rattle.listener.specs.FirstNumbers.{folded_by, opened_by}
-use Rattle.listener.specs.Generations.{Opening, known_editions}
-use Rattle.listener.specs.Listen.{HasFolded}
-use Rattle.listener.specs.declared.run_numbers.RunNumbers.{RunNumbers}
-
--- the book of a run by these numbers that has all its entries
-abbrev pub whole_book : RunNumbers → List Entry → SeenBook
-whole_book n entries =
-    record { base = opened_by n; folded = folded_by n; history = entries; state = after (opened_by n) entries; passes = n.passes }
-
--- all entries of a run: those that were folded, and behind them the kept ones
-abbrev pub all_entries : (n : RunNumbers) (b : SeenBook) → HasFolded n b → List Entry
-all_entries n b before = before.entries ++ b.history
+use Rattle.listener_round.specs.Generations.{Opening, known_editions}
+use Rattle.listener_round.specs.Folded.{HasFolded, whole_book, all_entries}
+use Rattle.listener_round.specs.declared.run_numbers.RunNumbers.{RunNumbers}
 
 -- all connections of a run that ended: those that ended in what was folded, and behind them the kept ones
 abbrev pub all_ended : (n : RunNumbers) (b : SeenBoard) → HasFolded n b.book → List SeenEnded

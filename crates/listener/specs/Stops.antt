@@ -6,7 +6,7 @@ use Rattle.conn_machine.specs.declared.state.Going.TheVariants.{Halted}
 use Rattle.conn_machine.specs.declared.state.State.{State}
 use Rattle.mpm_base.specs.Count.{Rises}
 use Rattle.mpm_base.specs.Front.{FrontSeen, FrontTold, WaitTold}
-use Rattle.listener.specs.Commands.{is_graceful_stop}
+use Rattle.listener_round.specs.Commands.{is_graceful_stop}
 use Rattle.run_report.specs.Endings.{HasEndedGracefully}
 use Rattle.std.specs.Prelude.{◌≡◌, ◌⊎◌, List, [], ◌∷◌, ◌++◌, IfSome, length}
 use Rattle.conn_machine.specs.declared.event.Why.TheVariants as why

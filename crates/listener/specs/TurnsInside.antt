@@ -1,5 +1,5 @@
 -- What is seen of a listener with all that it works on, what it needs to take turns, and what its turns do.
-use Rattle.std.specs.Prelude.{◌≡◌, ◌<◌, ℕ, Bool, List, [], ◌++◌, length, replicate, Option, Result, is_some, IfSome, OnErr, OnOk}
+use Rattle.std.specs.Prelude.{◌≡◌, ◌<◌, ℕ, Bool, List, [], ◌++◌, length, replicate, Option, Result, is_some, IfSome, OnErr, OnOk, ◌⊎◌, ◌+◌, ◌∷◌, map, Ok, Err}
 use Rattle.mpm_base.specs.Front.{FrontCounts, FrontSeen}
 use Rattle.mpm_base.specs.Sink.{SinkSeen}
 use Rattle.mpm_base.specs.Store.{StoreSeen}
@@ -15,31 +15,58 @@ use Rattle.rounds.specs.EndsInside.{is_at_end}
 use Rattle.rounds.specs.PartsInside.{NoneHas, StaysTimely}
 use Rattle.rounds.specs.TableInside.{IsOpening}
 use Rattle.rounds.specs.Timely.{is_at_its_end}
-use Rattle.listener.specs.declared.edition.LoadedEdition.{LoadedEdition}
-use Rattle.listener.specs.declared.edition.NamedConfig.{NamedConfig}
-use Rattle.listener.specs.declared.run_numbers.RunNumbers.{RunNumbers}
-use Rattle.listener.specs.Commands.{HeedsLines, is_by_line}
+use Rattle.listener_round.specs.declared.edition.LoadedEdition.{LoadedEdition}
+use Rattle.listener_round.specs.declared.edition.NamedConfig.{NamedConfig}
+use Rattle.listener_round.specs.declared.run_numbers.RunNumbers.{RunNumbers}
+use Rattle.listener_round.specs.Commands.{HeedsLines, is_by_line}
 use Rattle.listener.specs.Counted.{GivesNoEnding}
-use Rattle.listener.specs.CountedInside.{CountsSo}
-use Rattle.listener.specs.FirstNumbers.{opened_by}
-use Rattle.listener.specs.FirstNumbersInside.{opened_book}
-use Rattle.listener.specs.Generations.{Opening}
-use Rattle.listener.specs.Heard.{KeepsLines, open_lines}
-use Rattle.listener.specs.HeardInside.{HasHeardIn, WritesOn}
-use Rattle.listener.specs.Listen.{HasFolded}
-use Rattle.listener.specs.ListenInside.{Follows, HandedOut, HandsOut, HasNoneToHeed, HasNotBegun, HasStopped, HeedsUntil, IsAtStart, IsInStep, ListensAsServed, TurnsEnd, WatchesAll, contacts_of}
-use Rattle.listener.specs.Orders.{AreOrdered}
-use Rattle.listener.specs.OrdersInside.{KnowsComing, ServesNewest}
-use Rattle.listener.specs.Pace.{AreSharesOfAll, Brought, KeepsPace, Share, answers_in, brought, moved}
+use Rattle.listener_round.specs.CountedInside.{CountsSo}
+use Rattle.listener_round.specs.FirstNumbers.{opened_by}
+use Rattle.listener_round.specs.FirstNumbersInside.{opened_book}
+use Rattle.listener_round.specs.Generations.{Opening}
+use Rattle.listener_round.specs.Heard.{KeepsLines, open_lines}
+use Rattle.listener_round.specs.HeardInside.{HasHeardIn, WritesOn}
+use Rattle.listener_round.specs.Folded.{HasFolded, all_entries, whole_book}
+use Rattle.listener_round.specs.FrontInside.{Follows, HandsOut, HasNoneToHeed, IsInStep, ListensAsServed, WatchesAll}
+use Rattle.listener.specs.ListenInside.{HandedOut, HasNotBegun, HasStopped, HeedsUntil, IsAtStart, TurnsEnd, contacts_of}
+use Rattle.listener_round.specs.Orders.{AreOrdered}
+use Rattle.listener_round.specs.OrdersInside.{KnowsComing, ServesNewest}
+use Rattle.listener_round.specs.Pace.{AreSharesOfAll, Brought, KeepsPace, Share, answers_in, brought, moved, IsCutShort, IsUnsignalled, made_from, ordered}
 use Rattle.listener.specs.Patient.{HasNothingCome, IsPatientFrom}
-use Rattle.listener.specs.Served.{all_entries, whole_book}
-use Rattle.listener.specs.ShareInside.{TurnsMake}
-use Rattle.listener.specs.StandingInside.{IsOpenedBy, Past, Standing, StandsSo, entries_behind, owed_behind, spare_behind, standing}
+use Rattle.listener_round.specs.StandingInside.{IsOpenedBy, Past, Standing, StandsSo, entries_behind, owed_behind, spare_behind, standing}
 use Rattle.listener.specs.StartedFirst.{IsStartedFirst}
 use Rattle.listener.specs.Stops.{TakesEach}
-use Rattle.listener.specs.Stores.{KeepsStore, RisesBy}
-use Rattle.listener.specs.Times.{IsInTime, answers_of, waits_of}
-use Rattle.listener.specs.Watched.{IsHushed}
+use Rattle.listener_round.specs.Stores.{KeepsStore, RisesBy}
+use Rattle.listener_round.specs.Times.{IsInTime, answers_of, waits_of}
+use Rattle.listener_round.specs.Watched.{IsHushed}
+use Rattle.mpm_base.specs.declared.script_line.CommandWord.{CommandWord}
+use Rattle.mpm_base.specs.declared.script_line.CommandWord.TheVariants as word
+use Rattle.rounds.specs.declared.ends.End.TheVariants as end
+
+-- ## The turns
+
+-- what was made is all of the shares, but for these orders at the end, and with the last share no connection was handed out, so that
+-- children that are let go of behind it are of it
+pub record EndsUntaken (missing : List CommandWord) (shares : List Share) (made : List Brought) : Type 0 where
+  pub before : List Share
+  pub last : Share
+  pub shares_are : shares ≡ before ++ last ∷ []
+  pub none : last.handed ≡ 0
+  pub made_are : made ++ map ordered missing ≡ made_from 0 shares
+
+-- nothing was signalled of the last share, and nothing ordered or handed out with it
+pub record EndsUnsignalled (shares : List Share) (made : List Brought) : Type 0 where
+  pub unsignalled : IsUnsignalled shares made
+  pub none : unsignalled.last.handed ≡ 0
+
+-- what turns that ended so made of all shares
+abbrev pub TurnsMake : Result End BoardFault → List Share → List Brought → Type 0
+TurnsMake (Ok end.Ended) shares made = EndsUntaken [] shares made
+TurnsMake (Ok end.Asked) shares made = EndsUntaken (word.Stop ∷ []) shares made
+TurnsMake (Ok end.Failed) shares made = EndsUntaken [] shares made
+TurnsMake (Ok end.Overdue) shares made = EndsUnsignalled shares made
+TurnsMake (Ok end.Gone) shares made = EndsUntaken [] shares made
+TurnsMake (Err fault) shares made = (made ≡ made_from 0 shares) ⊎ IsCutShort shares made
 
 -- ## A listener
 

@@ -5,25 +5,24 @@ ghost use Rattle.mpm_base.specs.Count.{NeverFalls};
 ghost use Rattle.listener.specs.Unused.{IsUnused};
 ghost use Rattle.board.specs.Board.{AreOfOutside, EndedOfOutside};
 ghost use Rattle.run_report.specs.EndingsInside.{WritesAll};
-ghost use Rattle.listener.specs.FirstNumbersInside.{AreNumbers, opened_book};
-ghost use Rattle.listener.specs.FirstNumbers as opening;
-ghost use Rattle.listener.specs.OrdersInside.{known_outside, opening_by};
-ghost use Rattle.listener.specs.Generations.{head_limits_of};
-ghost use Rattle.listener.specs.RunsInside.{HasRunBy, open_lines_of};
-ghost use Rattle.listener.specs.Served.{all_ended, whole_book};
+ghost use Rattle.listener_round.specs.FirstNumbersInside.{AreNumbers, opened_book};
+ghost use Rattle.listener_round.specs.FirstNumbers as opening;
+ghost use Rattle.listener_round.specs.OrdersInside.{known_outside, opening_by};
+ghost use Rattle.listener_round.specs.Generations.{head_limits_of};
+ghost use Rattle.listener.specs.RunsInside.{HasRunBy, open_lines_of, BacksWaits};
+ghost use Rattle.listener.specs.Served.{all_ended};
+ghost use Rattle.listener_round.specs.Folded.{whole_book, HasFolded};
 ghost use Rattle.listener.specs.Counted.{AsksOnce, KeepsClock};
-ghost use Rattle.listener.specs.Links.{EndsLinks};
-ghost use Rattle.listener.specs.Listen.{HasClosedAll, HasFolded, IsRunFrom};
+ghost use Rattle.listener_round.specs.Links.{EndsLinks};
+ghost use Rattle.listener.specs.Listen.{HasClosedAll, IsRunFrom};
 ghost use Rattle.rounds.specs.ClosedDown.{IsClosedDown};
-ghost use Rattle.listener.specs.ListenInside.{Follows, IsUnopened, clients_known};
+ghost use Rattle.listener_round.specs.FrontInside.{Follows, clients_known};
+ghost use Rattle.listener.specs.ListenInside.{IsUnopened};
 ghost use Rattle.rounds.specs.Timely.{AreTimely};
-ghost use Rattle.listener.specs.RunsInside.{BacksWaits};
 ghost use Rattle.listener.specs.Tells.{AllReceive};
 
-use crate::edition::{LoadedEdition, NamedConfig};
 use crate::folding::{folds_join, show_for_folds};
-use crate::listener_state::Listener;
-use crate::run_numbers::{RunNumbers, numbers_of};
+use crate::listen::listen;
 use board::Board;
 use board::laws::{
     ended_connections_are_backed, ended_links_are_of_closed_connections,
@@ -32,6 +31,7 @@ use board::laws::{
 use conn_machine::laws::{accepted_connections_are_closed_or_live, events_keep_states_sound};
 use conn_machine::laws_of_runs::made_histories_are_runs;
 use conn_state::{Known, Nothing};
+use listener_round::{Listener, LoadedEdition, NamedConfig, RunNumbers, numbers_of};
 use mpm_base::{Clock, Front, Gate, Link, NoMemory, Ready, Sink, Store};
 use run_report::write_all;
 use std::alloc::Global;
@@ -135,7 +135,7 @@ pub fn run_server<
         hands: Hands { bell: &bell, gate },
         written,
     };
-    listener.listen(rt, store, front, clock, out);
+    listen(&mut listener, rt, store, front, clock, out);
     let Listener {
         alloc: _,
         board,

@@ -20,8 +20,8 @@ use Rattle.conn_machine.specs.Table.{next}
 use Rattle.conn_state.specs.Answered.{SeenEnded}
 use Rattle.board.specs.Board.{AreClosed, ClosesFirst}
 use Rattle.board_book.specs.Book.{SeenBook}
-use Rattle.listener.specs.Listen.{HasFolded}
-use Rattle.listener.specs.declared.run_numbers.RunNumbers.{RunNumbers}
+use Rattle.listener_round.specs.Folded.{HasFolded}
+use Rattle.listener_round.specs.declared.run_numbers.RunNumbers.{RunNumbers}
 use Rattle.run_laws.specs.Undisturbed.{ended_for}
 
 -- ## Each of the connections

@@ -25,8 +25,8 @@ use Rattle.conn_machine.specs.declared.state.State.{State}
 use Rattle.conn_machine.specs.Events.{count_events}
 use Rattle.conn_machine.specs.Made.{AreMade, AreMadeBehind}
 use Rattle.conn_machine.specs.Runs.{entries_of, may_make}
-use Rattle.listener.specs.Commands.{HeedsLines, asked_by, asked_in, asks_to_end, is_graceful_stop, lines_read, stop_line}
-use Rattle.listener.specs.Pace.{AreMadeOf, AreSharesOf, Brought, IsCutShort, IsUnsignalled, KeepsPace, Share, brought, brought_in, lines_between, made_from, made_of, moment_behind, moment_by, moved, ordered, progress_at, signalled, taken, ticked, ticks_by}
+use Rattle.listener_round.specs.Commands.{HeedsLines, asked_by, asked_in, asks_to_end, is_graceful_stop, lines_read, stop_line}
+use Rattle.listener_round.specs.Pace.{AreMadeOf, AreSharesOf, Brought, IsCutShort, IsUnsignalled, KeepsPace, Share, brought, brought_in, lines_between, made_from, made_of, moment_behind, moment_by, moved, ordered, progress_at, signalled, taken, ticked, ticks_by}
 use Rattle.run_report.specs.Endings.{MayEndWith}
 use Rattle.run_laws.specs.Undisturbed.{IsNoStop, NoneAsksStop}
 use Rattle.run_laws.proofs.MachineLemmas.{NeverEnds}

@@ -19,12 +19,13 @@ use Rattle.conn_machine.specs.States.{unused_row}
 use Rattle.board.specs.Board.{AreClosed, SeenBoard}
 use Rattle.board.specs.BoardLaws.{EndedConnectionsJoin}
 use Rattle.board.specs.ReportLine.{line_of}
-use Rattle.listener.specs.Commands.{HeedsLines, is_graceful_stop, lines_read}
-use Rattle.listener.specs.FirstNumbers.{folded_by, numbers_of, opened_by}
-use Rattle.listener.specs.Listen.{HasFolded, IsRunFrom}
+use Rattle.listener_round.specs.Commands.{HeedsLines, is_graceful_stop, lines_read}
+use Rattle.listener_round.specs.FirstNumbers.{folded_by, numbers_of, opened_by}
+use Rattle.listener_round.specs.Folded.{HasFolded}
+use Rattle.listener.specs.Listen.{IsRunFrom}
 use Rattle.listener.specs.Stops.{StoppedFor}
-use Rattle.listener.specs.Pace.{KeepsPace}
-use Rattle.listener.specs.declared.run_numbers.RunNumbers.{RunNumbers}
+use Rattle.listener_round.specs.Pace.{KeepsPace}
+use Rattle.listener_round.specs.declared.run_numbers.RunNumbers.{RunNumbers}
 use Rattle.run_opening.specs.Calls.{StoreFailed}
 use Rattle.run_report.specs.Endings.{EndsAs}
 use Rattle.run_report.proofs.EndingLemmas.{may-end}

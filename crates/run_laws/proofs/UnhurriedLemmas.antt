@@ -16,10 +16,10 @@ use Rattle.conn_machine.specs.declared.event.Event.TheVariants as event
 use Rattle.conn_machine.specs.declared.folded.Folded.{Folded}
 use Rattle.conn_machine.specs.declared.state.State.{State}
 use Rattle.conn_machine.specs.Table.{next}
-use Rattle.listener.specs.FirstNumbers.{folded_by, numbers_of, opened_by}
-use Rattle.listener.specs.Pace.{AreSharesOf, Brought, Share, answer_if, answers_in, brought, brought_in, moved, ticked}
+use Rattle.listener_round.specs.FirstNumbers.{folded_by, numbers_of, opened_by}
+use Rattle.listener_round.specs.Pace.{AreSharesOf, Brought, Share, answer_if, answers_in, brought, brought_in, moved, ticked}
 use Rattle.listener.specs.Patient.{ArePatient, IsPatientEvent}
-use Rattle.listener.specs.Times.{answers_of}
+use Rattle.listener_round.specs.Times.{answers_of}
 use Rattle.rounds.specs.Timely.{AllAt}
 use Rattle.script_front.specs.ScriptFront.{comings_of}
 use Rattle.script_run.specs.Played.{HasPlayed}

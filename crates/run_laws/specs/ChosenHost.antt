@@ -15,10 +15,10 @@ use Rattle.http_core.specs.Target.{named_host}
 use Rattle.http_core.specs.declared.plan.Served.{Served}
 use Rattle.http_core.specs.declared.plan.Served.TheVariants as served
 use Rattle.http_read.specs.RequestParts.{RequestParts}
-use Rattle.listener.specs.FirstNumbers.{numbers_of}
-use Rattle.listener.specs.Generations.{Opening, config_among, renewed}
+use Rattle.listener_round.specs.FirstNumbers.{numbers_of}
+use Rattle.listener_round.specs.Generations.{Opening, config_among, renewed}
 use Rattle.listener.specs.Runs.{HasRun, ended_of_run, entries_of_run}
-use Rattle.listener.specs.Served.{whole_book}
+use Rattle.listener_round.specs.Folded.{whole_book}
 use Rattle.mpm_base.specs.declared.store.File.{File}
 use Rattle.mpm_config.specs.Config.{Configuration}
 use Rattle.name_hosts.specs.Host.{choose}

@@ -9,7 +9,7 @@ use Rattle.conn_state.specs.Items.{Item, AreFirst}
 use Rattle.conn_state.specs.Replies.{AreNotesOf, AreReplies, IsInterim}
 use Rattle.http_read.specs.RequestParts.{RequestParts}
 use Rattle.http_read.specs.Requests.{AreItems}
-use Rattle.listener.specs.Commands.{lines_read, stop_line}
+use Rattle.listener_round.specs.Commands.{lines_read, stop_line}
 use Rattle.listener.specs.Tells.{AllReceive}
 use Rattle.mpm_base.specs.Cause.{cause_number}
 use Rattle.mpm_base.specs.CommandWord.{command_word}

@@ -3,8 +3,8 @@ use Rattle.conn_machine.specs.Runs.{after}
 use Rattle.conn_machine.specs.declared.event.Entry.{Entry}
 use Rattle.conn_machine.specs.declared.event.Event.TheVariants as event
 use Rattle.conn_machine.specs.declared.state.State.{State}
-use Rattle.listener.specs.FirstNumbers.{numbers_of, opened_by}
-use Rattle.listener.specs.Pace.{Brought, brought, moved, ordered, signalled, taken, ticked}
+use Rattle.listener_round.specs.FirstNumbers.{numbers_of, opened_by}
+use Rattle.listener_round.specs.Pace.{Brought, brought, moved, ordered, signalled, taken, ticked}
 use Rattle.listener.specs.Patient.{PassesPatiently}
 use Rattle.mpm_base.specs.Front.{FrontTold, WaitTold}
 use Rattle.mpm_base.specs.declared.front.Woke.TheVariants as woke

@@ -26,11 +26,11 @@ use Rattle.mpm_config.specs.Config.{Configuration}
 use Rattle.script_front.specs.Editions.{conf_name, editions_of}
 use Rattle.stand_ins.specs.PlainStore.{SeenStore, no_store_counts}
 use Rattle.file_table.specs.Site.{SeenSite}
-use Rattle.listener.specs.FirstNumbers.{numbers_of, opened_by}
-use Rattle.listener.specs.Generations.{Opening}
+use Rattle.listener_round.specs.FirstNumbers.{numbers_of, opened_by}
+use Rattle.listener_round.specs.Generations.{Opening}
 use Rattle.listener.specs.Runs.{ended_of_run, entries_of_run}
 use Rattle.listener.specs.RunsInside.{HasRunBy, open_lines_of}
-use Rattle.listener.specs.Served.{whole_book}
+use Rattle.listener_round.specs.Folded.{whole_book}
 use Rattle.listener.specs.Tells.{AllReceive}
 use Rattle.listener.proofs.ServedLemmas.{ordered-reopened, served-reopened}
 use Rattle.script_run.proofs.HeardLemmas.{lines-reopened}

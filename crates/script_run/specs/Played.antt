@@ -9,13 +9,13 @@ use Rattle.mpm_base.specs.Front.{moments_of}
 use Rattle.mpm_base.specs.Store.{StoreSeen, telling_store}
 use Rattle.mpm_base.specs.declared.script_line.ScriptLine.{ScriptLine}
 use Rattle.mpm_config.specs.Config.{Configuration}
-use Rattle.listener.specs.Commands.{is_graceful_stop}
-use Rattle.listener.specs.Generations.{Opening}
-use Rattle.listener.specs.Heard.{KeepsLines, open_lines}
+use Rattle.listener_round.specs.Commands.{is_graceful_stop}
+use Rattle.listener_round.specs.Generations.{Opening}
+use Rattle.listener_round.specs.Heard.{KeepsLines, open_lines}
 use Rattle.listener.specs.Patient.{ArePatient}
 use Rattle.listener.specs.Runs.{HasRun, ended_of_run, entries_of_run}
 use Rattle.script_run.specs.Scripts.{PlaysLines, HasConfig, HasScriptSite}
-use Rattle.listener.specs.Stores.{KeepsStore}
+use Rattle.listener_round.specs.Stores.{KeepsStore}
 use Rattle.listener.specs.Tells.{AllReceive}
 use Rattle.mpm_script.specs.Clients.{clients_of, names_of}
 use Rattle.run_opening.specs.Calls.{Call}
@@ -27,10 +27,10 @@ use Rattle.script_front.specs.ScriptFront.{SeenFront, comings_of, front_seen, ne
 use Rattle.stand_ins.specs.PlainStore.{SeenStore, no_store_counts}
 use Rattle.std.specs.Prelude.{◌≡◌, ℕ, ◌<◌, List, ◌++◌, length, map, Some, None, ◌≢◌}
 use Rattle.conn_machine.specs.declared.event.Why.TheVariants as why
-use Rattle.listener.specs.FirstNumbers.{numbers_of, opened_by}
+use Rattle.listener_round.specs.FirstNumbers.{numbers_of, opened_by}
 use Rattle.listener.specs.Outside.{KeepsFront}
-use Rattle.listener.specs.Pace.{KeepsPace}
-use Rattle.listener.specs.declared.run_numbers.RunNumbers.{RunNumbers}
+use Rattle.listener_round.specs.Pace.{KeepsPace}
+use Rattle.listener_round.specs.declared.run_numbers.RunNumbers.{RunNumbers}
 
 -- what is seen of a script's store before its run
 abbrev pub opening_store : List ScriptLine → StoreSeen

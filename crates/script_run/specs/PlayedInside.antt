@@ -7,13 +7,13 @@ use Rattle.mpm_base.specs.Sink.{SinkSeen}
 use Rattle.mpm_base.specs.Store.{telling_store}
 use Rattle.mpm_base.specs.declared.script_line.ScriptLine.{ScriptLine}
 use Rattle.mpm_config.specs.Config.{Configuration}
-use Rattle.listener.specs.Commands.{is_graceful_stop}
+use Rattle.listener_round.specs.Commands.{is_graceful_stop}
 use Rattle.script_run.specs.Played.{opening_store, script_opening, HasPlayed, IsLeftOfRun}
-use Rattle.listener.specs.FirstNumbers.{numbers_of, opened_by}
-use Rattle.listener.specs.Heard.{open_lines}
+use Rattle.listener_round.specs.FirstNumbers.{numbers_of, opened_by}
+use Rattle.listener_round.specs.Heard.{open_lines}
 use Rattle.listener.specs.Runs.{HasRun, ended_of_run, entries_of_run}
 use Rattle.script_run.specs.Scripts.{HasConfig, HasScriptSite}
-use Rattle.listener.specs.Stores.{KeepsStore}
+use Rattle.listener_round.specs.Stores.{KeepsStore}
 use Rattle.listener.specs.Tells.{AllReceive}
 use Rattle.script_run.specs.declared.scripted.Scripted.{Scripted}
 use Rattle.mpm_script.specs.Clients.{clients_of, names_of}

@@ -3,7 +3,7 @@ ghost use Rattle.std.specs.Prelude.{◌≡◌, ◌≤◌, ◌⊎◌, ℕ, List, 
 ghost use Rattle.command_words.specs.Invocations.{IsLoadWords, IsScriptWords};
 ghost use Rattle.file_table.specs.Load.{is_store_fault};
 ghost use Rattle.mpm_base.specs.Store.{StoreSeen};
-ghost use Rattle.listener.specs.Generations.{head_limits_of};
+ghost use Rattle.listener_round.specs.Generations.{head_limits_of};
 ghost use Rattle.script_run.specs.PlayedInside.{EndsScript, HasRunScript, IsPlayed, IsPlayedStatus, IsServedRun};
 ghost use Rattle.script_run.specs.ScriptRefusals.{fault_at};
 ghost use Rattle.script_run.specs.ScriptsInside.{IsConfigRefusalOf, IsOfText, IsRefusalOf, IsScriptConfig, IsSiteRefusalOf, RefusesConfig, RefusesLoad, RefusesSite};
@@ -16,7 +16,8 @@ ghost use Rattle.script_front.specs.Editions.{editions_of, store_of};
 
 use crate::scripted::Scripted;
 use file_table::LoadFault;
-use listener::{LoadedEdition, NamedConfig, OpenFault, ServedRun, head_limits_of, run_server};
+use listener::{OpenFault, ServedRun, run_server};
+use listener_round::{LoadedEdition, NamedConfig, head_limits_of};
 use mpm_base::{Gate, NoMemory, Octets, Sink, Store, StoreFault};
 use mpm_config::Config;
 use mpm_script::{Script, ScriptFault, load_script, read_script};

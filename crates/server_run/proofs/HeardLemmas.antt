@@ -9,11 +9,11 @@ use Rattle.conn_machine.specs.declared.event.Refusal.{Refusal}
 use Rattle.conn_machine.specs.declared.event.Refusal.TheVariants as refusal
 use Rattle.conn_machine.specs.declared.state.Going.{Going}
 use Rattle.conn_machine.specs.declared.state.State.{State}
-use Rattle.listener.specs.Generations.{Opening, renewed}
-use Rattle.listener.specs.Heard.{AreAnswered, AreCounted, Heard, KeepsLines, orders_behind}
-use Rattle.listener.specs.LineAnswers.{IsAnswerTo, IsRefusalAnswer, RefusesConf, RefusesSite, next_event, state_behind}
-use Rattle.listener.specs.LineAnswers.IsAnswerTo.{restarted, refused, ends, ends_already, stops, told, unknown}
-use Rattle.listener.specs.Pace.{Share}
+use Rattle.listener_round.specs.Generations.{Opening, renewed}
+use Rattle.listener_round.specs.Heard.{AreAnswered, AreCounted, Heard, KeepsLines, orders_behind}
+use Rattle.listener_round.specs.LineAnswers.{IsAnswerTo, IsRefusalAnswer, RefusesConf, RefusesSite, next_event, state_behind}
+use Rattle.listener_round.specs.LineAnswers.IsAnswerTo.{restarted, refused, ends, ends_already, stops, told, unknown}
+use Rattle.listener_round.specs.Pace.{Share}
 use Rattle.listener.proofs.ServedLemmas.{reopened}
 
 -- the reason of a restart that was refused

@@ -23,11 +23,11 @@ use Rattle.listener.specs.Counted.{LeavesClock}
 use Rattle.listener.specs.RunsInside.{HasRunBy, open_lines_of}
 use Rattle.server_run.specs.EndsInside.{LeavesUnbound, RefusesFolder, IsOpenedStatus, EndsServe}
 use Rattle.run_opening.specs.RefusalsInside.{RefusesRun}
-use Rattle.listener.specs.FirstNumbers.{numbers_of, opened_by}
-use Rattle.listener.specs.Generations.{Opening}
+use Rattle.listener_round.specs.FirstNumbers.{numbers_of, opened_by}
+use Rattle.listener_round.specs.Generations.{Opening}
 use Rattle.command_words.specs.Invocations.{IsServeWords}
 use Rattle.listener.specs.Runs.{ended_of_run, entries_of_run}
-use Rattle.listener.specs.Served.{whole_book}
+use Rattle.listener_round.specs.Folded.{whole_book}
 use Rattle.run_opening.specs.Sites.{IsSiteRefusedOf}
 use Rattle.run_report.specs.Texts.{front_fault}
 use Rattle.run_opening.proofs.ConfigLemmas.{accepted-still}

@@ -8,13 +8,13 @@ use Rattle.mpm_base.specs.GivenAnswers.{says_refused}
 use Rattle.mpm_base.specs.declared.script_line.CommandWord.{CommandWord}
 use Rattle.mpm_config.specs.Config.{Configuration}
 use Rattle.listener.specs.Counted.{CountsRun, GivesNoEnding}
-use Rattle.listener.specs.Commands.{GivesLines}
-use Rattle.listener.specs.FirstNumbers.{numbers_of, opened_by}
-use Rattle.listener.specs.Generations.{Opening}
-use Rattle.listener.specs.Heard.{KeepsLines, open_lines}
+use Rattle.listener_round.specs.Commands.{GivesLines}
+use Rattle.listener_round.specs.FirstNumbers.{numbers_of, opened_by}
+use Rattle.listener_round.specs.Generations.{Opening}
+use Rattle.listener_round.specs.Heard.{KeepsLines, open_lines}
 use Rattle.listener.specs.Outside.{KeepsOutside}
 use Rattle.listener.specs.Runs.{HasRun, ended_of_run, entries_of_run}
-use Rattle.listener.specs.Stores.{KeepsStore}
+use Rattle.listener_round.specs.Stores.{KeepsStore}
 use Rattle.restart_control.specs.Reload.{most_config}
 use Rattle.run_opening.specs.Calls.{Call, HadConfigAccepted, HasConfigAccepted, HasFile, IsRefusedAsLarge, IsFileUnread, KeepsFiles, HasSiteRefused, LoadsSite, StoreFailed}
 use Rattle.run_opening.specs.Configured.{IsRefused, warnings_of}

@@ -3,7 +3,7 @@
 ghost use Rattle.std.specs.Prelude.{◌≡◌, ℕ, List};
 ghost use Rattle.command_words.specs.Invocations.{IsSendWords};
 ghost use Rattle.server_run.specs.EndsInside.{EndsSend, ShowsAnswer};
-ghost use Rattle.listener.specs.Outside.{clients_told, comings_told};
+ghost use Rattle.listener_round.specs.Clients.{clients_told, comings_told};
 ghost use Rattle.run_opening.specs.Calls.{seen_call};
 
 use mpm_base::{CommandWord, Front, MOST_ANSWER, Octets, Sink, Store, says_refused};

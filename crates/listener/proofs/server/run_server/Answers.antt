@@ -2,15 +2,15 @@ use Rattle.std.proofs.Common.{Option, refl, ap, sym, subst, ◌∙◌, arith, ru
 use Rattle.conn_state.specs.Known.{KnownOutside}
 use Rattle.board.specs.Board.{AreOfOutside, EndedOfOutside, SeenBoard}
 use Rattle.board_book.specs.Book.{SeenBook}
-use Rattle.listener.specs.ListenInside.{clients_known}
-use Rattle.listener.specs.OrdersInside.{opening_by}
-use Rattle.listener.specs.Served.{whole_book}
+use Rattle.listener_round.specs.FrontInside.{clients_known}
+use Rattle.listener_round.specs.OrdersInside.{opening_by}
+use Rattle.listener_round.specs.Folded.{whole_book}
 use Rattle.listener.specs.TurnsInside.{HasStood, IsBegun, listener_of}
 use Rattle.listener.specs.Counted.{KeepsClock}
-use Rattle.listener.specs.CountedInside.{CountsSo}
+use Rattle.listener_round.specs.CountedInside.{CountsSo}
 use Rattle.listener.proofs.CountedEndLemmas.{asks-since, clock-opened, counts-opened}
-use Rattle.listener.proofs.CountedLemmas.{alike-same, counts-alike, same-words}
-use Rattle.listener.proofs.FrontLemmas.{follows-trans, named-follows}
+use Rattle.listener_round.proofs.CountedLemmas.{alike-same, counts-alike, same-words}
+use Rattle.listener_round.proofs.FrontLemmas.{follows-trans, named-follows}
 use Rattle.listener.proofs.FrontCallLemmas.{follows-bind}
 use Rattle.listener.proofs.LeftLemmas.{LeavesRun, has-run-by}
 use Rattle.listener.proofs.OpeningLemmas.{begun-opened, known-front, knows-coming, serves-first}
@@ -74,12 +74,12 @@ returns-clause-run g c =
     let first =
     listener_of c.in-Ok-open_board.board front calls c.in-Ok.ready edition store config (g.K.Sink.seen c.write_all-written.new.out) c.write_all-written.result in
     let last =
-    listener_of c.listen.new.self.board new (g.C.Clock.told c.listen.new.clock) c.listen.new.self.ready c.listen.new.self.edition
-    (g.D.Store.seen c.listen.new.store) c.listen.new.self.config (g.K.Sink.seen c.listen.new.out) c.listen.new.self.written in
+    listener_of c.listen.new.listener.board new (g.C.Clock.told c.listen.new.clock) c.listen.new.listener.ready c.listen.new.listener.edition
+    (g.D.Store.seen c.listen.new.store) c.listen.new.listener.config (g.K.Sink.seen c.listen.new.out) c.listen.new.listener.written in
     let begun : IsBegun known o n first =
     begun-opened c.folds_join.ensures known store old n first c.numbers_of-numbers.ensures.allowed book refl c.requires.timeout binds idle in
     let stood : HasStood known o n first last = c.listen.ensures.listened.stood o n (record { name = refl; config = refl }) begun in
-    let stopped = stopped-before old front new c.listen.new.self.board.book.state (follows-bind _ _ _ _ _ binds) c.listen.ensures.listened.stopped in
+    let stopped = stopped-before old front new c.listen.new.listener.board.book.state (follows-bind _ _ _ _ _ binds) c.listen.ensures.listened.stopped in
     let named =
     named-follows known old new (follows-trans _ _ _ (follows-bind _ _ _ _ _ binds) c.listen.ensures.listened.follows) (known-front known o c.requires.named) in
     let known_stood : HasStood _ o n first last = subst (λ (k : Option KnownOutside). HasStood k o n first last) c.requires.named stood in

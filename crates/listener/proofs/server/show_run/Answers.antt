@@ -2,7 +2,7 @@ use Rattle.std.proofs.Common.{◌++◌, subst, List}
 use Rattle.conn_machine.specs.declared.event.Entry.{Entry}
 use Rattle.conn_machine.specs.Made.{AreOfPasses}
 use Rattle.board.specs.Backed.{AllBacked}
-use Rattle.listener.specs.FirstNumbers.{folded_by, opened_by}
+use Rattle.listener_round.specs.FirstNumbers.{folded_by, opened_by}
 use Rattle.listener.proofs.FoldedRunLemmas.{has-joined}
 use Rattle.listener.proofs.RunLemmas.{all-received, closed-all, ends-links, run-from}
 use Rattle.listener.proofs.TellLemmas.{tells-stop}

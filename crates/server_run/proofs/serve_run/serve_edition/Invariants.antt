@@ -1,5 +1,5 @@
 use Rattle.std.proofs.Common.{Some}
-use Rattle.listener.specs.OrdersInside.{known_outside, opening_by}
+use Rattle.listener_round.specs.OrdersInside.{known_outside, opening_by}
 use Rattle.server_run.proofs.serve_run.serve_edition.Given as goal
 
 -- the type knows what the front tells of its clients, where it tells, and what the editions of the store are
