@@ -3,8 +3,7 @@
 //!
 //! What a round does stands in the crate `listener_round`. What all turns did since the run opened goes on from where it stood
 //! (`specs/TurnsInside.antt`).
-//! Why it is so stands in docs/DECISIONS.md: 73, What a round adds; 90, Front, clock and store stand beside the listener; 97, Where a
-//! graceful stop ends.
+//! Why it is so stands in docs/DECISIONS.md: 90, Front, clock and store stand beside the listener.
 ghost use Rattle.std.specs.Prelude.{◌≡◌, ◌<◌, None, true, length, is_some, IfOk, IfErr, IfSome, OnOk};
 ghost use Rattle.mpm_base.specs.Count.{CountsWhere};
 ghost use Rattle.mpm_base.specs.Front.{Waits, after_hush, is_woken};
