@@ -22,7 +22,8 @@ use Rattle.rounds.specs.ClosingInside.{IsHaltedWay, LetsGo}
 use Rattle.rounds.specs.PartsInside.{RetiresSome, halt_events, halts_for}
 use Rattle.rounds.proofs.AddedLemmas.{events_in}
 use Rattle.listener.proofs.FrontCallLemmas.{left_front}
-use Rattle.listener_round.proofs.WatchLemmas.{accepts_in, TakesNone, none-retires, unnamed, TakesNobody, nobody-more, nobody-acts, watches-still, watched-mapped, nobody-gone}
+use Rattle.listener_round.proofs.NobodyLemmas.{accepts_in, TakesNone, none-retires, unnamed, TakesNobody, nobody-more, nobody-acts, nobody-gone}
+use Rattle.listener_round.proofs.WatchLemmas.{watches-still, watched-mapped}
 
 -- ## Names
 

@@ -39,7 +39,8 @@ use Rattle.listener_round.proofs.FrontCallLemmas.{follows-command, follows-hushe
 use Rattle.listener_round.proofs.LineLemmas.{HasRead, IsIdle, asks-ending, asks-graceful, asks-nothing, asks-stop, ends-not, is_off, reads-ended, reads-ending, reads-line, reads-none, words-differ}
 use Rattle.listener_round.proofs.OrderStandLemmas.{stands-front, stands-line}
 use Rattle.listener_round.proofs.StandingLemmas.{stands-more}
-use Rattle.listener_round.proofs.WatchLemmas.{nobody-ordered, watched-as, watched-reads}
+use Rattle.listener_round.proofs.NobodyLemmas.{nobody-ordered}
+use Rattle.listener_round.proofs.WatchLemmas.{watched-as, watched-reads}
 
 -- ## Changes
 

@@ -15,6 +15,7 @@ pub mod IntakeLemmas
 pub mod LineHearsLemmas
 pub mod LineLemmas
 pub mod LinkLemmas
+pub mod NobodyLemmas
 pub mod OpenLemmas
 pub mod OrderStandLemmas
 pub mod PartLemmas

@@ -22,7 +22,8 @@ use Rattle.listener_round.proofs.CommandlessLemmas.{commandless-starts}
 use Rattle.listener_round.proofs.IntakeLemmas.{stands-started}
 use Rattle.listener.proofs.StandingTurnLemmas.{stands-acted}
 use Rattle.listener.proofs.TurnLemmas.{HasGoneRound, HasServedRows, HasTakenIn, between-started, kept-started}
-use Rattle.listener_round.proofs.WatchLemmas.{nobody-started, watched-as}
+use Rattle.listener_round.proofs.NobodyLemmas.{nobody-started}
+use Rattle.listener_round.proofs.WatchLemmas.{watched-as}
 use Rattle.listener.proofs.WholeLemmas.{whole-begun}
 use Rattle.listener.proofs.WholeTurnLemmas.{begun-broken}
 use Rattle.rounds.proofs.TimelyLemmas.{not-at_end_serving}

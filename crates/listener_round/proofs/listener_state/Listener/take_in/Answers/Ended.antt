@@ -26,7 +26,8 @@ use Rattle.rounds.proofs.StaffLemmas.{children-kept, due-kept, rows-moved}
 use Rattle.rounds.proofs.TimelyLemmas.{not-at_end, still-in_time}
 use Rattle.listener_round.proofs.StandingLemmas.{lines-taken, same-lines}
 use Rattle.listener_round.proofs.StandingPartLemmas.{stands-behind, stands-orderless, stands-orders}
-use Rattle.listener_round.proofs.WatchLemmas.{nobody-before-orders, nobody-more, nobody-passed, nobody-retired, nobody-started, watched-as}
+use Rattle.listener_round.proofs.NobodyLemmas.{nobody-before-orders, nobody-more, nobody-passed, nobody-retired, nobody-started}
+use Rattle.listener_round.proofs.WatchLemmas.{watched-as}
 use Rattle.listener_round.proofs.listener_state.Listener.take_in.Goals as goal
 
 pub then-is_overdue : goal.returns-then-is_overdue

@@ -26,7 +26,8 @@ use Rattle.rounds.proofs.ActLemmas.{on-err, retires-none, starts-none}
 use Rattle.rounds.proofs.TimelyLemmas.{not-at_end}
 use Rattle.listener_round.proofs.StandingLemmas.{lines-taken, same-lines}
 use Rattle.listener_round.proofs.StandingPartLemmas.{broken-after, broken-orderless, broken-orders, stands-orderless, stands-orders}
-use Rattle.listener_round.proofs.WatchLemmas.{nobody-acts, nobody-before-orders, nobody-gone, nobody-let_go_until, nobody-more, nobody-passed, nobody-retired, nobody-signalled, nobody-started, none-signals, watched-as}
+use Rattle.listener_round.proofs.NobodyLemmas.{nobody-acts, nobody-before-orders, nobody-gone, nobody-let_go_until, nobody-more, nobody-passed, nobody-retired, nobody-signalled, nobody-started, none-signals}
+use Rattle.listener_round.proofs.WatchLemmas.{watched-as}
 use Rattle.listener_round.proofs.listener_state.Listener.take_in.Goals as goal
 
 pub in_err-pass_time : goal.returns-in_err-pass_time
