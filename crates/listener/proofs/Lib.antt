@@ -8,6 +8,7 @@ pub mod FoldedRunLemmas
 pub mod FoldedTurnLemmas
 pub mod FrontCallLemmas
 pub mod FrontLemmas
+pub mod HaltLemmas
 pub mod HeardAllLemmas
 pub mod HeardEndLemmas
 pub mod LeftLemmas
@@ -33,5 +34,6 @@ pub mod TurnLemmas
 pub mod UnsignalledLemmas
 pub mod WaitLemmas
 pub mod WatchLemmas
+pub mod WholeEndLemmas
 pub mod WholeLemmas
 pub mod WholeTurnLemmas

@@ -37,7 +37,8 @@ use Rattle.listener.proofs.PaceLemmas.{GoesAbreast, HasPatience, IsAfter, abreas
 use Rattle.listener.proofs.TurnLemmas.{HasBrokenOff, HasGoneRound, HasKept, HasServedRows, IsBetween, between-round, between-served, did-broken, did-some, kept-round, kept-waited, waited-in_step}
 use Rattle.listener.proofs.WaitLemmas.{HasWaited, idle-wait}
 use Rattle.listener.proofs.WholeLemmas.{WholeFrom}
-use Rattle.listener.proofs.WholeTurnLemmas.{EndsFrom, ends-all_gone, ends-asked, ends-broken, ends-done, ends-ended, ends-failed, ends-overdue, has-turned, whole-round, whole-served}
+use Rattle.listener.proofs.WholeEndLemmas.{EndsFrom, ends-done, has-turned, whole-served}
+use Rattle.listener.proofs.WholeTurnLemmas.{ends-all_gone, ends-asked, ends-broken, ends-ended, ends-failed, ends-overdue, whole-round}
 
 -- ## What is said of them
 

@@ -20,7 +20,7 @@ pub struct LoadedEdition {
 
 impl LoadedEdition {
     /// A further share of the site. Refused where the site has as many shares as can be counted.
-    pub fn share(&self) -> Result<Arc<Site>, NoMemory>
+    pub(crate) fn share(&self) -> Result<Arc<Site>, NoMemory>
         ensures { IfOk result (λ site. site.value ≡ self.now.site.value) }
     {
         match Arc::try_clone(&self.site) {

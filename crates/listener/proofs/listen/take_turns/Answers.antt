@@ -25,7 +25,7 @@ use Rattle.listener.proofs.TurnLemmas.{HasGoneRound, HasServedRows, HasTakenIn, 
 use Rattle.listener_round.proofs.NobodyLemmas.{nobody-started}
 use Rattle.listener_round.proofs.WatchLemmas.{watched-as}
 use Rattle.listener.proofs.WholeLemmas.{whole-begun}
-use Rattle.listener.proofs.WholeTurnLemmas.{begun-broken}
+use Rattle.listener.proofs.WholeEndLemmas.{begun-broken}
 use Rattle.rounds.proofs.TimelyLemmas.{not-at_end_serving}
 use Rattle.listener.proofs.WaitLemmas.{has-waited}
 use Rattle.listener.proofs.listen.take_turns.Goals as goal
