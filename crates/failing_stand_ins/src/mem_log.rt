@@ -2,12 +2,12 @@
 ghost use Rattle.std.specs.Prelude.{◌≡◌, true, false, length, take, drop, OnOk, OnErr, option_map, slice_get};
 ghost use Rattle.mpm_base.specs.Sink.{Begins, Puts, opened_behind, telling_log};
 ghost use Rattle.stand_ins.specs.Calls.{next_is_listed};
-ghost use Rattle.stand_ins.specs.MemLog.{new_log, log_after_begin, log_after_write, write_fails, written_at};
-ghost use Rattle.stand_ins.specs.MemSink.{PutsUnless, taken_at_once};
+ghost use Rattle.failing_stand_ins.specs.MemLog.{new_log, log_after_begin, log_after_write, write_fails, written_at};
+ghost use Rattle.failing_stand_ins.specs.MemSink.{PutsUnless, taken_at_once};
 
-use crate::calls::Calls;
 use crate::mem_sink::MemSink;
 use mpm_base::{Logs, NoMemory, Octets, Put, Sequence, Sink};
+use stand_ins::Calls;
 use std::alloc::Global;
 use std::marker::Model;
 
@@ -35,7 +35,7 @@ pub struct MemLog {
 }
 
 impl Model for MemLog {
-    ghost use Rattle.stand_ins.specs.MemLog.{SeenLog};
+    ghost use Rattle.failing_stand_ins.specs.MemLog.{SeenLog};
 
     ghost Value = { SeenLog };
 

@@ -4,7 +4,7 @@ use Rattle.mpm_base.specs.Count.{next_count}
 use Rattle.mpm_base.specs.Sink.{Opened, opened_behind}
 use Rattle.mpm_base.specs.declared.sink.Put.{Put}
 use Rattle.stand_ins.specs.Calls.{next_is_listed}
-use Rattle.stand_ins.specs.MemSink.{SeenSink, new_sink, sink_after_write}
+use Rattle.failing_stand_ins.specs.MemSink.{SeenSink, new_sink, sink_after_write}
 
 -- the sink that its bytes go to, which counts calls and faults of both kinds together; and, in order, how it was opened
 pub record SeenLog : Type 0 where

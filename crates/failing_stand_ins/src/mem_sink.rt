@@ -1,12 +1,12 @@
-//! A sink in memory, and one that keeps nothing.
+//! A sink in memory.
 ghost use Rattle.std.specs.Prelude.{◌≡◌, true, false, Some, None, length};
 ghost use Rattle.mpm_base.specs.Count.{Rises, next_count};
-ghost use Rattle.mpm_base.specs.Sink.{Puts, telling_sink, silent_sink};
+ghost use Rattle.mpm_base.specs.Sink.{Puts, telling_sink};
 ghost use Rattle.stand_ins.specs.Calls.{next_is_listed};
-ghost use Rattle.stand_ins.specs.MemSink.{new_sink, taken_at_once, PutsUnless, sink_after_write};
+ghost use Rattle.failing_stand_ins.specs.MemSink.{new_sink, taken_at_once, PutsUnless, sink_after_write};
 
-use crate::calls::Calls;
 use mpm_base::{Octets, Put, Sink};
+use stand_ins::Calls;
 use std::alloc::Global;
 use std::marker::Model;
 
@@ -21,7 +21,7 @@ pub struct MemSink {
 }
 
 impl Model for MemSink {
-    ghost use Rattle.stand_ins.specs.MemSink.{SeenSink};
+    ghost use Rattle.failing_stand_ins.specs.MemSink.{SeenSink};
 
     ghost Value = { SeenSink };
 
@@ -112,21 +112,5 @@ impl Sink for MemSink {
         }
         self.counts_fault();
         Put::Failed
-    }
-}
-
-/// A sink that takes every piece whole, keeps none of it and tells nothing. No write of it fails.
-#[derive(Clone, Copy)]
-pub struct PlainSink;
-
-impl Sink for PlainSink {
-    ghost seen = { λ s. silent_sink 0 };
-
-    /// Takes the whole piece.
-    fn write(&mut self, bytes: &[u8]) -> Put
-        ensures sink { Puts (silent_sink 0) (silent_sink 0) result bytes.now }
-        ensures answer { result ≡ Put.Put (length bytes.now) }
-    {
-        Put::Put(bytes.len() as u64)
     }
 }
