@@ -1,0 +1,5 @@
+pub mod RequestLine
+pub mod EscapedLine
+pub mod LogTime
+pub mod LogLine
+pub mod LogReading
