@@ -31,7 +31,7 @@ pub fn lines_are_read_back()
 
 /// A text of several lines is split at its line feeds into just these lines; none has a line feed but the one that ends it.
 pub fn lines_are_apart()
-    ensures { (entries : List Logged)
+    ensures { (entries : List Logged) → All (λ e. IsSecond e.date) entries
         → lines_of (log_text entries) ≡ map line_text entries ++ [] ∷ [] }
 {}
 
