@@ -5,3 +5,4 @@ pub mod WordLemmas
 pub mod ReadingLemmas
 pub mod RequestLineLemmas
 pub mod TextLemmas
+pub mod PlainLemmas

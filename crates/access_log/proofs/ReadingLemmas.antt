@@ -1,7 +1,7 @@
 -- A line is read back by the common log format, and a text of lines is split into them.
-use Rattle.std.proofs.Common.{◌≡◌, ◌≢◌, ℕ, suc, ◌+◌, ◌<◌, ◌==◌, ◌/◌, ◌%◌, nat_le, Bool, true, false, List, [], ◌∷◌, ◌++◌, length, map, take, drop, codes, not, refl, sym, ap, subst, ◌∙◌, append_assoc, arith}
+use Rattle.std.proofs.Common.{◌≡◌, ◌≢◌, ℕ, suc, ◌+◌, ◌<◌, ◌==◌, ◌/◌, ◌%◌, Bool, true, false, List, [], ◌∷◌, ◌++◌, length, map, take, drop, codes, not, refl, sym, ap, subst, ◌∙◌, append_assoc, arith}
 use Rattle.std.specs.Prelude.{Some, if◌then◌else◌}
-use Rattle.std.specs.List.{All, list_all, flat_map, before_first, after_first, slice_split}
+use Rattle.std.specs.List.{All, list_all, before_first, after_first}
 use Rattle.std.specs.Fmt.{decimal, digit_glyph}
 use Rattle.std.proofs.lemmas.Bool.Decides.{nat_tests}
 use Rattle.std.proofs.lemmas.List.{take_at}
@@ -10,7 +10,7 @@ use Rattle.std.proofs.lemmas.List.Splits.{slice_split_at}
 use Rattle.std.proofs.Math.Seq.{drop-append-add}
 use Rattle.mpm_base.specs.Moment.{IsSecond}
 use Rattle.access_log.specs.RequestLine.{is_feed, lines_of}
-use Rattle.access_log.specs.EscapedLine.{is_marked, is_printed, escaped_byte, escaped}
+use Rattle.access_log.specs.EscapedLine.{is_marked, is_printed, escaped}
 use Rattle.access_log.specs.LogTime.{parts_at, time_text}
 use Rattle.access_log.specs.LogLine.{Logged, address_text, quoted_text, size_text, line_text, log_text}
 use Rattle.access_log.specs.LogReading.{IsReadBack, behind_quote, behind_request, code_in, host_in, quoted_len, request_in, size_in, time_in, unescaped}

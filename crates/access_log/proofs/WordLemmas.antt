@@ -1,14 +1,14 @@
 -- The bytes of addresses, times, codes and sizes: none of them is a space, a quote, a bracket or a line feed.
-use Rattle.std.proofs.Common.{◌≡◌, ℕ, zero, suc, ◌+◌, ◌-◌, ◌/◌, ◌%◌, ◌<◌, ◌≤◌, ◌==◌, ◌&&◌, ◌||◌, nat_le, nat_lt, Bool, true, false, List, [], ◌∷◌, ◌++◌, map, codes, refl, arith, get_or}
+use Rattle.std.proofs.Common.{◌≡◌, ℕ, zero, suc, ◌+◌, ◌-◌, ◌/◌, ◌%◌, ◌<◌, ◌==◌, ◌&&◌, ◌||◌, nat_le, Bool, true, false, List, [], ◌∷◌, ◌++◌, codes, refl, arith, get_or}
 use Rattle.std.specs.Prelude.{if◌then◌else◌}
-use Rattle.std.specs.List.{All, list_all, join_with_byte}
+use Rattle.std.specs.List.{All, list_all}
 use Rattle.std.specs.Fmt.{decimal, digits, digits_onto, digit_glyph}
 use Rattle.std.proofs.lemmas.Bool.{and_parts}
 use Rattle.std.proofs.lemmas.Bool.Decides.{nat_tests}
 use Rattle.std.proofs.lemmas.List.Elements.{All-nil, All-cons, All-append}
 use Rattle.std.proofs.lemmas.List.Sums.{AllPass-from_list_all}
 use Rattle.httpdate.specs.declared.parts.Parts.{Parts}
-use Rattle.httpdate.specs.Text.{two_digits, four_digits, month_name}
+use Rattle.httpdate.specs.Text.{two_digits, month_name}
 use Rattle.access_log.specs.LogTime.{time_text}
 use Rattle.access_log.specs.LogLine.{address_text, size_text}
 use Rattle.access_log.proofs.SplitLemmas.{HasNone, none_of}

@@ -1,7 +1,9 @@
 //! A request line as it stands between the quotes of a log line.
-ghost use Rattle.std.specs.Prelude.{◌≡◌, ◌++◌, ◌<◌, ◌&&◌, false, not, IfOk, OnOk};
+ghost use Rattle.std.specs.Prelude.{◌≡◌, ◌++◌, ◌<◌, false, IfOk, OnOk};
 ghost use Rattle.std.specs.Fmt.{digit_glyph};
+ghost use Rattle.std.specs.List.{list_all};
 ghost use Rattle.access_log.specs.EscapedLine as spec;
+ghost use Rattle.access_log.specs.PlainInside.{is_plain};
 
 use mpm_base::{NoMemory, Octets};
 use std::alloc::Global;
@@ -34,7 +36,7 @@ fn is_printed(byte: u8) -> bool
 
 /// Whether the byte stands in the log as it is.
 fn is_plain(byte: u8) -> bool
-    ensures { result ≡ (spec.is_printed byte && not (spec.is_marked byte)) }
+    ensures { result ≡ is_plain byte }
 {
     is_printed(byte) && !is_marked(byte)
 }
@@ -52,14 +54,32 @@ fn add_byte(out: &mut Octets, byte: u8) -> Result<(), NoMemory>
     }
 }
 
-/// Adds a line as the log has it. Most lines have nothing to escape.
-pub(crate) fn add_escaped(out: &mut Octets, line: &[u8]) -> Result<(), NoMemory>
+/// Adds the bytes of a line as the log has them, one by one.
+fn add_bytes(out: &mut Octets, line: &[u8]) -> Result<(), NoMemory>
     ensures { OnOk result (out.new ≡ out.old ++ spec.escaped line.now) }
 {
     for byte in line {
         add_byte(out, *byte)?;
     }
     Ok(())
+}
+
+/// Whether each byte stands in the log as it is.
+fn are_plain(line: &[u8]) -> bool
+    ensures { result ≡ list_all is_plain line.now }
+{
+    line.iter().all(|byte| is_plain(*byte))
+}
+
+/// Adds a line as the log has it. Most lines stand there as they are.
+pub(crate) fn add_escaped(out: &mut Octets, line: &[u8]) -> Result<(), NoMemory>
+    ensures { OnOk result (out.new ≡ out.old ++ spec.escaped line.now) }
+{
+    if are_plain(line) {
+        out.add(line)
+    } else {
+        add_bytes(out, line)
+    }
 }
 
 /// A request line as it stands between the quotes of a log line; nothing for an empty one.

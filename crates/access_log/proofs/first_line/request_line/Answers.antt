@@ -1,4 +1,4 @@
-use Rattle.std.proofs.Common.{◌+◌, take, min, length, ap, ◌∙◌}
+use Rattle.std.proofs.Common.{◌+◌, take, ap, ◌∙◌}
 use Rattle.http_read.specs.Sizes.{greatest_head}
 use Rattle.access_log.specs.RequestLine.{lines_of, first_filled}
 use Rattle.access_log.proofs.RequestLineLemmas.{take_within}
