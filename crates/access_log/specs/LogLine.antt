@@ -1,4 +1,5 @@
 -- The lines of the access log, in the common log format: remote host, identity, user, time, request line, code and size.
+-- Why it is so stands in docs/DECISIONS.md: 124, What the access log has of a request.
 use Rattle.std.specs.Prelude.{ℕ, ◌==◌, List, [], ◌∷◌, ◌++◌, length, map, codes, if◌then◌else◌}
 use Rattle.std.specs.List.{flat_map, join_with_byte}
 use Rattle.std.specs.Fmt.{decimal}

@@ -1,5 +1,6 @@
 -- The request line of what a connection received (RFC 9112, section 3), as a log has it: of the head that stands at the front of the
 -- bytes, behind the empty lines that are skipped (section 2.2), and cut to its limit.
+-- Why it is so stands in docs/DECISIONS.md: 124, What the access log has of a request.
 use Rattle.std.specs.Prelude.{ℕ, ◌==◌, Bool, List, [], ◌∷◌, take, if◌then◌else◌}
 use Rattle.std.specs.List.{slice_split}
 use Rattle.http_read.specs.HeadLines.{line_len}

@@ -38,7 +38,12 @@ pub fn show_lines(
 fn add_line(log: &mut Octets, alloc: Global, limit: u32, row: &str) -> Result<(), NoMemory> {
     let (response, head) = response_of(row);
     let received = text_of(alloc, head, Marks::Heads)?;
-    write_line(log, alloc, response, request_line(received.as_slice(), limit))
+    write_line(
+        log,
+        alloc,
+        response,
+        request_line(received.as_slice(), limit),
+    )
 }
 
 /// Writes the line of the response.
@@ -48,7 +53,12 @@ fn write_line(
     response: Response,
     line: &[u8],
 ) -> Result<(), NoMemory> {
-    let Response { peer, date, code, size } = response;
+    let Response {
+        peer,
+        date,
+        code,
+        size,
+    } = response;
     log_line(alloc, log, peer, date.min(LAST_SECOND), code, line, size)
 }
 
