@@ -9,11 +9,11 @@ unfoldable pub greatest : (ℕ → Bool) → ℕ → ℕ
 greatest passes zero = 0
 greatest passes (suc n) = if passes (suc n) then suc n else greatest passes n
 
--- how many years from 1970 on have gone by when so many days have, before the year 9999 at most
+-- how many whole years, from 1970 on and none but those before 9999, have gone by when so many days have
 unfoldable pub years_gone : ℕ → ℕ
 years_gone days = greatest (λ n. nat_le (days_of_years n) days) (9999 - 1970)
 
--- how many months of a year have gone by when so many of its days have
+-- how many whole months of a year, December not among them, have gone by when so many of its days have
 unfoldable pub months_gone : ℕ → ℕ → ℕ
 months_gone year days = greatest (λ n. nat_le (days_of_months year n) days) 11
 
