@@ -28,6 +28,8 @@ MARK = f"{BUILT}/sources"
 BEHIND = ["nice", "-n", "15"] if shutil.which("nice") else []
 # The most processors of which a proof still gains.
 MOST_JOBS = 4
+# What each further job of a proof takes of memory.
+FURTHER_JOB = 7e8
 
 
 @functools.lru_cache(maxsize=None)
@@ -182,14 +184,14 @@ class Lanes:
         self.under = {it: {*rooms.below(it)} - {it} for it in self.left}
 
     def need(self, crate):
-        """What the proof of a crate takes of memory at most, as far as its lines tell."""
+        """What the proof of a crate takes of memory at most, as far as its lines tell: a quarter more than what was seen of it."""
         lines = {it: lines_of(f"{self.rooms.sources}/crates/{it}", ".rt") for it in self.rooms.below(crate)}
         own = lines[crate] + 0.2 * lines_of(f"{self.rooms.sources}/crates/{crate}", ".antt")
-        return 1.5e9 + 1e6 * own + 1e5 * sum(lines.values())
+        return 1e9 + 4e5 * own + 4e4 * sum(lines.values())
 
     def taken(self, crate, jobs):
-        """The memory of a crate with so many jobs: each further one takes a part of what the first one does."""
-        return self.needs[crate] * (1 + 0.6 * (jobs - 1))
+        """The memory of a crate with so many jobs: what is read of the crates below is there once for all of them."""
+        return self.needs[crate] + FURTHER_JOB * (jobs - 1)
 
     def fill(self):
         """Begins what can begin: at most as many crates as there are processors."""

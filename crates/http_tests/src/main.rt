@@ -14,6 +14,8 @@
 //! - `long`: what a client sends first, how often it sends a further text, that text, and what it sends last. `calls`: the first row
 //!   is such a client; each other one is the file `large.bin` that it asks for. `slow`: how many bytes the file has that a client
 //!   asks for, and for how many its link has room in each turn.
+//! - `log LIMIT`: for each line of a log, whose request line is cut to the limit, an address, a second, a code, a size, and what came of
+//!   the client. `escapes`: no rows, for each byte of a request line.
 //! - `pages`: the letters and the numbers of a snapshot.
 #![tactic(auto)]
 
@@ -22,6 +24,7 @@ mod conns;
 mod heads;
 mod large;
 mod leaving;
+mod logs;
 mod long_link;
 mod pages;
 mod responses;
@@ -67,6 +70,8 @@ fn show_section(sheet: &mut Sheet, alloc: Global, section: Section<'_>) -> Resul
         "cuts" => conns::show_cuts(sheet, alloc, rows),
         "long" => large::show_long(sheet, alloc, rows),
         "calls" => large::show_calls(sheet, alloc, rows),
+        "log" => logs::show_lines(sheet, alloc, rest, rows),
+        "escapes" => logs::show_escapes(sheet, alloc),
         "slow" => large::show_slow(sheet, alloc, rows),
         _ => pages::show_pages(sheet, alloc, rows),
     }

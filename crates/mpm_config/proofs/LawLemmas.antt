@@ -51,6 +51,7 @@ replaced s v w sets.DocumentRoot sets.DocumentRoot h = refl
 replaced s v w sets.DirectoryIndex sets.DirectoryIndex h = refl
 replaced s v w (sets.ServerStatus b) (sets.ServerStatus c) h = refl
 replaced s v w sets.ServerName sets.ServerName h = refl
+replaced s v w sets.TransferLog sets.TransferLog h = refl
 replaced s v w a b h = absurd h
 
 -- the same in the section of a host; what may not stand there is refused the first time
@@ -63,6 +64,7 @@ replaced_in_host h v w sets.DocumentRoot sets.DocumentRoot same = refl
 replaced_in_host h v w sets.DirectoryIndex sets.DirectoryIndex same = refl
 replaced_in_host h v w (sets.ServerStatus b) (sets.ServerStatus c) same = tt
 replaced_in_host h v w sets.ServerName sets.ServerName same = refl
+replaced_in_host h v w sets.TransferLog sets.TransferLog same = tt
 replaced_in_host h v w a b same = absurd same
 
 -- what holds of both outcomes of a test holds of its outcome

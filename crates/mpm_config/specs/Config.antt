@@ -19,7 +19,7 @@ pub record AreHostConfs (hosts : List HostConf) : Type 0 where
 
 -- the numbers as they were written and after the corrections, the address to listen at, the port of the
 -- control line, the folder of the files, the name of a folder's own file, whether the status page is served,
--- and the hosts
+-- the name of the log, where there is one, and the hosts
 pub record Configuration : Type 0 where
   pub written : Numbers
   pub current : Numbers
@@ -28,6 +28,7 @@ pub record Configuration : Type 0 where
   pub root : List ℕ
   pub index : List ℕ
   pub status : Bool
+  pub log : Option (List ℕ)
   pub hosts : List HostConf
 
 -- what every configuration keeps

@@ -172,7 +172,7 @@ confs_by name root index (h ∷ hs) = map (host_conf_by root index) (h ∷ hs)
 -- the configuration of the settings of a whole text
 abbrev pub configuration_of : Settings → ConfigAndWarnings
 configuration_of s = record {
-  config = record { written = s.numbers; current = after_corrections s.numbers; listen = s.listen; control = s.control; root = s.root; index = s.index; status = s.status; hosts = confs_by s.name s.root s.index s.hosts };
+  config = record { written = s.numbers; current = after_corrections s.numbers; listen = s.listen; control = s.control; root = s.root; index = s.index; status = s.status; log = s.log; hosts = confs_by s.name s.root s.index s.hosts };
   warnings = notices s.numbers;
 }
 

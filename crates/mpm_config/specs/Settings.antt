@@ -3,7 +3,7 @@ use Rattle.std.specs.Prelude.{◌≡◌, ℕ, Bool, true, List, [], ◌∷◌, O
 use Rattle.mpm_base.specs.declared.addr.Addr.{Addr}
 use Rattle.mpm_config.specs.declared.numbers.Numbers.{Numbers}
 use Rattle.mpm_config.specs.declared.setting.Setting.{Setting}
-use Rattle.mpm_config.specs.declared.setting.Setting.TheVariants.{Number, KeepAlive, Listen, ControlListen, DocumentRoot, DirectoryIndex, ServerStatus, ServerName}
+use Rattle.mpm_config.specs.declared.setting.Setting.TheVariants.{Number, KeepAlive, Listen, ControlListen, DocumentRoot, DirectoryIndex, ServerStatus, ServerName, TransferLog}
 use Rattle.mpm_config.specs.HostName.{server_name}
 use Rattle.mpm_config.specs.Numbers.{initial_numbers, with_number}
 
@@ -29,9 +29,11 @@ with_host_setting h v (KeepAlive b) = None
 with_host_setting h v (Listen a) = None
 with_host_setting h v (ControlListen p) = None
 with_host_setting h v (ServerStatus b) = None
+with_host_setting h v TransferLog = None
 
 -- the numbers, the address to listen at, the port of the control line, the folder of the files, a folder's own file, whether the
--- status page is served, the name of the server, where it has one, and the hosts whose sections were closed
+-- status page is served, the name of the server, where it has one, that of the log, where there is one, and the hosts whose sections
+-- were closed
 pub record Settings : Type 0 where
   pub numbers : Numbers
   pub listen : Addr
@@ -40,6 +42,7 @@ pub record Settings : Type 0 where
   pub index : List ℕ
   pub status : Bool
   pub name : List (List ℕ)
+  pub log : Option (List ℕ)
   pub hosts : List HostSettings
 
 -- the settings of the empty text
@@ -52,6 +55,7 @@ initial_settings = record {
   index = codes "index.html";
   status = true;
   name = [];
+  log = None;
   hosts = [];
 }
 
@@ -65,6 +69,7 @@ with_setting s v DocumentRoot = record s { root = v }
 with_setting s v DirectoryIndex = record s { index = v }
 with_setting s v (ServerStatus b) = record s { status = b }
 with_setting s v ServerName = record s { name = server_name v ∷ [] }
+with_setting s v TransferLog = record s { log = Some v }
 
 -- both settings are of one directive
 abbrev pub IsSameDirective : Setting → Setting → Type 0
@@ -76,4 +81,5 @@ IsSameDirective DocumentRoot DocumentRoot = Unit {0}
 IsSameDirective DirectoryIndex DirectoryIndex = Unit {0}
 IsSameDirective (ServerStatus b) (ServerStatus c) = Unit {0}
 IsSameDirective ServerName ServerName = Unit {0}
+IsSameDirective TransferLog TransferLog = Unit {0}
 IsSameDirective s t = ⊥

@@ -40,6 +40,7 @@ pub enum Directive {
     ServerStatus,
     ServerName,
     ServerAlias,
+    TransferLog,
 }
 
 /// A name, and the directive that it stands for.
@@ -50,7 +51,7 @@ pub struct Spelling {
 }
 
 /// Every name of the language, the first spelling of a directive before the others.
-pub const SPELLINGS: [Spelling; 27] = [
+pub const SPELLINGS: [Spelling; 28] = [
     Spelling {
         name: "ServerLimit",
         directive: Directive::Number(Quantity::ServerLimit),
@@ -158,6 +159,10 @@ pub const SPELLINGS: [Spelling; 27] = [
     Spelling {
         name: "ServerAlias",
         directive: Directive::ServerAlias,
+    },
+    Spelling {
+        name: "TransferLog",
+        directive: Directive::TransferLog,
     },
 ];
 

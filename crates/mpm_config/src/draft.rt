@@ -28,10 +28,13 @@ pub struct Draft {
     index: Octets,
     status: bool,
     name: Names,
+    log: Option<String>,
     hosts: Vec<HostDraft>,
 }
 
 impl Model for Draft {
+    ghost use Rattle.std.specs.Prelude.{option_map};
+    ghost use Rattle.std.specs.String.{string_bytes};
     ghost use Rattle.mpm_config.specs.Settings.{Settings};
     ghost use Rattle.mpm_config.specs.SettingsInside.{AreKept};
 
@@ -45,6 +48,7 @@ impl Model for Draft {
       index = d.index;
       status = d.status;
       name = d.name;
+      log = option_map string_bytes d.log;
       hosts = d.hosts.items;
     } };
 
@@ -67,6 +71,7 @@ impl Draft {
             index: Octets::of(alloc, "index.html".as_bytes())?,
             status: true,
             name: Names::make(alloc),
+            log: None,
             hosts: Vec::new(alloc),
         })
     }
@@ -89,6 +94,7 @@ impl Draft {
                 name.push(Octets::of(alloc, server_name(value.as_bytes()))?)?;
                 self.name = name;
             }
+            Setting::TransferLog => self.log = Some(String::from_str(alloc, value)?),
         }
         Ok(())
     }
@@ -124,6 +130,7 @@ impl Draft {
             index,
             status,
             name,
+            log,
             hosts,
         } = self;
         let hosts = confs_of(
@@ -142,6 +149,7 @@ impl Draft {
             root,
             index,
             status,
+            log,
             hosts,
         };
         Ok((config, warnings))

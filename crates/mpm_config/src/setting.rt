@@ -6,11 +6,11 @@ ghost use Rattle.mpm_config.specs.Words.{words};
 
 use crate::directive::{Directive, Quantity, named};
 use crate::host_name::{are_aliases, is_server_name};
-use crate::value::{address, is_file, is_folder, port, switch};
+use crate::value::{address, is_file, is_folder, is_log, port, switch};
 use crate::word::{First, first_word};
 use mpm_base::Addr;
 
-/// What a value sets. Of the two names the value itself is kept.
+/// What a value sets. Of names the value itself is kept.
 #[derive(Clone, Copy, Debug)]
 pub enum Setting {
     Number(Quantity, u32),
@@ -21,6 +21,7 @@ pub enum Setting {
     DirectoryIndex,
     ServerStatus(bool),
     ServerName,
+    TransferLog,
 }
 
 /// What the line of a directive does.
@@ -52,28 +53,11 @@ impl Directive {
             Directive::KeepAlive => Some(Setting::KeepAlive(switch(value)?)),
             Directive::Listen => Some(Setting::Listen(address(value)?)),
             Directive::ControlListen => Some(Setting::ControlListen(port(value)?)),
-            Directive::DocumentRoot => {
-                if is_folder(value) {
-                    Some(Setting::DocumentRoot)
-                } else {
-                    None
-                }
-            }
-            Directive::DirectoryIndex => {
-                if is_file(value) {
-                    Some(Setting::DirectoryIndex)
-                } else {
-                    None
-                }
-            }
+            Directive::DocumentRoot => is_folder(value).then_some(Setting::DocumentRoot),
+            Directive::DirectoryIndex => is_file(value).then_some(Setting::DirectoryIndex),
             Directive::ServerStatus => Some(Setting::ServerStatus(switch(value)?)),
-            Directive::ServerName => {
-                if is_server_name(value) {
-                    Some(Setting::ServerName)
-                } else {
-                    None
-                }
-            }
+            Directive::ServerName => is_server_name(value).then_some(Setting::ServerName),
+            Directive::TransferLog => is_log(value).then_some(Setting::TransferLog),
             Directive::ServerAlias => None,
         }
     }

@@ -20,18 +20,18 @@ told_grows bytes from count (Some w) p q first more =
     ∙ ap (λ (x : List ℕ). Some (w ++ x)) (sym (take-add from count bytes))
 
 -- one more piece was taken from the bytes that are left
-pub told_puts : (bytes : List ℕ) (from count : ℕ) (o p q : Option (List ℕ)) (faults faults' : ℕ) (answer : Put)
-    → p ≡ option_map (λ written. written ++ take from bytes) o
-    → Puts (record { told = p; faults = faults }) (record { told = q; faults = faults' }) answer (take (length bytes - from) (drop from bytes))
+pub told_puts : (bytes : List ℕ) (from count : ℕ) (o : Option (List ℕ)) (mid new : SinkSeen) (answer : Put)
+    → mid.told ≡ option_map (λ written. written ++ take from bytes) o
+    → Puts mid new answer (take (length bytes - from) (drop from bytes))
     → answer ≡ put.Put count
-    → q ≡ option_map (λ written. written ++ take (from + count) bytes) o
-told_puts bytes from count o p q faults faults' answer first puts put_is =
+    → new.told ≡ option_map (λ written. written ++ take (from + count) bytes) o
+told_puts bytes from count o mid new answer first puts put_is =
     let left : take (length bytes - from) (drop from bytes) ≡ drop from bytes =
     ap (λ (n : ℕ). take n (drop from bytes)) (sym (length-drop from bytes)) ∙ take-length (drop from bytes) in
-    told_grows bytes from count o p q first
+    told_grows bytes from count o mid.told new.told first
     (puts.told_is
-    ∙ ap (λ (x : Put). option_map (λ (written : List ℕ). written ++ put_bytes x (take (length bytes - from) (drop from bytes))) p) put_is
-    ∙ ap (λ (x : List ℕ). option_map (λ (written : List ℕ). written ++ take count x) p) left)
+    ∙ ap (λ (x : Put). option_map (λ (written : List ℕ). written ++ put_bytes x (take (length bytes - from) (drop from bytes))) mid.told) put_is
+    ∙ ap (λ (x : List ℕ). option_map (λ (written : List ℕ). written ++ take count x) mid.told) left)
 
 -- ## A write that failed
 

@@ -6,7 +6,7 @@ pub loop-from-preserved : goal.loop-from-preserved
 loop-from-preserved g c =
     record {
       from = search rules;
-      told = told_puts c.args.bytes.now c.loop-from.from c.in-Put.count _ _ _ _ _ _ c.loop-from.invariant.told c.write.ensures c.in-Put.is;
+      told = told_puts c.args.bytes.now c.loop-from.from c.in-Put.count _ _ _ _ c.loop-from.invariant.told c.write.ensures c.in-Put.is;
       faults = search rules;
     }
 
