@@ -33,11 +33,11 @@ use Rattle.listener_round.proofs.StandingLemmas.{KeepsPast, counted-both, ordere
 
 -- all that was ordered and done before is so, and nothing else, but for so many lines that were given
 pub record StopsPast (o : Opening) (s : State) (given : ℕ) (old new : List Entry) : Type 0 where
-  ordered : AreOrdered o 0 0 s old → AreOrdered o 0 0 s new
-  given_is : count_events is_by_line new ≡ count_events is_by_line old + given
-  ending : list_any (λ (e : Entry). is_graceful_stop e.event) new ≡ list_any (λ (e : Entry). is_graceful_stop e.event) old
-  orders : count_events is_order new ≡ count_events is_order old
-  refusals : count_events is_store_refusal new ≡ count_events is_store_refusal old
+  pub ordered : AreOrdered o 0 0 s old → AreOrdered o 0 0 s new
+  pub given_is : count_events is_by_line new ≡ count_events is_by_line old + given
+  pub ending : list_any (λ (e : Entry). is_graceful_stop e.event) new ≡ list_any (λ (e : Entry). is_graceful_stop e.event) old
+  pub orders : count_events is_order new ≡ count_events is_order old
+  pub refusals : count_events is_store_refusal new ≡ count_events is_store_refusal old
 
 -- what keeps all of it, behind that
 pub keeps-stopped : (o : Opening) (s : State) (given : ℕ) (a b c : List Entry) → StopsPast o s given a b → KeepsPast o s b c → StopsPast o s given a c
