@@ -18,7 +18,7 @@ BUILDING = threading.Lock()
 NOBODY = 65_534
 # Bytes that a file may have, in a shell where it may have one block.
 BLOCK = 512
-OPENED = "not a regular file"
+NOT_REGULAR = "not a regular file"
 # Starts the program where a file may have one block, and where that it would have more is an error and no signal.
 LITTLE_DISK = ["sh", "-c", 'trap "" XFSZ; ulimit -f 1; exec "$@"', "sh"]
 
@@ -70,7 +70,7 @@ def a_log_that_would_keep_who_opens_it_is_refused():
         rows = ["begin first.log", *(f"begin {name}" for name in names), "write behind|"]
         came, told = play(folder, rows)
         expect("what is no regular file", came, ["true", "false", "false", "false", "Put(7)"])
-        expect("why", told, [f"cannot open {name}: {OPENED}" for name in names])
+        expect("why", told, [f"cannot open {name}: {NOT_REGULAR}" for name in names])
         expect("the log that was opened before", content(f"{folder}/first.log"), b"behind\n")
 
 
