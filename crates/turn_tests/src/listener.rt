@@ -35,6 +35,8 @@ pub struct Plan {
     pub most: u32,
     /// It wakes workers behind a push alone.
     pub wakes_once: bool,
+    /// It folds the history where that is due.
+    pub folding: bool,
     /// Behind how many connections, all of which are gone then, the server restarts.
     pub restarts_behind: u32,
 }
@@ -115,7 +117,7 @@ fn goes_round<R: Wait, M: Room>(
         if front.tally.gone() >= plan.connections as u64 {
             return true;
         }
-        signal_slots(rt, front, pusher);
+        signal_slots(rt, front, pusher, plan.folding);
         let pushed = hand_over(rt, pusher, front.begun.saturating_sub(1));
         wake_workers(rt, pusher, plan, front.tally, pushed);
     }
@@ -216,8 +218,14 @@ fn begins<R: Wait, M: Room>(rt: &R, front: &mut Front<'_, M>) -> bool
     true
 }
 
-/// Signals each slot for which something may have come, where nothing waits for the workers any more, and folds the history where that is due.
-fn signal_slots<R: Wait, M: Room>(rt: &R, front: &mut Front<'_, M>, pusher: &mut Pusher<'_, M>)
+/// Signals each slot for which something may have come, where nothing waits for the workers any more, and folds the history where that is due,
+/// if it folds at all.
+fn signal_slots<R: Wait, M: Room>(
+    rt: &R,
+    front: &mut Front<'_, M>,
+    pusher: &mut Pusher<'_, M>,
+    folding: bool,
+)
     ensures { front.new.pass.seat.me.0.row ≡ front.old.pass.seat.me.0.row }
 {
     if pusher.queue.len(rt, &mut pusher.seat) == 0 {
@@ -230,7 +238,7 @@ fn signal_slots<R: Wait, M: Room>(rt: &R, front: &mut Front<'_, M>, pusher: &mut
         );
     }
     let turn = front.tally.begins();
-    folds(rt, front.hands.shared, &mut front.pass);
+    folds(rt, front.hands.shared, &mut front.pass, folding);
     front.tally.made(turn);
 }
 

@@ -267,10 +267,7 @@ fn play_on_threads<M: Room + Send + Sync, R: Threads + Wait + Sync>(
     rt: &R,
     players: Vec<Player<'_, M>>,
 ) -> Result<usize, NoMemory> {
-    let part = |player: Player<'_, M>| -> bool
-        ensures { result ≡ result }
-    { comes_back(rt, player) };
-    match thread::map_vec(rt, players, &part) {
+    match thread::map_vec(rt, players, &|player| comes_back(rt, player)) {
         Ok(all) => Ok(all.iter().filter(|back| **back).count()),
         Err(_) => Err(NoMemory),
     }

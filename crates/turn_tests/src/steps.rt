@@ -102,8 +102,8 @@ pub fn signals<R: Wait>(
     }
 }
 
-/// The history is folded, where that is due.
-pub fn folds<R: Wait>(rt: &R, shared: &Shared<TestBoard>, pass: &mut Pass<TestBoard>)
+/// The history is folded, where that is due, or it is only looked at.
+pub fn folds<R: Wait>(rt: &R, shared: &Shared<TestBoard>, pass: &mut Pass<TestBoard>, folding: bool)
     requires own { pass.old.seat.table_id ≡ shared.now.table.shared.table_id }
     requires listener { IsListener pass.old.seat.me }
     ensures own { pass.new.seat.table_id ≡ pass.old.seat.table_id }
@@ -111,5 +111,9 @@ pub fn folds<R: Wait>(rt: &R, shared: &Shared<TestBoard>, pass: &mut Pass<TestBo
     ensures credits { pass.new.seat.me.0.credits ≡ pass.old.seat.me.0.credits }
     ensures row { pass.new.seat.me.0.row ≡ pass.old.seat.me.0.row }
 {
-    let _ = fold(rt, shared, pass);
+    if folding {
+        let _ = fold(rt, shared, pass);
+    } else {
+        let _ = take_look(rt, shared, pass);
+    }
 }
