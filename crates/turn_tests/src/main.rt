@@ -6,7 +6,7 @@
 //! There are no rows. One thread is the listener's, and each other one a worker's.
 //!
 //! - `serve THREADS CONNECTIONS WINDOW RESTARTS`: so many connections, of which at most so many are open at once, and so many restarts
-//!   between them, each once all that were taken before are gone. By their numbers the clients send a request, nothing, three requests at
+//!   between them, each once all that were taken before are gone: the child is let go of then, and starts again. By their numbers the clients send a request, nothing, three requests at
 //!   once, the same little by little with little room for the responses, the same less so, half a request before a reset, and a request
 //!   whose response can't be sent; the last one asks for its connection to be closed, which lingers then. One link of 64 looks at each of
 //!   its calls whether the listener gets a turn meanwhile.
@@ -98,7 +98,7 @@ fn plan_of(kind: &str, workers: u32, rest: &str) -> Plan {
 
 /// Behind how many connections the server restarts, where it does so many times.
 fn behind(connections: u32, restarts: u32) -> u32 {
-    let parts = restarts.min(30) + 1;
+    let parts = restarts.saturating_add(1);
     connections.saturating_add(parts - 1) / parts
 }
 

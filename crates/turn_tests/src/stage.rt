@@ -86,7 +86,7 @@ pub fn play_named<M: Room + Send + Sync, R: Threads + Wait + Sync>(
     }))
 }
 
-/// The first child begins, and a listener and its workers play: how many seats came back, and how many items stand in the queue then. None
+/// The child starts, and a listener and its workers play: how many seats came back, and how many items stand in the queue then. None
 /// where one lacks what it needs.
 fn begin_all<M: Room + Send + Sync, R: Threads + Wait + Sync>(
     rt: &R,
@@ -101,13 +101,14 @@ fn begin_all<M: Room + Send + Sync, R: Threads + Wait + Sync>(
     requires { AllAreOf hands.now.perch.now.places looks.old.items }
 {
     let Zero { mut pass, of: _ } = zero;
-    if !starts(rt, hands.shared, &mut pass, 0) {
+    let Some(credit) = starts(rt, hands.shared, &mut pass) else {
         return Ok(None);
-    }
+    };
     let front = Front {
         hands,
         pass,
         begun: 1,
+        credit,
         slots: Vec::new(alloc),
         site,
         tally,
