@@ -2,9 +2,10 @@
 ghost use Rattle.std.specs.Prelude.{◌≡◌, IfOk};
 ghost use Rattle.conn_state.specs.Conn.{IsFresh};
 
+use failing_stand_ins::MemStore;
 use file_table::{LoadFault, Site, SiteOrder, load};
 use mpm_base::{NoMemory, Octets};
-use stand_ins::{Calls, Files, MemStore, ScriptLink, Wire};
+use stand_ins::{Calls, Files, ScriptLink, Wire};
 use std::alloc::Global;
 use std::sync::Arc;
 

@@ -7,11 +7,12 @@ ghost use Rattle.http_core.specs.Code.{refuses_head};
 
 use crate::heads::LIMITS;
 use crate::pages::page_where;
+use failing_stand_ins::MemStore;
 use file_table::{HostOrder, HostOrders, LoadFault, Site, SiteOrder, bytes, load};
 use http_core::{Body, Plan, ask_of, continue_text, refusal, response};
 use http_read::{HeadAnswer, Request, next_head};
 use mpm_base::{Ask, Names, NoMemory, Note, Octets, Page};
-use stand_ins::{Calls, Files, MemStore};
+use stand_ins::{Calls, Files};
 use std::alloc::Global;
 use test_rows::{Marks, Sheet, number_of, text_of, words};
 

@@ -1,7 +1,8 @@
 //! What outputs answer and keep.
 use crate::calls::calls_of;
+use failing_stand_ins::MemSink;
 use mpm_base::Sink;
-use stand_ins::{MemSink, PlainSink};
+use stand_ins::PlainSink;
 use std::alloc::Global;
 use std::io;
 use test_rows::{Marks, grown, show_bytes, text_of};

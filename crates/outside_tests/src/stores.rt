@@ -1,7 +1,8 @@
 //! What stores answer.
 use crate::calls::calls_of;
+use failing_stand_ins::MemStore;
 use mpm_base::{NoMemory, Store};
-use stand_ins::{Calls, Files, History, MemStore, PlainStore};
+use stand_ins::{Calls, Files, History, PlainStore};
 use std::alloc::Global;
 use std::io;
 use test_rows::{grown, number_of, show_bytes, small_of, words};

@@ -1,8 +1,9 @@
 //! What a run is given: its store, its output, and the script of its front.
 use crate::case::Case;
+use failing_stand_ins::{MemSink, MemStore};
 use mpm_base::NoMemory;
 use mpm_script::{Script, ScriptFault, read_script};
-use stand_ins::{Calls, Files, MemSink, MemStore};
+use stand_ins::{Calls, Files};
 use std::alloc::Global;
 use std::mem;
 

@@ -4,10 +4,11 @@ ghost use Rattle.file_table.specs.Site.{IsLoadable};
 
 use crate::loads::{named, show_load, sized};
 use crate::paths::show_found_for;
+use failing_stand_ins::MemStore;
 use file_table::{HostOrder, HostOrders, LoadFault, Site, SiteOrder, load};
 use mpm_base::{Names, NoMemory, Octets, Store, StoreFault};
 use name_hosts::{HostList, HostNames, choose, host_part};
-use stand_ins::{Calls, Files, MemStore};
+use stand_ins::{Calls, Files};
 use std::alloc::Global;
 use test_rows::{Sheet, small_of};
 

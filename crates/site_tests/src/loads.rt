@@ -1,9 +1,10 @@
 //! Sites by example: how they are loaded.
 ghost use Rattle.std.specs.Prelude.{None};
 
+use failing_stand_ins::MemStore;
 use file_table::{LoadFault, Site, SiteOrder, load};
 use mpm_base::{Names, NoMemory, Octets, Store, StoreFault};
-use stand_ins::{Calls, Files, MemStore};
+use stand_ins::{Calls, Files};
 use std::alloc::Global;
 use test_rows::{Sheet, number_of};
 

@@ -1,10 +1,11 @@
 //! Restarts by example.
 use crate::loads::{CrowdedStore, failing, named, show_too_large, show_too_many, sized};
+use failing_stand_ins::MemStore;
 use file_table::LoadFault;
 use mpm_base::{NoMemory, Store};
 use mpm_config::{Config, read_config, shape_of};
 use restart_control::{Plan, ReloadFault, reload};
-use stand_ins::{Calls, Files, MemStore};
+use stand_ins::{Calls, Files};
 use std::alloc::Global;
 use test_rows::{Marks, Sheet, text_of};
 

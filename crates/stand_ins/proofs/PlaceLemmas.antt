@@ -1,5 +1,5 @@
 -- What a map and places find once a file was set or removed.
-use Rattle.std.proofs.Common.{◌≡◌, ◌≢◌, ℕ, zero, suc, ◌<◌, ◌≤◌, ◌⊎◌, inl, inr, Bool, true, false, ◌&&◌, List, [], ◌∷◌, ◌++◌, length, Option, None, Some, get_or, set, bytes_eq, IsUtf8, refl, sym, ap, subst, ◌∙◌, arith}
+use Rattle.std.proofs.Common.{◌≡◌, ℕ, zero, suc, ◌<◌, ◌≤◌, ◌⊎◌, inl, inr, Bool, true, false, ◌&&◌, List, [], ◌∷◌, ◌++◌, length, Option, None, Some, get_or, set, bytes_eq, IsUtf8, refl, sym, ap, subst, ◌∙◌, arith}
 use Rattle.std.specs.Option.{is_some, IfSome}
 use Rattle.std.specs.Global.{Vec}
 use Rattle.std.specs.HashMap as hash
@@ -10,7 +10,7 @@ use Rattle.std.proofs.lemmas.List.{get_or_default}
 use Rattle.std.proofs.lemmas.List.Elements.{All-get_or, All-push, All-set}
 use Rattle.std.proofs.lemmas.Slice.Eq.{bytes_eq-Decides}
 use Rattle.stand_ins.specs.declared.slot.Slot.{Slot}
-use Rattle.stand_ins.specs.FilesInside.{AreFound, FindsSlots, HasNone, HaveTexts, IsOnlyAt, gone, has_name, slot_at}
+use Rattle.stand_ins.specs.FilesInside.{AreFound, FindsSlots, HasNone, IsOnlyAt, gone, has_name, slot_at}
 
 false_if : (b : Bool) → (b ≡ true → ⊥) → b ≡ false
 false_if true never = absurd (never refl)

@@ -1,9 +1,7 @@
 -- What a change at one place leaves of the files.
-use Rattle.std.proofs.Common.{◌≡◌, ◌≢◌, ℕ, zero, suc, ◌<◌, ◌≤◌, Bool, true, false, ◌&&◌, List, [], ◌∷◌, ◌++◌, length, Option, None, Some, get_or, set, bytes_eq, refl, sym, ap, ◌∙◌, arith}
+use Rattle.std.proofs.Common.{◌≡◌, ◌≢◌, ℕ, zero, suc, ◌<◌, Bool, true, false, ◌&&◌, List, [], ◌∷◌, ◌++◌, length, Option, None, Some, get_or, set, bytes_eq, refl, sym, ap, ◌∙◌, arith}
 use Rattle.std.specs.Option.{is_some}
-use Rattle.std.proofs.lemmas.Bool.Decides.{nat_tests}
-use Rattle.std.proofs.lemmas.Grind.{common_steps}
-use Rattle.std.proofs.lemmas.List.{append-nil, get_or_default}
+use Rattle.std.proofs.lemmas.List.{get_or_default}
 use Rattle.mpm_base.specs.Store.{bytes_of}
 use Rattle.mpm_base.specs.declared.store.File.{File}
 use Rattle.stand_ins.specs.declared.slot.Slot.{Slot}

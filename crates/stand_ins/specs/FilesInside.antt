@@ -1,5 +1,5 @@
 -- What holds between files at places and a map that finds them, and which of their names lie below a folder.
-use Rattle.std.specs.Prelude.{◌≡◌, ◌≢◌, ℕ, ◌-◌, ◌<◌, min, Bool, true, false, ◌&&◌, List, [], length, map, filter, All, IsUtf8, Option, None, Some, bytes_eq, slice_index_or, vec_capacity, vec_len}
+use Rattle.std.specs.Prelude.{◌≡◌, ◌≢◌, ℕ, ◌-◌, ◌<◌, min, Bool, true, false, ◌&&◌, List, [], length, map, filter, All, IsUtf8, None, Some, bytes_eq, slice_index_or, vec_capacity, vec_len}
 use Rattle.std.specs.Option.{is_some}
 use Rattle.std.specs.Global.{Vec}
 use Rattle.std.specs.HashMap.{HashMap, get_by, spare}

@@ -3,8 +3,6 @@ pub mod Files
 pub mod FilesInside
 pub mod History
 pub mod HistoryInside
-pub mod MemSink
-pub mod MemStore
 pub mod PlainLink
 pub mod PlainStore
 pub mod ScriptLink

@@ -1,9 +1,10 @@
 //! The clients of the board, and the site from which they are served.
 use crate::links::TestLink;
 use crate::tally::Tally;
+use failing_stand_ins::MemStore;
 use file_table::{LoadFault, Site, SiteOrder, load};
 use mpm_base::{LinkCall, NoMemory, Octets};
-use stand_ins::{Calls, Files, MemStore, ScriptLink, Wire};
+use stand_ins::{Calls, Files, ScriptLink, Wire};
 use std::alloc::Global;
 use std::sync::Arc;
 

@@ -1,5 +1,5 @@
 use Rattle.std.proofs.Common.{ap, length, arith}
-use Rattle.stand_ins.proofs.HistoryLemmas.{last-told, next-told, other-told}
+use Rattle.stand_ins.proofs.HistoryLemmas.{next-told}
 use Rattle.stand_ins.proofs.editions.Editions.renew.Goals as goal
 
 pub invariant_of-self : goal.invariant_of-self

@@ -1,4 +1,4 @@
-use Rattle.std.proofs.Common.{refl, ◌∙◌}
+use Rattle.std.proofs.Common.{refl}
 use Rattle.stand_ins.proofs.HistoryLemmas.{count-kept, history-change}
 use Rattle.stand_ins.proofs.history.History.set.Goals as goal
 

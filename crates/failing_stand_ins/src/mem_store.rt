@@ -3,12 +3,10 @@ ghost use Rattle.std.specs.Prelude.{◌≡◌, Some, OnOk, OnErr};
 ghost use Rattle.mpm_base.specs.Store.{Renews, ListsNames, ReadsFile, after_renew, bytes_of, names_under, telling_store};
 ghost use Rattle.stand_ins.specs.PlainStore.{with_edition, file_answer, names_answer, AnswersUnlessNoMemory};
 ghost use Rattle.stand_ins.specs.Calls.{next_is_listed};
-ghost use Rattle.stand_ins.specs.MemStore.{new_mem_store, failed_where, mem_store_after};
+ghost use Rattle.failing_stand_ins.specs.MemStore.{new_mem_store, failed_where, mem_store_after};
 
-use crate::calls::Calls;
-use crate::files::Files;
-use crate::plain_store::PlainStore;
 use mpm_base::{Names, NoMemory, Octets, Store, StoreFault};
+use stand_ins::{Calls, Files, PlainStore};
 use std::alloc::Global;
 use std::marker::Model;
 
@@ -22,7 +20,7 @@ pub struct MemStore {
 }
 
 impl Model for MemStore {
-    ghost use Rattle.stand_ins.specs.MemStore.{SeenMemStore};
+    ghost use Rattle.failing_stand_ins.specs.MemStore.{SeenMemStore};
 
     ghost Value = { SeenMemStore };
 

@@ -1,0 +1,3 @@
+pub mod MemLog
+pub mod MemSink
+pub mod MemStore
