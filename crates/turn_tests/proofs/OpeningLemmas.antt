@@ -1,6 +1,6 @@
 -- A lock with a board, and its passes.
 use Rattle.std.proofs.Common.{◌≡◌, ◌≢◌, ℕ, zero, suc, ◌≤◌, true, List, [], ◌∷◌, ◌++◌, length, Option, Some, None, refl, sym, ap, subst, ◌∙◌, arith}
-use Rattle.std.specs.Prelude.{map, replicate, slice_get, slice_index, option_to_list, IfSome}
+use Rattle.std.specs.Prelude.{map, slice_get, option_to_list, IfSome}
 use Rattle.atomic_table.specs.Table.{Me}
 use Rattle.mpm_base.specs.declared.shape.Shape.{Shape}
 use Rattle.mpm_base.specs.Shape.{is_in_bounds}
@@ -14,7 +14,7 @@ use Rattle.recycle_perch.specs.Resting.{IsFreeCarrier}
 use Rattle.board.specs.Board.{SeenBoard}
 use Rattle.board.specs.Ledger.{ledger_of}
 use Rattle.board.specs.ReportLine.{line_of}
-use Rattle.turn_tests.specs.Passes.{HasNoCreditFrom, IsFresh}
+use Rattle.turn_tests.specs.Passes.{HasCredit, IsFresh}
 use Rattle.board_turns.specs.Turns.{IsListener}
 
 -- a board without a history may be put into a lock
@@ -31,12 +31,6 @@ opens b slots children passes shape bounds some few base folded history is ended
 }
 
 -- ## Passes of a new lock
-
--- as many zeros
-none_of : (n k : ℕ) → slice_index (replicate n 0) k ≡ 0
-none_of zero k = refl
-none_of (suc n) zero = refl
-none_of (suc n) (suc k) = none_of n k
 
 module _ {S : Type 0} where
   -- the listener's has no turn, no connection and no credit
@@ -64,12 +58,15 @@ module _ {S : Type 0} where
   pub no_row : (me : Me S View) → IsFresh me → me.0.row ≡ None
   no_row me fresh = fresh_row fresh.0 fresh.1 me fresh.2
 
-  fresh_credit : (origin : Origin) (p : ℕ) (me : Me S View) → me ≡ (fresh_view origin p, []) → (k : ℕ) → slice_index me.0.credits k ≡ 0
-  fresh_credit origin zero me is k = ap (λ (m : Me S View). slice_index m.0.credits k) is ∙ none_of 32 k
-  fresh_credit origin (suc p) me is k = ap (λ (m : Me S View). slice_index m.0.credits k) is
+  -- no child has a credit
+  fresh_credit : (origin : Origin) (p : ℕ) (me : Me S View) → me ≡ (fresh_view origin p, []) → me.0.who.number ≡ 0 → HasCredit 0 me.0.credits
+  fresh_credit origin zero me is number = subst (λ (m : Me S View). HasCredit 0 m.0.credits) (sym is) (refl, refl)
+  fresh_credit origin (suc p) me is number =
+      let other : suc p ≡ 0 = sym (ap (λ (m : Me S View). m.0.who.number) is) ∙ number in
+      absurd (cc)
 
-  pub no_credit : (me : Me S View) → IsFresh me → HasNoCreditFrom 0 me.0.credits
-  no_credit me fresh k some = fresh_credit fresh.0 fresh.1 me fresh.2 k
+  pub no_credit : (me : Me S View) → IsFresh me → me.0.who.number ≡ 0 → HasCredit 0 me.0.credits
+  no_credit me fresh number = fresh_credit fresh.0 fresh.1 me fresh.2 number
 
   -- another one may carry, and has nothing
   fresh_carrier : (origin : Origin) (p : ℕ) (me : Me S View) → me ≡ (fresh_view origin p, []) → me.0.who.number ≢ 0 → IsFreeCarrier me

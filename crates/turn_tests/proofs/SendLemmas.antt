@@ -85,8 +85,11 @@ module _ (κ : NamedLft) (M : RattleType) (m : room.Ghosts M.Denot) where
             (
               search (sendable, crosses) depth 60 fits 20000,
               (
-                search (site.the_send, site.the_sync, sendable, crosses) depth 60 fits 20000,
-                (search (tally.the_send, tally.the_sync, sendable, crosses) depth 60 fits 20000, (search (sendable, crosses) depth 60 fits 20000, tt)),
+                search (sendable, crosses) depth 60 fits 20000,
+                (
+                  search (site.the_send, site.the_sync, sendable, crosses) depth 60 fits 20000,
+                  (search (tally.the_send, tally.the_sync, sendable, crosses) depth 60 fits 20000, (search (sendable, crosses) depth 60 fits 20000, tt)),
+                ),
               ),
             ),
           ),

@@ -3,7 +3,7 @@ ghost use Rattle.std.specs.Prelude.{◌≡◌, ℕ, Some, None, IfOk, IfSome, sl
 ghost use Rattle.recycle_perch.specs.Looking.{AllAreOf, AreOf};
 ghost use Rattle.recycle_perch.specs.Resting.{IsFreeCarrier};
 ghost use Rattle.board_turns.specs.Turns.{IsListener};
-ghost use Rattle.turn_tests.specs.Passes.{HasNoCreditFrom, IsFresh};
+ghost use Rattle.turn_tests.specs.Passes.{HasCredit, IsFresh};
 
 use crate::opening::{CARRIERS, TestBoard, last_of};
 use board_lock::{Carrier, Pass, Room, Shared, number};
@@ -29,7 +29,7 @@ pub struct Zero<M: Room> {
     ghost own: { pass.seat.table_id ≡ M.table },
     ghost listens: { IsListener pass.seat.me },
     ghost none: { pass.seat.me.0.row ≡ None },
-    ghost later: { HasNoCreditFrom 0 pass.seat.me.0.credits },
+    ghost credit: { HasCredit 0 pass.seat.me.0.credits },
 }
 
 /// A pass of a new lock: pass 0, or one that may carry.

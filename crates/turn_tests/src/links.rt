@@ -110,6 +110,7 @@ impl Link for TestLink {
     }
 
     fn close(&mut self) {
+        self.begin();
         self.inner.close();
         self.tally.part(self.client, self.inner.sent());
     }

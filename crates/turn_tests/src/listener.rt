@@ -1,15 +1,15 @@
 //! The listener of a test: it takes connections, signals them, and hands them to workers, until all are gone.
-ghost use Rattle.std.specs.Prelude.{◌≡◌, ◌<◌, None, IfSome};
+ghost use Rattle.std.specs.Prelude.{◌≡◌, true, None, IfSome};
 ghost use Rattle.crossbeam_queue.specs.Passes.{IsPassOf};
 ghost use Rattle.recycle_perch.specs.Looking.{AreOf};
 ghost use Rattle.board_turns.specs.Turns.{IsListener};
-ghost use Rattle.turn_tests.specs.Passes.{HasNoCreditFrom};
+ghost use Rattle.turn_tests.specs.Passes.{HasCredit};
 
 use crate::clients::Client;
 use crate::links::TestLink;
-use crate::opening::{CHILDREN, SLOTS, TestBoard};
+use crate::opening::{CHILD, SLOTS, TestBoard};
 use crate::players::{TestHands, TestPair};
-use crate::steps::{folds, renews, signals, starts};
+use crate::steps::{folds, renews, retires, signals, starts, takes_credit_back};
 use crate::taking::takes;
 use crate::tally::Tally;
 use board_lock::{Pass, Room};
@@ -35,6 +35,8 @@ pub struct Plan {
     pub most: u32,
     /// It wakes workers behind a push alone.
     pub wakes_once: bool,
+    /// It folds the history where that is due.
+    pub folding: bool,
     /// Behind how many connections, all of which are gone then, the server restarts.
     pub restarts_behind: u32,
 }
@@ -44,8 +46,10 @@ pub struct Plan {
 pub struct Front<'a, M: Room> {
     pub hands: &'a TestHands<'a, M>,
     pub pass: Pass<TestBoard>,
-    /// How many children have begun, the newest of which takes connections.
+    /// How many generations have begun.
     pub begun: u32,
+    /// How many workers the child has, where it has their credit.
+    pub credit: u32,
     /// The slots for which something may have come.
     pub slots: Vec<u32>,
     pub site: &'a Arc<Site>,
@@ -53,7 +57,7 @@ pub struct Front<'a, M: Room> {
     pub alloc: Global,
     ghost own: { pass.seat.table_id ≡ M.table },
     ghost listens: { IsListener pass.seat.me },
-    ghost later: { HasNoCreditFrom begun pass.seat.me.0.credits },
+    ghost credited: { HasCredit credit pass.seat.me.0.credits },
 }
 
 /// What the listener has for its workers.
@@ -115,8 +119,8 @@ fn goes_round<R: Wait, M: Room>(
         if front.tally.gone() >= plan.connections as u64 {
             return true;
         }
-        signal_slots(rt, front, pusher);
-        let pushed = hand_over(rt, pusher, front.begun.saturating_sub(1));
+        signal_slots(rt, front, pusher, plan.folding);
+        let pushed = hand_over(rt, pusher);
         wake_workers(rt, pusher, plan, front.tally, pushed);
     }
     unreachable!()
@@ -162,7 +166,7 @@ enum Next {
     Waits,
 }
 
-/// What the listener does next, where so many connections were taken in all, so many children have begun, and so many connections are gone.
+/// What the listener does next, where so many connections were taken in all, so many generations have begun, and so many connections are gone.
 fn next_of(plan: Plan, taken: u32, begun: u32, gone: u64) -> Next {
     let open = (taken as u64).saturating_sub(gone);
     if taken >= plan.connections || open >= plan.window as u64 {
@@ -194,30 +198,56 @@ fn take_one<R: Wait, M: Room>(rt: &R, front: &mut Front<'_, M>, client: Client) 
     )
 }
 
-/// A new generation begins, and its child: how many connections were taken before. None where it couldn't.
+/// Once nobody has a permit of the child a new generation begins, for which the child is let go of and starts again: how many connections
+/// were taken before. None where one of these couldn't be done.
 fn restarts<R: Wait, M: Room>(rt: &R, front: &mut Front<'_, M>, taken: u32) -> Option<u32>
     ensures { front.new.pass.seat.me.0.row ≡ front.old.pass.seat.me.0.row }
 {
-    if renews(rt, front.alloc, front.hands.shared, &mut front.pass) && begins(rt, front) {
+    if !is_free(front) {
+        return Some(taken);
+    }
+    if renews(rt, front.alloc, front.hands.shared, &mut front.pass)
+        && retires(rt, front.hands.shared, &mut front.pass)
+        && begins(rt, front)
+    {
         return Some(taken);
     }
     None
 }
 
-/// The next child starts, and gets the credit of its workers: whether it did.
-fn begins<R: Wait, M: Room>(rt: &R, front: &mut Front<'_, M>) -> bool
-    ensures { front.new.pass.seat.me.0.row ≡ front.old.pass.seat.me.0.row }
+/// Whether nobody has a permit of the child: then its credit is taken back.
+fn is_free<M: Room>(front: &mut Front<'_, M>) -> bool
+    ensures row { front.new.pass.seat.me.0.row ≡ front.old.pass.seat.me.0.row }
+    ensures credit { result ≡ true → front.new.credit ≡ 0 }
 {
-    let child = front.begun;
-    if child >= CHILDREN || !starts(rt, front.hands.shared, &mut front.pass, child) {
+    if !takes_credit_back(front.hands.shared, &mut front.pass, front.credit) {
         return false;
     }
-    front.begun = child + 1;
+    front.credit = 0;
     true
 }
 
-/// Signals each slot for which something may have come, where nothing waits for the workers any more, and folds the history where that is due.
-fn signal_slots<R: Wait, M: Room>(rt: &R, front: &mut Front<'_, M>, pusher: &mut Pusher<'_, M>)
+/// The child starts, and gets the credit of its workers: whether it did.
+fn begins<R: Wait, M: Room>(rt: &R, front: &mut Front<'_, M>) -> bool
+    requires { front.old.credit ≡ 0 }
+    ensures { front.new.pass.seat.me.0.row ≡ front.old.pass.seat.me.0.row }
+{
+    let Some(credit) = starts(rt, front.hands.shared, &mut front.pass) else {
+        return false;
+    };
+    front.credit = credit;
+    front.begun = front.begun.saturating_add(1);
+    true
+}
+
+/// Signals each slot for which something may have come, where nothing waits for the workers any more, and folds the history where that is due,
+/// if it folds at all.
+fn signal_slots<R: Wait, M: Room>(
+    rt: &R,
+    front: &mut Front<'_, M>,
+    pusher: &mut Pusher<'_, M>,
+    folding: bool,
+)
     ensures { front.new.pass.seat.me.0.row ≡ front.old.pass.seat.me.0.row }
 {
     if pusher.queue.len(rt, &mut pusher.seat) == 0 {
@@ -230,14 +260,14 @@ fn signal_slots<R: Wait, M: Room>(rt: &R, front: &mut Front<'_, M>, pusher: &mut
         );
     }
     let turn = front.tally.begins();
-    folds(rt, front.hands.shared, &mut front.pass);
+    folds(rt, front.hands.shared, &mut front.pass, folding);
     front.tally.made(turn);
 }
 
 /// Hands what is signalled to the workers, while they have permits: how many connections.
-fn hand_over<R: Wait, M: Room>(rt: &R, pusher: &mut Pusher<'_, M>, child: u32) -> u32 {
+fn hand_over<R: Wait, M: Room>(rt: &R, pusher: &mut Pusher<'_, M>) -> u32 {
     for count in 0..SLOTS {
-        if !hand_one(rt, pusher, child % CHILDREN) {
+        if !hand_one(rt, pusher) {
             return count;
         }
     }
@@ -245,13 +275,11 @@ fn hand_over<R: Wait, M: Room>(rt: &R, pusher: &mut Pusher<'_, M>, child: u32) -
 }
 
 /// Hands one connection to the workers, where one is signalled and a worker is free: whether it did.
-fn hand_one<R: Wait, M: Room>(rt: &R, pusher: &mut Pusher<'_, M>, child: u32) -> bool
-    requires { child < 32 }
-{
+fn hand_one<R: Wait, M: Room>(rt: &R, pusher: &mut Pusher<'_, M>) -> bool {
     let Some(carrier) = pusher.hands.perch.take(&mut pusher.looks) else {
         return false;
     };
-    match pair_up::<R, M, TestLink, Nothing>(rt, pusher.hands.shared, carrier, child) {
+    match pair_up::<R, M, TestLink, Nothing>(rt, pusher.hands.shared, carrier, CHILD) {
         Ok(pair) => {
             let pushed = pusher.queue.push(rt, &mut pusher.seat, Item::Work(pair));
             pushed.is_ok()

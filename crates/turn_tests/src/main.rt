@@ -6,10 +6,11 @@
 //! There are no rows. One thread is the listener's, and each other one a worker's.
 //!
 //! - `serve THREADS CONNECTIONS WINDOW RESTARTS`: so many connections, of which at most so many are open at once, and so many restarts
-//!   between them, each once all that were taken before are gone. By their numbers the clients send a request, nothing, three requests at
+//!   between them, each once all that were taken before are gone: the child is let go of then, and starts again. By their numbers the clients send a request, nothing, three requests at
 //!   once, the same little by little with little room for the responses, the same less so, half a request before a reset, and a request
 //!   whose response can't be sent; the last one asks for its connection to be closed, which lingers then. One link of 64 looks at each of
 //!   its calls whether the listener gets a turn meanwhile.
+//! - `keep THREADS CONNECTIONS WINDOW RESTARTS`: the same, where nothing is folded.
 //! - `wake THREADS CONNECTIONS WINDOW`: the same without restarts, and the listener wakes workers behind a push, and at no other time.
 //! - `hold THREADS CONNECTIONS WINDOW`: the same, where the listener takes one worker for enough; one link of eight holds its worker at its
 //!   first call until the connection behind it is gone.
@@ -19,7 +20,8 @@
 //! What is shown is how many connections were taken, linger, and were closed, how many responses were decided, and how many children began;
 //! how many threads ended as they have to, how many items are in the queue then, how many carriers rest, and of how many workers nobody has
 //! a permit; whether each item that was pushed was served, and the bell rung for it; how many calls of links waited in vain; whether the
-//! history was folded, and is one of the event table; and whether each connection was sent what it is where one thread does all.
+//! history was folded; whether it is one of the event table, entry by entry, or where it was folded counts the connections that were taken;
+//! and whether each connection was sent what it is where one thread does all.
 #![tactic(auto)]
 
 mod carriers;
@@ -89,13 +91,14 @@ fn plan_of(kind: &str, workers: u32, rest: &str) -> Plan {
         workers,
         most: if kind == "hold" { 1 } else { workers },
         wakes_once: kind == "wake",
+        folding: kind != "keep",
         restarts_behind: behind(connections, small_of(restarts)),
     }
 }
 
 /// Behind how many connections the server restarts, where it does so many times.
 fn behind(connections: u32, restarts: u32) -> u32 {
-    let parts = restarts.min(30) + 1;
+    let parts = restarts.saturating_add(1);
     connections.saturating_add(parts - 1) / parts
 }
 
@@ -164,6 +167,7 @@ fn show_rounds<R: Threads + Wait + Sync>(
         workers,
         most: workers,
         wakes_once: false,
+        folding: true,
         restarts_behind: u32::MAX,
     };
     let habits = Habits {

@@ -3,7 +3,7 @@ ghost use Rattle.std.specs.Prelude.{◌≡◌, ◌≢◌, ◌≤◌, ℕ, IfOk, 
 ghost use Rattle.board_lock.specs.Passes.{HasNoTurn};
 ghost use Rattle.recycle_perch.specs.Resting.{IsFreeCarrier};
 ghost use Rattle.board_turns.specs.Turns.{IsListener};
-ghost use Rattle.turn_tests.specs.Passes.{HasNoCreditFrom, IsFresh};
+ghost use Rattle.turn_tests.specs.Passes.{HasCredit, IsFresh};
 
 use crate::links::TestLink;
 use board::Board;
@@ -18,8 +18,11 @@ pub type TestBoard = Board<TestLink, Nothing>;
 /// How many connections it has at once.
 pub const SLOTS: u32 = 64;
 
-/// How many children it has, one for each generation.
+/// How many children it has, of which one runs.
 pub const CHILDREN: u32 = 32;
+
+/// That one.
+pub const CHILD: u32 = 0;
 
 /// How many workers a child has, whether all have threads or not.
 pub const WORKERS: u32 = 64;
@@ -84,7 +87,8 @@ pub fn last_of(
         (λ pass. pass.seat.me.0.who.number ≡ 0 → IsListener pass.seat.me) }
     ensures free { IfSome result (λ pass. HasNoTurn pass.seat.me) }
     ensures none { IfSome result (λ pass. pass.seat.me.0.row ≡ None) }
-    ensures later { IfSome result (λ pass. HasNoCreditFrom 0 pass.seat.me.0.credits) }
+    ensures credit { IfSome result
+        (λ pass. pass.seat.me.0.who.number ≡ 0 → HasCredit 0 pass.seat.me.0.credits) }
     ensures carrier { IfSome result
         (λ pass. pass.seat.me.0.who.number ≢ 0 → IsFreeCarrier pass.seat.me) }
 {

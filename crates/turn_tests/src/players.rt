@@ -3,7 +3,7 @@ ghost use Rattle.crossbeam_queue.specs.Passes.{IsPassOf};
 ghost use Rattle.recycle_perch.specs.Looking.{AreOf};
 
 use crate::links::TestLink;
-use crate::listener::{Front, Listener, listens};
+use crate::listener::{Listener, listens};
 use crate::tally::Tally;
 use board_lock::Room;
 use board_turns::Pair;

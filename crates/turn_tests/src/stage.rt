@@ -86,7 +86,7 @@ pub fn play_named<M: Room + Send + Sync, R: Threads + Wait + Sync>(
     }))
 }
 
-/// The first child begins, and a listener and its workers play: how many seats came back, and how many items stand in the queue then. None
+/// The child starts, and a listener and its workers play: how many seats came back, and how many items stand in the queue then. None
 /// where one lacks what it needs.
 fn begin_all<M: Room + Send + Sync, R: Threads + Wait + Sync>(
     rt: &R,
@@ -101,13 +101,14 @@ fn begin_all<M: Room + Send + Sync, R: Threads + Wait + Sync>(
     requires { AllAreOf hands.now.perch.now.places looks.old.items }
 {
     let Zero { mut pass, of: _ } = zero;
-    if !starts(rt, hands.shared, &mut pass, 0) {
+    let Some(credit) = starts(rt, hands.shared, &mut pass) else {
         return Ok(None);
-    }
+    };
     let front = Front {
         hands,
         pass,
         begun: 1,
+        credit,
         slots: Vec::new(alloc),
         site,
         tally,
@@ -267,10 +268,7 @@ fn play_on_threads<M: Room + Send + Sync, R: Threads + Wait + Sync>(
     rt: &R,
     players: Vec<Player<'_, M>>,
 ) -> Result<usize, NoMemory> {
-    let part = |player: Player<'_, M>| -> bool
-        ensures { result ≡ result }
-    { comes_back(rt, player) };
-    match thread::map_vec(rt, players, &part) {
+    match thread::map_vec(rt, players, &|player| comes_back(rt, player)) {
         Ok(all) => Ok(all.iter().filter(|back| **back).count()),
         Err(_) => Err(NoMemory),
     }

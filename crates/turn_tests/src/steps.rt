@@ -1,12 +1,16 @@
-//! What the listener of a test does without a connection: a generation begins, a child starts, slots are signalled, and the history is folded.
-ghost use Rattle.std.specs.Prelude.{◌≡◌, ◌<◌, false, slice_index};
+//! What the listener of a test does without a connection: a generation begins, the child is let go of and starts, slots are signalled, and the
+//! history is folded.
+ghost use Rattle.std.specs.Prelude.{◌≡◌, IfNone, IfSome, if◌then◌else◌};
 ghost use Rattle.board_turns.specs.Turns.{IsListener};
-ghost use Rattle.turn_tests.specs.Passes.{LeavesOtherCredits};
+ghost use Rattle.turn_tests.specs.Passes.{HasCredit};
 
-use crate::opening::{SHAPE, TestBoard};
+use crate::opening::{CHILD, SHAPE, TestBoard};
 use board_lock::{Pass, Shared};
 use conn_machine::{BoxedShape, Commanded};
-use listener_turns::{command, credit_child, fold, signal_all, start_child, take_look};
+use idle_workers::uncredit;
+use listener_turns::{
+    command, credit_child, fold, retire_child, signal_all, start_child, take_look,
+};
 use std::alloc::Global;
 use std::sync::Wait;
 
@@ -37,37 +41,29 @@ pub fn renews<R: Wait>(
     }
 }
 
-/// The child of that number starts, where it is the lowest that is gone, and gets the credit of its workers: whether it does.
+/// The child starts, where it is the lowest that is gone, and gets the credit of its workers: how many they are. None where it doesn't.
 pub fn starts<R: Wait>(
     rt: &R,
     shared: &Shared<TestBoard>,
     pass: &mut Pass<TestBoard>,
-    child: u32,
-) -> bool
+) -> Option<u32>
     requires own { pass.old.seat.table_id ≡ shared.now.table.shared.table_id }
     requires listener { IsListener pass.old.seat.me }
-    requires child { child < 32 }
-    requires none { slice_index pass.old.seat.me.0.credits child ≡ 0 }
+    requires none { HasCredit 0 pass.old.seat.me.0.credits }
     ensures own { pass.new.seat.table_id ≡ pass.old.seat.table_id }
     ensures listener { IsListener pass.new.seat.me }
     ensures row { pass.new.seat.me.0.row ≡ pass.old.seat.me.0.row }
-    ensures others { LeavesOtherCredits child pass.old.seat.me.0 pass.new.seat.me.0 }
-    ensures same { result ≡ false → pass.new.seat.me.0.credits ≡ pass.old.seat.me.0.credits }
+    ensures credited { IfSome result (λ credit. HasCredit credit pass.new.seat.me.0.credits) }
+    ensures same { IfNone result (pass.new.seat.me.0.credits ≡ pass.old.seat.me.0.credits) }
 {
-    if !starts_as(rt, shared, pass, child) {
-        return false;
+    if !starts_first(rt, shared, pass) {
+        return None;
     }
-    credit_child(rt, shared, pass, child);
-    true
+    Some(credit_child(rt, shared, pass, CHILD))
 }
 
-/// The lowest child that is gone starts: whether it is the one of that number.
-fn starts_as<R: Wait>(
-    rt: &R,
-    shared: &Shared<TestBoard>,
-    pass: &mut Pass<TestBoard>,
-    child: u32,
-) -> bool
+/// The lowest child that is gone starts: whether it is the one that a test has.
+fn starts_first<R: Wait>(rt: &R, shared: &Shared<TestBoard>, pass: &mut Pass<TestBoard>) -> bool
     requires own { pass.old.seat.table_id ≡ shared.now.table.shared.table_id }
     requires listener { IsListener pass.old.seat.me }
     ensures own { pass.new.seat.table_id ≡ pass.old.seat.table_id }
@@ -76,10 +72,40 @@ fn starts_as<R: Wait>(
     ensures row { pass.new.seat.me.0.row ≡ pass.old.seat.me.0.row }
 {
     match start_child(rt, shared, pass) {
-        Ok(Some(started)) => started == child,
+        Ok(Some(started)) => started == CHILD,
         Ok(None) => false,
         Err(_) => false,
     }
+}
+
+/// The child's credit, which is this, is taken back, where nobody has a permit of it: whether it was.
+pub fn takes_credit_back(
+    shared: &Shared<TestBoard>,
+    pass: &mut Pass<TestBoard>,
+    credit: u32,
+) -> bool
+    requires own { pass.old.seat.table_id ≡ shared.now.table.shared.table_id }
+    requires listener { IsListener pass.old.seat.me }
+    requires credit { HasCredit credit pass.old.seat.me.0.credits }
+    ensures own { pass.new.seat.table_id ≡ pass.old.seat.table_id }
+    ensures listener { IsListener pass.new.seat.me }
+    ensures row { pass.new.seat.me.0.row ≡ pass.old.seat.me.0.row }
+    ensures credit { HasCredit (if result then 0 else credit) pass.new.seat.me.0.credits }
+{
+    uncredit(shared, pass, CHILD, credit)
+}
+
+/// The child, which has no credit, is let go of, where that may be: whether it was.
+pub fn retires<R: Wait>(rt: &R, shared: &Shared<TestBoard>, pass: &mut Pass<TestBoard>) -> bool
+    requires own { pass.old.seat.table_id ≡ shared.now.table.shared.table_id }
+    requires listener { IsListener pass.old.seat.me }
+    requires none { HasCredit 0 pass.old.seat.me.0.credits }
+    ensures own { pass.new.seat.table_id ≡ pass.old.seat.table_id }
+    ensures listener { IsListener pass.new.seat.me }
+    ensures credits { pass.new.seat.me.0.credits ≡ pass.old.seat.me.0.credits }
+    ensures row { pass.new.seat.me.0.row ≡ pass.old.seat.me.0.row }
+{
+    retire_child(rt, shared, pass, CHILD)
 }
 
 /// Something may have come for these slots: whether that was told of all of them.
@@ -102,8 +128,8 @@ pub fn signals<R: Wait>(
     }
 }
 
-/// The history is folded, where that is due.
-pub fn folds<R: Wait>(rt: &R, shared: &Shared<TestBoard>, pass: &mut Pass<TestBoard>)
+/// The history is folded, where that is due, or it is only looked at.
+pub fn folds<R: Wait>(rt: &R, shared: &Shared<TestBoard>, pass: &mut Pass<TestBoard>, folding: bool)
     requires own { pass.old.seat.table_id ≡ shared.now.table.shared.table_id }
     requires listener { IsListener pass.old.seat.me }
     ensures own { pass.new.seat.table_id ≡ pass.old.seat.table_id }
@@ -111,5 +137,9 @@ pub fn folds<R: Wait>(rt: &R, shared: &Shared<TestBoard>, pass: &mut Pass<TestBo
     ensures credits { pass.new.seat.me.0.credits ≡ pass.old.seat.me.0.credits }
     ensures row { pass.new.seat.me.0.row ≡ pass.old.seat.me.0.row }
 {
-    let _ = fold(rt, shared, pass);
+    if folding {
+        let _ = fold(rt, shared, pass);
+    } else {
+        let _ = take_look(rt, shared, pass);
+    }
 }

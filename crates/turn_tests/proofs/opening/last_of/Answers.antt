@@ -3,7 +3,7 @@ use Rattle.std.specs.Prelude.{slice_get}
 use Rattle.board_lock.specs.Passes.{HasNoTurn}
 use Rattle.recycle_perch.specs.Resting.{IsFreeCarrier}
 use Rattle.board_turns.specs.Turns.{IsListener}
-use Rattle.turn_tests.specs.Passes.{HasNoCreditFrom}
+use Rattle.turn_tests.specs.Passes.{HasCredit}
 use Rattle.turn_tests.proofs.OpeningLemmas.{at_first, carrier, last_has, listener, no_credit, no_row, no_turn}
 use Rattle.turn_tests.proofs.opening.last_of.Goals as goal
 
@@ -34,9 +34,9 @@ returns-clause-none c =
     last_has (λ pass. pass.seat.me.0.row ≡ None) _ c.pop.new.self.items c.pop.result c.pop.ensures.items
     (λ p pass at. no_row pass.seat.me (c.requires.fresh p pass at))
 
-pub returns-clause-later : goal.returns-clause-later
-returns-clause-later c =
-    last_has (λ pass. HasNoCreditFrom 0 pass.seat.me.0.credits) _ c.pop.new.self.items c.pop.result c.pop.ensures.items
+pub returns-clause-credit : goal.returns-clause-credit
+returns-clause-credit c =
+    last_has (λ pass. pass.seat.me.0.who.number ≡ 0 → HasCredit 0 pass.seat.me.0.credits) _ c.pop.new.self.items c.pop.result c.pop.ensures.items
     (λ p pass at. no_credit pass.seat.me (c.requires.fresh p pass at))
 
 pub returns-clause-carrier : goal.returns-clause-carrier
