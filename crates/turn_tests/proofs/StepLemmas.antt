@@ -40,8 +40,8 @@ uncredited done credit old new has takes = uncredited_by done credit old new has
 -- and nothing else that the listener knows of itself
 uncredited_rest : (done : Bool) (old new : View) → new ≡ record (uncredited_view done 0 old) { past = new.past }
     → (new.row ≡ old.row) × (new.turn ≡ old.turn) × (new.who.number ≡ old.who.number)
-uncredited_rest true old new is = (ap (λ (v : View). v.row) is, (ap (λ (v : View). v.turn) is, ap (λ (v : View). v.who.number) is))
-uncredited_rest false old new is = (ap (λ (v : View). v.row) is, (ap (λ (v : View). v.turn) is, ap (λ (v : View). v.who.number) is))
+uncredited_rest true old new is = (ap (λ (v : View). v.row) is, ap (λ (v : View). v.turn) is, ap (λ (v : View). v.who.number) is)
+uncredited_rest false old new is = (ap (λ (v : View). v.row) is, ap (λ (v : View). v.turn) is, ap (λ (v : View). v.who.number) is)
 
 pub uncredited_row : (done : Bool) (credit : ℕ) (old new : View) → TakesCreditBack 0 credit old done new → new.row ≡ old.row
 uncredited_row done credit old new takes = (uncredited_rest done old new takes.tried.0).0
@@ -51,8 +51,8 @@ pub uncredited_listener : {S : Type 0} (done : Bool) (credit : ℕ) (old new : M
 uncredited_listener done credit old new hand takes is =
     let rest = uncredited_rest done old.0 new.0 takes.tried.0 in
     record {
-      turnless = record { hand = hand ∙ is.turnless.hand; turn = rest.1.0 ∙ is.turnless.turn };
-      number = rest.1.1 ∙ is.number;
+      turnless = record { hand = hand ∙ is.turnless.hand; turn = rest.1 ∙ is.turnless.turn };
+      number = rest.2 ∙ is.number;
     }
 
 pub may_renew : (s : State) (shape : Shape) → is_serving s.going ≡ true → nat_lt s.newest greatest_generation ≡ true → is_in_bounds shape ≡ true

@@ -144,7 +144,7 @@ fn count(counts: &mut Counts, event: &Event) {
 /// Shows what came of it, as far as no schedule changes it.
 pub fn show_served(sheet: &mut Sheet, served: &Served) {
     show_counts(sheet, served.counts);
-    show_left(sheet, served.played, served.permits);
+    show_left(sheet, served.tally.seats(), served.played, served.permits);
     println!(sheet;
         "each item was served => {}, calls of links in vain => {}, folded => {}",
         served.tally.all_were_served(),
@@ -162,10 +162,10 @@ fn show_counts(sheet: &mut Sheet, counts: Counts) {
 }
 
 /// Shows what is there behind all.
-fn show_left(sheet: &mut Sheet, played: Played, permits: u64) {
+fn show_left(sheet: &mut Sheet, seats: u64, played: Played, permits: u64) {
     println!(sheet;
         "seats => {}, items => {}, carriers => {}, permits => {}",
-        played.seats, played.left, played.carriers, permits
+        seats, played.left, played.carriers, permits
     );
 }
 

@@ -81,24 +81,16 @@ pub struct Listener<'a, M: Room> {
     ghost none: { front.pass.seat.me.0.row ≡ None },
 }
 
-/// The listener goes round until all connections are gone, and puts the ends of the workers: its seat, where all could be done.
-pub fn listens<R: Wait, M: Room>(rt: &R, listener: Listener<'_, M>) -> Option<FdSeat<TestPair<M>>> {
+/// The listener goes round until all connections are gone, and puts the ends of the workers. It is counted where all could be done.
+pub fn listens<R: Wait, M: Room>(rt: &R, listener: Listener<'_, M>) {
     let Listener {
         mut front,
         mut pusher,
         plan,
     } = listener;
-    if !goes_round(rt, &mut front, &mut pusher, plan) || !end_all(rt, &mut pusher, plan.workers) {
-        return None;
+    if goes_round(rt, &mut front, &mut pusher, plan) && end_all(rt, &mut pusher, plan.workers) {
+        front.tally.ends();
     }
-    let Pusher {
-        hands: _,
-        queue: _,
-        seat,
-        looks: _looks,
-        wakes: _,
-    } = pusher;
-    Some(seat)
 }
 
 /// Takes connections, signals them, and hands them to workers, until all are gone: whether all could be done.

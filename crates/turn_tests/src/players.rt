@@ -40,21 +40,16 @@ pub enum Player<'a, M: Room> {
     Works(Worker<'a, M>),
 }
 
-/// The player does its part: whether its seat came back.
-pub fn comes_back<R: Wait, M: Room>(rt: &R, player: Player<'_, M>) -> bool {
-    plays(rt, player).is_some()
-}
-
-/// The player does its part: its seat at the queue, where all was as it has to be.
-fn plays<R: Wait, M: Room>(rt: &R, player: Player<'_, M>) -> Option<FdSeat<TestPair<M>>> {
+/// The player does its part, and is counted where all was as it has to be.
+pub fn plays<R: Wait, M: Room>(rt: &R, player: Player<'_, M>) {
     match player {
         Player::Listens(listener) => listens(rt, listener),
         Player::Works(worker) => works(rt, worker),
     }
 }
 
-/// A worker serves until its end: its seat, where no carrier came back.
-fn works<R: Wait, M: Room>(rt: &R, worker: Worker<'_, M>) -> Option<FdSeat<TestPair<M>>> {
+/// A worker serves until its end, and is counted where no carrier came back.
+fn works<R: Wait, M: Room>(rt: &R, worker: Worker<'_, M>) {
     let Worker {
         hands,
         queue,
@@ -65,5 +60,7 @@ fn works<R: Wait, M: Room>(rt: &R, worker: Worker<'_, M>) -> Option<FdSeat<TestP
     } = worker;
     let back = Vec::new(alloc);
     let back = worker_loop(rt, hands, &mut looks, queue, &mut seat, &mut rest, back);
-    if back.is_empty() { Some(seat) } else { None }
+    if back.is_empty() {
+        hands.bell.ends();
+    }
 }

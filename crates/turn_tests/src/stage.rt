@@ -7,7 +7,7 @@ ghost use Rattle.turn_tests.specs.Passes.{IsFresh};
 use crate::carriers::{Zero, count_spare, next_looks, settle};
 use crate::listener::{Front, Listener, Plan, Pusher};
 use crate::opening::{CARRIERS, TestBoard};
-use crate::players::{Player, TestHands, TestPair, Worker, comes_back};
+use crate::players::{Player, TestHands, TestPair, Worker, plays};
 use crate::steps::starts;
 use crate::tally::Tally;
 use board_lock::{Pass, Room, Shared};
@@ -25,8 +25,6 @@ use worker_threads::{Hands, Rest, Wakes};
 /// How the players ended.
 #[derive(Clone, Copy)]
 pub struct Played {
-    /// How many of them ended as they have to, by the seats that came back.
-    pub seats: usize,
     /// How many items stand in the queue then.
     pub left: usize,
     /// How many carriers rest then.
@@ -75,19 +73,16 @@ pub fn play_named<M: Room + Send + Sync, R: Threads + Wait + Sync>(
         gate: &**tally,
         of: PhantomData,
     };
-    let Some((seats, left)) = begin_all(rt, alloc, &hands, zero, &mut looks, site, tally, plan)?
-    else {
+    let Some(left) = begin_all(rt, alloc, &hands, zero, &mut looks, site, tally, plan)? else {
         return Ok(None);
     };
     Ok(Some(Played {
-        seats,
         left,
         carriers: count_spare(&perch, &mut mine),
     }))
 }
 
-/// The child starts, and a listener and its workers play: how many seats came back, and how many items stand in the queue then. None
-/// where one lacks what it needs.
+/// The child starts, and a listener and its workers play: how many items stand in the queue then. None where one lacks what it needs.
 fn begin_all<M: Room + Send + Sync, R: Threads + Wait + Sync>(
     rt: &R,
     alloc: Global,
@@ -97,7 +92,7 @@ fn begin_all<M: Room + Send + Sync, R: Threads + Wait + Sync>(
     site: &Arc<Site>,
     tally: &Arc<Tally>,
     plan: Plan,
-) -> Result<Option<(usize, usize)>, NoMemory>
+) -> Result<Option<usize>, NoMemory>
     requires { AllAreOf hands.now.perch.now.places looks.old.items }
 {
     let Zero { mut pass, of: _ } = zero;
@@ -117,28 +112,28 @@ fn begin_all<M: Room + Send + Sync, R: Threads + Wait + Sync>(
     play_all(rt, front, looks, plan)
 }
 
-/// A listener and its workers play, over a queue.
+/// A listener and its workers play, over a queue: how many items stand in it then.
 fn play_all<M: Room + Send + Sync, R: Threads + Wait + Sync>(
     rt: &R,
     front: Front<'_, M>,
     looks: &mut Vec<Looks>,
     plan: Plan,
-) -> Result<Option<(usize, usize)>, NoMemory>
+) -> Result<Option<usize>, NoMemory>
     requires row { front.pass.seat.me.0.row ≡ None }
     requires looks { AllAreOf front.hands.now.perch.now.places looks.old.items }
 {
     let count = plan.workers.min(63);
     let (queue, mut seats) = FdQueue::<TestPair<M>>::make(front.alloc, 64, count + 2)?;
-    let Some(back) = play_over(rt, front, looks, &queue, &mut seats, plan)? else {
+    if !play_over(rt, front, looks, &queue, &mut seats, plan)? {
         return Ok(None);
-    };
+    }
     match next_seat(&queue, &mut seats) {
-        Some(mut seat) => Ok(Some((back, queue.len(rt, &mut seat)))),
+        Some(mut seat) => Ok(Some(queue.len(rt, &mut seat))),
         None => Ok(None),
     }
 }
 
-/// They play over this queue: how many seats came back.
+/// They play over this queue: whether none lacked what it needs.
 fn play_over<M: Room + Send + Sync, R: Threads + Wait + Sync>(
     rt: &R,
     front: Front<'_, M>,
@@ -146,7 +141,7 @@ fn play_over<M: Room + Send + Sync, R: Threads + Wait + Sync>(
     queue: &FdQueue<TestPair<M>>,
     seats: &mut Vec<FdSeat<TestPair<M>>>,
     plan: Plan,
-) -> Result<Option<usize>, NoMemory>
+) -> Result<bool, NoMemory>
     requires row { front.pass.seat.me.0.row ≡ None }
     requires looks { AllAreOf front.hands.now.perch.now.places looks.old.items }
     requires seats { (i : ℕ) (seat : _) → slice_get seats.old.items i ≡ Some seat → IsPassOf queue.now.ring seat }
@@ -157,14 +152,15 @@ fn play_over<M: Room + Send + Sync, R: Threads + Wait + Sync>(
     let (wakes, parkers) = Wakes::make(alloc, plan.workers.min(63))?;
     let players = workers(alloc, hands, queue, seats, looks, &wakes, parkers)?;
     let Some(pusher) = pusher_of(hands, queue, seats, looks, &wakes) else {
-        return Ok(None);
+        return Ok(false);
     };
     let listener = Listener {
         front,
         pusher,
         plan,
     };
-    play_with(rt, players, listener)
+    play_with(rt, players, listener)?;
+    Ok(true)
 }
 
 /// What the listener has for its workers.
@@ -190,20 +186,17 @@ fn pusher_of<'a, M: Room>(
     })
 }
 
-/// The listener and the workers have a thread each: how many seats came back.
+/// The listener and the workers have a thread each.
 fn play_with<'a, M: Room + Send + Sync, R: Threads + Wait + Sync>(
     rt: &R,
     workers: Vec<Player<'a, M>>,
     listener: Listener<'a, M>,
-) -> Result<Option<usize>, NoMemory> {
+) -> Result<(), NoMemory> {
     let mut players = workers;
     if players.push(Player::Listens(listener)).is_err() {
         return Err(NoMemory);
     }
-    match play_on_threads(rt, players) {
-        Ok(back) => Ok(Some(back)),
-        Err(NoMemory) => Err(NoMemory),
-    }
+    play_on_threads(rt, players)
 }
 
 /// The workers, each with its seat, its looks and what it rests with.
@@ -263,13 +256,17 @@ fn worker_of<'a, M: Room>(
     })
 }
 
-/// Each player has a thread: how many seats came back.
+/// Each player has a thread.
 fn play_on_threads<M: Room + Send + Sync, R: Threads + Wait + Sync>(
     rt: &R,
     players: Vec<Player<'_, M>>,
-) -> Result<usize, NoMemory> {
-    match thread::map_vec(rt, players, &|player| comes_back(rt, player)) {
-        Ok(all) => Ok(all.iter().filter(|back| **back).count()),
+) -> Result<(), NoMemory> {
+    // What a closure over these types gives isn't found from its body, so it is said.
+    let part = |player: Player<'_, M>|
+        ensures { result ≡ tt }
+    { plays(rt, player) };
+    match thread::map_vec(rt, players, &part) {
+        Ok(_) => Ok(()),
         Err(_) => Err(NoMemory),
     }
 }

@@ -41,6 +41,8 @@ pub struct Tally {
     woken: AtomicU64,
     /// How many calls of links gave up what they waited for.
     vain: AtomicU64,
+    /// How many threads ended as they have to, with their seats.
+    seats: AtomicU64,
 }
 
 impl Tally {
@@ -58,6 +60,7 @@ impl Tally {
             pushed: AtomicU64::new(0),
             woken: AtomicU64::new(0),
             vain: AtomicU64::new(0),
+            seats: AtomicU64::new(0),
         })
     }
 
@@ -132,6 +135,16 @@ impl Tally {
     /// How many calls of links gave up what they waited for.
     pub fn vain(&self) -> u64 {
         self.vain.load(Ordering::SeqCst)
+    }
+
+    /// A thread ended as it has to, with its seat.
+    pub fn ends(&self) {
+        self.seats.fetch_add(1, Ordering::SeqCst);
+    }
+
+    /// How many did.
+    pub fn seats(&self) -> u64 {
+        self.seats.load(Ordering::SeqCst)
     }
 
     /// Whether each connection was sent the same here and there.
