@@ -261,6 +261,7 @@ fn play_on_threads<M: Room + Send + Sync, R: Threads + Wait + Sync>(
     rt: &R,
     players: Vec<Player<'_, M>>,
 ) -> Result<(), NoMemory> {
+    // What a closure over these types gives isn't found from its body, so it is said.
     let part = |player: Player<'_, M>|
         ensures { result ≡ tt }
     { plays(rt, player) };
