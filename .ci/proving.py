@@ -184,10 +184,10 @@ class Lanes:
         self.under = {it: {*rooms.below(it)} - {it} for it in self.left}
 
     def need(self, crate):
-        """What the proof of a crate takes of memory at most, as far as its lines tell: a quarter more than what was seen of it."""
+        """What the proof of a crate takes of memory, as far as its lines tell: more than what was seen of most crates."""
         lines = {it: lines_of(f"{self.rooms.sources}/crates/{it}", ".rt") for it in self.rooms.below(crate)}
         own = lines[crate] + 0.2 * lines_of(f"{self.rooms.sources}/crates/{crate}", ".antt")
-        return 1e9 + 4e5 * own + 4e4 * sum(lines.values())
+        return 2e9 + 3e5 * own + 3e4 * sum(lines.values())
 
     def taken(self, crate, jobs):
         """The memory of a crate with so many jobs: what is read of the crates below is there once for all of them."""
