@@ -1,5 +1,7 @@
 pub mod Ask
 pub mod Code
+pub mod ConditionLaws
+pub mod Conditions
 pub mod Range
 pub mod RangeInside
 pub mod Reply

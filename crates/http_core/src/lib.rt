@@ -8,6 +8,7 @@
 #![tactic(auto)]
 
 mod code;
+mod conditions;
 pub mod laws;
 mod location;
 mod plan;

@@ -20,3 +20,4 @@ pub mod Shape
 pub mod Value
 pub mod Warning
 pub mod Words
+pub mod TypeValue

@@ -2,6 +2,8 @@
 use Rattle.std.specs.Prelude.{◌≡◌, ℕ, ◌-◌, ◌==◌, ◌&&◌, nat_le, nat_lt, min, if◌then◌else◌, Bool, false, true, is_none, not, map, unwrap_or, List, [], ◌∷◌, ◌++◌, length, take, slice_get, Option, Some, None, IfSome, Result, Ok, Err}
 use Rattle.std.specs.List.{list_any, position_or_len}
 use Rattle.std.specs.Str.Lossy.{utf8_valid_len}
+use Rattle.media_types.specs.declared.types.MediaTypes.{MediaTypes}
+use Rattle.media_types.specs.declared.types.TypePair.{TypePair}
 use Rattle.mpm_config.specs.declared.fault.ConfFault.{ConfFault}
 use Rattle.mpm_config.specs.declared.fault.ConfFault.TheVariants.{NotText, UnknownDirective, BadValue, BadSection, Unclosed, TooDeep, NoMemory}
 use Rattle.mpm_config.specs.declared.form.Form.{Form}
@@ -17,9 +19,10 @@ use Rattle.mpm_config.specs.Config.{Configuration, most_hosts}
 use Rattle.mpm_config.specs.Correction.{after_corrections, notices}
 use Rattle.mpm_config.specs.Form.{form_of}
 use Rattle.mpm_config.specs.Line.{Line, logical_lines}
-use Rattle.mpm_config.specs.Setting.{Assignment, Sets, AddsNames, assignment}
+use Rattle.mpm_config.specs.Setting.{Assignment, Sets, AddsNames, AddsPairs, assignment}
 use Rattle.mpm_config.specs.Settings.{HostSettings, Settings, empty_host, initial_settings, with_host_setting, with_setting}
 use Rattle.mpm_config.specs.HostName.{aliases_of, most_aliases}
+use Rattle.mpm_config.specs.TypeValue.{most_pairs, pairs_of_words}
 use Rattle.mpm_config.specs.Warning.{Notice}
 
 -- goes on where nothing was refused
@@ -108,10 +111,18 @@ adds_names n p names (Some h) =
     if nat_le (length (h.aliases ++ names)) most_aliases
     then Ok (record p { host = Some (record h { aliases = h.aliases ++ names }) }) else Err (BadValue n)
 
+-- pairs are added to those of the types, of which there may be so many; they are of the whole server
+abbrev pub adds_pairs : ℕ → Progress → List TypePair → Option HostSettings → Result Progress ConfFault
+adds_pairs n p pairs (Some h) = Err (BadSection n)
+adds_pairs n p pairs None =
+    if nat_le (length (p.settings.added ++ pairs)) most_pairs
+    then Ok (record p { settings = record p.settings { added = p.settings.added ++ pairs } }) else Err (BadValue n)
+
 -- a directive does what it does
 abbrev pub assigns : ℕ → Progress → Result Assignment Wrong → Result Progress ConfFault
 assigns n p (Ok (Sets s v)) = sets n p s v p.host
 assigns n p (Ok (AddsNames ws)) = adds_names n p (aliases_of ws) p.host
+assigns n p (Ok (AddsPairs ws)) = adds_pairs n p (pairs_of_words ws) p.host
 assigns n p (Err Name) = Err (UnknownDirective n)
 assigns n p (Err Value) = Err (BadValue n)
 
@@ -169,10 +180,26 @@ abbrev pub confs_by : List (List ℕ) → List ℕ → List ℕ → List HostSet
 confs_by name root index [] = record { names = name; root = root; index = index } ∷ []
 confs_by name root index (h ∷ hs) = map (host_conf_by root index) (h ∷ hs)
 
+-- by what files get their types, by these settings
+abbrev pub types_of : Settings → MediaTypes
+types_of s = record { added = s.added; long = s.long; charset = s.charset }
+
 -- the configuration of the settings of a whole text
 abbrev pub configuration_of : Settings → ConfigAndWarnings
 configuration_of s = record {
-  config = record { written = s.numbers; current = after_corrections s.numbers; listen = s.listen; control = s.control; root = s.root; index = s.index; status = s.status; hosts = confs_by s.name s.root s.index s.hosts };
+  config = record {
+    written = s.numbers;
+    current = after_corrections s.numbers;
+    listen = s.listen;
+    control = s.control;
+    root = s.root;
+    index = s.index;
+    tags = s.tags;
+    times = s.times;
+    types = types_of s;
+    status = s.status;
+    hosts = confs_by s.name s.root s.index s.hosts;
+  };
   warnings = notices s.numbers;
 }
 

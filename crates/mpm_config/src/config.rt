@@ -4,6 +4,7 @@ ghost use Rattle.std.specs.Prelude.{◌≡◌, ◌≤◌, true};
 use crate::correction::correct;
 use crate::host_conf::HostConfs;
 use crate::numbers::Numbers;
+use media_types::MediaTypes;
 use mpm_base::{Addr, Octets, Shape};
 use std::marker::Model;
 
@@ -23,6 +24,12 @@ pub struct Config {
     pub root: Octets,
     /// DirectoryIndex, without a `/`.
     pub index: Octets,
+    /// FileETag: whether files have entity tags.
+    pub tags: bool,
+    /// LastModified: whether the times at which files were changed count.
+    pub times: bool,
+    /// AddType, MimeTable and AddDefaultCharset: by what files get their types.
+    pub types: MediaTypes,
     /// ServerStatus: whether the status page is served.
     pub status: bool,
     /// The hosts: those of the sections, or else the one outside of such sections; 1 to 64.
@@ -41,6 +48,9 @@ impl Model for Config {
       control = c.control;
       root = c.root;
       index = c.index;
+      tags = c.tags;
+      times = c.times;
+      types = c.types;
       status = c.status;
       hosts = c.hosts;
     } };

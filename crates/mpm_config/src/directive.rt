@@ -37,6 +37,11 @@ pub enum Directive {
     ControlListen,
     DocumentRoot,
     DirectoryIndex,
+    FileETag,
+    LastModified,
+    AddType,
+    MimeTable,
+    AddDefaultCharset,
     ServerStatus,
     ServerName,
     ServerAlias,
@@ -50,7 +55,7 @@ pub struct Spelling {
 }
 
 /// Every name of the language, the first spelling of a directive before the others.
-pub const SPELLINGS: [Spelling; 27] = [
+pub const SPELLINGS: [Spelling; 32] = [
     Spelling {
         name: "ServerLimit",
         directive: Directive::Number(Quantity::ServerLimit),
@@ -146,6 +151,26 @@ pub const SPELLINGS: [Spelling; 27] = [
     Spelling {
         name: "DirectoryIndex",
         directive: Directive::DirectoryIndex,
+    },
+    Spelling {
+        name: "FileETag",
+        directive: Directive::FileETag,
+    },
+    Spelling {
+        name: "LastModified",
+        directive: Directive::LastModified,
+    },
+    Spelling {
+        name: "AddType",
+        directive: Directive::AddType,
+    },
+    Spelling {
+        name: "MimeTable",
+        directive: Directive::MimeTable,
+    },
+    Spelling {
+        name: "AddDefaultCharset",
+        directive: Directive::AddDefaultCharset,
     },
     Spelling {
         name: "ServerStatus",

@@ -10,7 +10,7 @@ use crate::value::{address, is_file, is_folder, port, switch};
 use crate::word::{First, first_word};
 use mpm_base::Addr;
 
-/// What a value sets. Of the two names the value itself is kept.
+/// What a value sets. Of names, and of a character set, the value itself is kept.
 #[derive(Clone, Copy, Debug)]
 pub enum Setting {
     Number(Quantity, u32),
@@ -19,6 +19,11 @@ pub enum Setting {
     ControlListen(u16),
     DocumentRoot,
     DirectoryIndex,
+    FileETag(bool),
+    LastModified(bool),
+    MimeTable(bool),
+    /// Whether the value names one.
+    AddDefaultCharset(bool),
     ServerStatus(bool),
     ServerName,
 }
@@ -30,6 +35,8 @@ pub enum Assigned<'a> {
     One(Setting, &'a str),
     /// It adds the words to the names of a host.
     Names(&'a str),
+    /// It adds the pairs that the words spell to those of the types.
+    Pairs(&'a str),
 }
 
 /// What is wrong with the line of a directive.

@@ -23,14 +23,14 @@ pub record IsEntry (key name : List ℕ) : Type 0 where
 
 -- a place at which there is no file
 abbrev pub gone : Slot
-gone = record { name = []; bytes = None }
+gone = record { name = []; content = None }
 
 abbrev pub slot_at : List Slot → ℕ → Slot
 slot_at slots place = slice_index_or slots place gone
 
 -- there is a file of that name at the place
 abbrev pub has_name : List ℕ → Slot → Bool
-has_name name slot = is_some slot.bytes && bytes_eq slot.name name
+has_name name slot = is_some slot.content && bytes_eq slot.name name
 
 -- there is none at any place
 abbrev pub HasNone : List ℕ → List Slot → Type 0
@@ -57,7 +57,7 @@ pub record AreFound {S : Type 0} (places : HashMap (Vec ℕ) ℕ S) (slots : Lis
 
 -- there is a file at the place whose name lies below the folder
 abbrev pub is_listed : List ℕ → Slot → Bool
-is_listed folder slot = is_some slot.bytes && lies_under folder slot.name
+is_listed folder slot = is_some slot.content && lies_under folder slot.name
 
 -- the names of those files, in order
 abbrev pub names_in : List ℕ → List Slot → List (List ℕ)

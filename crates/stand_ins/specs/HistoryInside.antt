@@ -11,7 +11,7 @@ use Rattle.stand_ins.specs.declared.history.Step.TheVariants as step
 
 -- the files once the step was made
 abbrev pub after_step : List File → Step → List File
-after_step files (step.Set file) = with_file file.name file.bytes files
+after_step files (step.Set file) = with_file file.name (record { bytes = file.bytes; second = file.second }) files
 after_step files (step.Unset name) = without_file name files
 after_step files step.End = files
 

@@ -1,0 +1,4 @@
+pub mod MediaType
+pub mod PairLaws
+pub mod PlacesInside
+pub mod TablesInside
