@@ -37,4 +37,4 @@ words_where_any (value ∷ values) = Some (words_of_all (value ∷ values))
 
 -- one of the words is exactly this one, byte for byte
 abbrev pub has_exactly : List ℕ → List (List ℕ) → Bool
-has_exactly word words = list_any (bytes_eq word) words
+has_exactly word words = list_any (λ other. bytes_eq other word) words

@@ -78,9 +78,7 @@ fn extension_of(name: &[u8]) -> Option<&[u8]>
 fn find_pair(pairs: &[TypePair], extension: &[u8]) -> Option<usize>
     ensures { result ≡ position (is_pair_of extension.now) pairs.now }
 {
-    pairs
-        .iter()
-        .position(|pair| is_same_ignoring_case(extension, pair.extension.as_slice()))
+    pairs.iter().position(|pair| is_same_ignoring_case(extension, pair.extension.as_slice()))
 }
 
 /// The same, or how many pairs there are where none is of the extension.

@@ -4,8 +4,14 @@ use Rattle.std.specs.Option.{is_some}
 use Rattle.std.specs.Global.{Vec}
 use Rattle.std.specs.HashMap.{HashMap, get_by, spare}
 use Rattle.mpm_base.specs.Store.{lies_under}
+use Rattle.mpm_base.specs.declared.store.Content.{Content}
 use Rattle.mpm_base.specs.declared.store.File.{File}
 use Rattle.stand_ins.specs.declared.slot.Slot.{Slot}
+
+-- a file that is to be put among others: its name, and what it has
+pub record SeenEntry : Type 0 where
+  pub name : List ℕ
+  pub content : Content
 
 -- files, and for how many further ones there is room
 pub record SeenShelf : Type 0 where

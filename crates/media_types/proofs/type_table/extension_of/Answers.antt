@@ -1,8 +1,8 @@
 use Rattle.std.proofs.Common.{◌≡◌, ◌-◌, ◌+◌, drop, sym, ap, ◌∙◌, arith}
 use Rattle.std.proofs.lemmas.List.{take_rest}
-use Rattle.file_table.specs.ContentType.{extension_of}
-use Rattle.file_table.proofs.ResourceLemmas.{extension_here}
-use Rattle.file_table.proofs.extension.extension_of.Goals as goal
+use Rattle.media_types.specs.MediaType.{extension_of}
+use Rattle.media_types.proofs.NameLemmas.{extension_here}
+use Rattle.media_types.proofs.type_table.extension_of.Goals as goal
 
 pub returns-then-name-place-eq46 : goal.returns-then-name-place-eq46
 returns-then-name-place-eq46 c =
