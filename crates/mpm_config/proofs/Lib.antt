@@ -1,10 +1,8 @@
 pub mod CorrectionLemmas
 pub mod FormLemmas
 pub mod LawLemmas
-pub mod LineLemmas
 pub mod NameLemmas
 pub mod PieceLemmas
 pub mod RangeLemmas
 pub mod TextLemmas
-pub mod WordLemmas
 pub mod HostLemmas

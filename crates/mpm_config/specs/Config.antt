@@ -12,6 +12,10 @@ use Rattle.mpm_config.specs.Correction.{after_corrections}
 abbrev pub most_hosts : ℕ
 most_hosts = 64
 
+-- there are at most as many pairs of types, counted as they are written
+abbrev pub most_pairs : ℕ
+most_pairs = 1024
+
 -- there is a host, and no more than there may be; each root and index is UTF-8
 pub record AreHostConfs (hosts : List HostConf) : Type 0 where
   pub some : 0 < length hosts

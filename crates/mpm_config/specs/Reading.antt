@@ -2,7 +2,6 @@
 use Rattle.std.specs.Prelude.{◌≡◌, ℕ, ◌-◌, ◌==◌, ◌&&◌, nat_le, nat_lt, min, if◌then◌else◌, Bool, false, true, is_none, not, map, unwrap_or, List, [], ◌∷◌, ◌++◌, length, take, slice_get, Option, Some, None, IfSome, Result, Ok, Err}
 use Rattle.std.specs.List.{list_any, position_or_len}
 use Rattle.std.specs.Str.Lossy.{utf8_valid_len}
-use Rattle.media_types.specs.declared.types.MediaTypes.{MediaTypes}
 use Rattle.media_types.specs.declared.types.TypePair.{TypePair}
 use Rattle.mpm_config.specs.declared.fault.ConfFault.{ConfFault}
 use Rattle.mpm_config.specs.declared.fault.ConfFault.TheVariants.{NotText, UnknownDirective, BadValue, BadSection, Unclosed, TooDeep, NoMemory}
@@ -15,15 +14,15 @@ use Rattle.mpm_config.specs.declared.setting.Setting.{Setting}
 use Rattle.mpm_config.specs.declared.reader.Section.{Section}
 use Rattle.mpm_config.specs.declared.setting.Wrong.{Wrong}
 use Rattle.mpm_config.specs.declared.setting.Wrong.TheVariants.{Name, Value}
-use Rattle.mpm_config.specs.Config.{Configuration, most_hosts}
+use Rattle.mpm_config.specs.Config.{Configuration, most_hosts, most_pairs}
 use Rattle.mpm_config.specs.Correction.{after_corrections, notices}
 use Rattle.mpm_config.specs.Form.{form_of}
-use Rattle.mpm_config.specs.Line.{Line, logical_lines}
+use Rattle.conf_text.specs.Line.{Line, logical_lines}
 use Rattle.mpm_config.specs.Setting.{Assignment, Sets, AddsNames, AddsPairs, assignment}
-use Rattle.mpm_config.specs.Settings.{HostSettings, Settings, empty_host, initial_settings, with_host_setting, with_setting}
+use Rattle.mpm_config.specs.Settings.{HostSettings, Settings, empty_host, initial_settings, with_host_setting, with_pairs, with_setting}
 use Rattle.mpm_config.specs.HostName.{aliases_of, most_aliases}
-use Rattle.mpm_config.specs.TypeValue.{most_pairs, pairs_of_words}
 use Rattle.mpm_config.specs.Warning.{Notice}
+use Rattle.type_words.specs.TypeWords.{pairs_of_words}
 
 -- goes on where nothing was refused
 abbrev pub and_then : {A B : Type 0} → Result A ConfFault → (A → Result B ConfFault) → Result B ConfFault
@@ -115,8 +114,8 @@ adds_names n p names (Some h) =
 abbrev pub adds_pairs : ℕ → Progress → List TypePair → Option HostSettings → Result Progress ConfFault
 adds_pairs n p pairs (Some h) = Err (BadSection n)
 adds_pairs n p pairs None =
-    if nat_le (length (p.settings.added ++ pairs)) most_pairs
-    then Ok (record p { settings = record p.settings { added = p.settings.added ++ pairs } }) else Err (BadValue n)
+    if nat_le (length (p.settings.types.added ++ pairs)) most_pairs
+    then Ok (record p { settings = with_pairs p.settings pairs }) else Err (BadValue n)
 
 -- a directive does what it does
 abbrev pub assigns : ℕ → Progress → Result Assignment Wrong → Result Progress ConfFault
@@ -180,10 +179,6 @@ abbrev pub confs_by : List (List ℕ) → List ℕ → List ℕ → List HostSet
 confs_by name root index [] = record { names = name; root = root; index = index } ∷ []
 confs_by name root index (h ∷ hs) = map (host_conf_by root index) (h ∷ hs)
 
--- by what files get their types, by these settings
-abbrev pub types_of : Settings → MediaTypes
-types_of s = record { added = s.added; long = s.long; charset = s.charset }
-
 -- the configuration of the settings of a whole text
 abbrev pub configuration_of : Settings → ConfigAndWarnings
 configuration_of s = record {
@@ -196,7 +191,7 @@ configuration_of s = record {
     index = s.index;
     tags = s.tags;
     times = s.times;
-    types = types_of s;
+    types = s.types;
     status = s.status;
     hosts = confs_by s.name s.root s.index s.hosts;
   };

@@ -9,9 +9,9 @@ use Rattle.mpm_config.specs.declared.setting.Wrong.TheVariants.{Name, Value}
 use Rattle.mpm_config.specs.Directive.{directive_of}
 use Rattle.mpm_config.specs.HostName.{are_aliases, is_server_name}
 use Rattle.mpm_config.specs.Range.{port_range}
-use Rattle.mpm_config.specs.TypeValue.{are_type_words, charset_of_value, table_of_value, tags_of_value}
-use Rattle.mpm_config.specs.Value.{number, number_of, switch, address, is_folder, is_file}
-use Rattle.mpm_config.specs.Words.{Word, Closed, words}
+use Rattle.mpm_config.specs.Value.{number, number_of, switch, tags_of_value, address, is_folder, is_file}
+use Rattle.type_words.specs.TypeWords.{are_type_words, charset_of_value, table_of_value}
+use Rattle.conf_text.specs.Words.{Word, Closed, words}
 
 -- what a value sets, where the directive may have it
 abbrev pub setting_of : Directive → List ℕ → Option Setting

@@ -5,7 +5,7 @@ use Rattle.mpm_config.specs.declared.setting.Assigned.{Assigned}
 use Rattle.mpm_config.specs.declared.setting.Assigned.TheVariants as assigned
 use Rattle.mpm_config.specs.Range.{IsAllowed}
 use Rattle.mpm_config.specs.Setting.{Assignment, Sets, AddsNames, AddsPairs}
-use Rattle.mpm_config.specs.Words.{words}
+use Rattle.conf_text.specs.Words.{words}
 
 -- a number that is set is one that its directive may have
 abbrev pub IsSettable : Setting → Type 0

@@ -1,5 +1,7 @@
 -- What the directives of a text set.
-use Rattle.std.specs.Prelude.{◌≡◌, ℕ, Bool, false, true, if◌then◌else◌, List, [], ◌∷◌, Option, Some, None, codes}
+use Rattle.std.specs.Prelude.{◌≡◌, ℕ, Bool, false, true, if◌then◌else◌, List, [], ◌∷◌, ◌++◌, Option, Some, None, codes}
+use Rattle.media_types.specs.MediaType.{default_types}
+use Rattle.media_types.specs.declared.types.MediaTypes.{MediaTypes}
 use Rattle.media_types.specs.declared.types.TypePair.{TypePair}
 use Rattle.mpm_base.specs.declared.addr.Addr.{Addr}
 use Rattle.mpm_config.specs.declared.numbers.Numbers.{Numbers}
@@ -36,8 +38,8 @@ with_host_setting h v (AddDefaultCharset b) = None
 with_host_setting h v (ServerStatus b) = None
 
 -- the numbers, the address to listen at, the port of the control line, the folder of the files, a folder's own file, whether files have
--- tags and whether times count, the pairs of types that were added, whether the long table counts, the character set, where one is named,
--- whether the status page is served, the name of the server, where it has one, and the hosts whose sections were closed
+-- tags, whether the times at which they were changed count, by what they get their types, whether the status page is served, the name of
+-- the server, where it has one, and the hosts whose sections were closed
 pub record Settings : Type 0 where
   pub numbers : Numbers
   pub listen : Addr
@@ -46,9 +48,7 @@ pub record Settings : Type 0 where
   pub index : List ℕ
   pub tags : Bool
   pub times : Bool
-  pub added : List TypePair
-  pub long : Bool
-  pub charset : Option (List ℕ)
+  pub types : MediaTypes
   pub status : Bool
   pub name : List (List ℕ)
   pub hosts : List HostSettings
@@ -63,9 +63,7 @@ initial_settings = record {
   index = codes "index.html";
   tags = false;
   times = false;
-  added = [];
-  long = false;
-  charset = None;
+  types = default_types;
   status = true;
   name = [];
   hosts = [];
@@ -85,10 +83,14 @@ with_setting s v DocumentRoot = record s { root = v }
 with_setting s v DirectoryIndex = record s { index = v }
 with_setting s v (FileETag b) = record s { tags = b }
 with_setting s v (LastModified b) = record s { times = b }
-with_setting s v (MimeTable b) = record s { long = b }
-with_setting s v (AddDefaultCharset b) = record s { charset = charset_named b v }
+with_setting s v (MimeTable b) = record s { types = record s.types { long = b } }
+with_setting s v (AddDefaultCharset b) = record s { types = record s.types { charset = charset_named b v } }
 with_setting s v (ServerStatus b) = record s { status = b }
 with_setting s v ServerName = record s { name = server_name v ∷ [] }
+
+-- the settings with these pairs behind those of the types
+abbrev pub with_pairs : Settings → List TypePair → Settings
+with_pairs s pairs = record s { types = record s.types { added = s.types.added ++ pairs } }
 
 -- both settings are of one directive
 abbrev pub IsSameDirective : Setting → Setting → Type 0

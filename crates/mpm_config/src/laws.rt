@@ -3,7 +3,7 @@
 ghost use Rattle.std.specs.Prelude.{◌≡◌, ℕ, true, List, [], ◌∷◌, ◌++◌, Ok, Err, IfOk, IfErr};
 ghost use Rattle.std.specs.Str.Lines.{lines};
 ghost use Rattle.mpm_config.specs.Correction.{after_corrections};
-ghost use Rattle.mpm_config.specs.Line.{logical_lines, Line, Rise};
+ghost use Rattle.conf_text.specs.Line.{logical_lines, Line, Rise};
 ghost use Rattle.mpm_config.specs.Numbers.{IsInRange};
 ghost use Rattle.mpm_config.specs.Reading.{after_line, after_lines, and_then, hides, settings_of, IsAtLine, Progress, ReplacesInHost, SetsNothing};
 ghost use Rattle.mpm_config.specs.Settings.{with_setting, HostSettings, IsSameDirective, Settings};

@@ -19,7 +19,6 @@ mod host_conf;
 mod host_draft;
 mod host_name;
 mod laws;
-mod line;
 mod numbers;
 mod range;
 mod read;
@@ -27,7 +26,6 @@ mod reader;
 mod setting;
 mod value;
 mod warning;
-mod word;
 
 pub use config::{Config, carry_limits, shape_of};
 pub use correction::warning_text;

@@ -2,13 +2,14 @@
 ghost use Rattle.std.specs.Prelude.{◌≡◌, IfSome, IfOk, MatchResult, Ok, Err};
 ghost use Rattle.mpm_config.specs.Setting.{assignment, of_value, of_words, setting_of};
 ghost use Rattle.mpm_config.specs.SettingInside.{IsSettable, IsSettableOne, assignment_shown};
-ghost use Rattle.mpm_config.specs.Words.{words};
+ghost use Rattle.conf_text.specs.Words.{words};
 
 use crate::directive::{Directive, Quantity, named};
 use crate::host_name::{are_aliases, is_server_name};
-use crate::value::{address, is_file, is_folder, port, switch};
-use crate::word::{First, first_word};
+use crate::value::{address, is_file, is_folder, port, switch, tags_of_value};
+use conf_text::{First, first_word};
 use mpm_base::Addr;
+use type_words::{are_type_words, charset_of_value, table_of_value};
 
 /// What a value sets. Of names, and of a character set, the value itself is kept.
 #[derive(Clone, Copy, Debug)]
@@ -73,6 +74,12 @@ impl Directive {
                     None
                 }
             }
+            Directive::FileETag => Some(Setting::FileETag(tags_of_value(value)?)),
+            Directive::LastModified => Some(Setting::LastModified(switch(value)?)),
+            Directive::MimeTable => Some(Setting::MimeTable(table_of_value(value)?)),
+            Directive::AddDefaultCharset => {
+                Some(Setting::AddDefaultCharset(charset_of_value(value)?))
+            }
             Directive::ServerStatus => Some(Setting::ServerStatus(switch(value)?)),
             Directive::ServerName => {
                 if is_server_name(value) {
@@ -81,7 +88,7 @@ impl Directive {
                     None
                 }
             }
-            Directive::ServerAlias => None,
+            Directive::ServerAlias | Directive::AddType => None,
         }
     }
 
@@ -115,6 +122,13 @@ impl Directive {
             Directive::ServerAlias => {
                 if are_aliases(line) {
                     Ok(Assigned::Names(line))
+                } else {
+                    Err(Wrong::Value)
+                }
+            }
+            Directive::AddType => {
+                if are_type_words(line) {
+                    Ok(Assigned::Pairs(line))
                 } else {
                     Err(Wrong::Value)
                 }
