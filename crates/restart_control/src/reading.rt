@@ -5,7 +5,7 @@ ghost use Rattle.restart_control.specs.Reload.{HasAccepted, HasText};
 ghost use Rattle.restart_control.specs.ReloadInside.{IsNoConfig, IsUnread, StoreStays};
 
 use crate::reload_fault::ReloadFault;
-use mpm_base::{Content, Octets, Store, StoreFault};
+use mpm_base::{Octets, Store, StoreFault};
 use mpm_config::{ConfFault, Config, Warnings, read_config};
 use std::alloc::Global;
 
@@ -37,8 +37,8 @@ fn read_text<D: Store>(alloc: Global, store: &mut D, name: &str) -> Result<Octet
         (HasText (D.seen store.old).told name.now)
         (IsUnread (D.seen store.old).told name.now (D.seen store.old).counts (D.seen store.new).counts) }
 {
-    match store.read(alloc, name, MOST_CONFIG) {
-        Ok(Content { bytes, .. }) => Ok(bytes),
+    match store.read_bytes(alloc, name, MOST_CONFIG) {
+        Ok(text) => Ok(text),
         Err(StoreFault::Missing) => Err(ReloadFault::Absent),
         Err(StoreFault::Large(_)) => Err(ReloadFault::Conf(ConfFault::BadValue(0))),
         Err(StoreFault::Failed) => Err(ReloadFault::StoreFault),

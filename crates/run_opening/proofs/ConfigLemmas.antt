@@ -1,7 +1,6 @@
 -- What is read of a configuration.
 use Rattle.std.proofs.Common.{◌≡◌, inl, inr, ℕ, ◌⊎◌, List, Result, Ok, Err, refl, ap, sym, subst, ◌∙◌}
 use Rattle.mpm_base.specs.Store.{ReadsFile, StoreSeen}
-use Rattle.mpm_base.specs.declared.store.Content.{Content}
 use Rattle.mpm_base.specs.declared.store.StoreFault.{StoreFault}
 use Rattle.mpm_base.specs.declared.store.StoreFault.TheVariants as store
 use Rattle.mpm_config.specs.Config.{Configuration}
@@ -68,9 +67,9 @@ no-config text fault no.Failed refused is = is
 -- ## What the store answered
 
 -- a configuration comes of a text
-pub from-ok : (answer : Result Content StoreFault) (read : Configuration × List ℕ) → IsConfigFrom answer (Ok read)
-    → (content : Content) × (answer ≡ Ok content) × IsAccepted content.bytes read.0 read.1
-from-ok (Ok content) read is = (content, refl, is)
+pub from-ok : (answer : Result (List ℕ) StoreFault) (read : Configuration × List ℕ) → IsConfigFrom answer (Ok read)
+    → (text : List ℕ) × (answer ≡ Ok text) × IsAccepted text read.0 read.1
+from-ok (Ok text) read is = (text, refl, is)
 from-ok (Err store.Missing) read is = absurd (cc is)
 from-ok (Err store.Failed) read is = absurd (cc is)
 from-ok (Err (store.Large size)) read is = absurd (cc is)
@@ -78,8 +77,8 @@ from-ok (Err store.Many) read is = absurd (cc is)
 from-ok (Err store.NoMemory) read is = absurd (cc is)
 
 -- the file is missing
-pub from-missing : (answer : Result Content StoreFault) → IsConfigFrom answer (Err no.Missing) → answer ≡ Err store.Missing
-from-missing (Ok content) is = absurd is
+pub from-missing : (answer : Result (List ℕ) StoreFault) → IsConfigFrom answer (Err no.Missing) → answer ≡ Err store.Missing
+from-missing (Ok text) is = absurd is
 from-missing (Err store.Missing) is = refl
 from-missing (Err store.Failed) is = absurd (cc is)
 from-missing (Err (store.Large size)) is = absurd (cc is)
@@ -87,8 +86,8 @@ from-missing (Err store.Many) is = absurd (cc is)
 from-missing (Err store.NoMemory) is = absurd (cc is)
 
 -- the call failed
-pub from-failed : (answer : Result Content StoreFault) → IsConfigFrom answer (Err no.Failed) → answer ≡ Err store.Failed
-from-failed (Ok content) is = absurd is
+pub from-failed : (answer : Result (List ℕ) StoreFault) → IsConfigFrom answer (Err no.Failed) → answer ≡ Err store.Failed
+from-failed (Ok text) is = absurd is
 from-failed (Err store.Missing) is = absurd (cc is)
 from-failed (Err store.Failed) is = refl
 from-failed (Err (store.Large size)) is = absurd (cc is)
@@ -96,22 +95,22 @@ from-failed (Err store.Many) is = absurd (cc is)
 from-failed (Err store.NoMemory) is = absurd (cc is)
 
 -- a text was refused
-pub record RefusesText (answer : Result Content StoreFault) (why : ConfigRefusal) (number : ℕ) : Type 0 where
-  pub content : Content
-  pub is : answer ≡ Ok content
-  pub refused : config_of content.bytes ≡ Err (config_fault why number)
+pub record RefusesText (answer : Result (List ℕ) StoreFault) (why : ConfigRefusal) (number : ℕ) : Type 0 where
+  pub text : List ℕ
+  pub is : answer ≡ Ok text
+  pub refused : config_of text ≡ Err (config_fault why number)
 
 -- or the file was too large
-pub record RefusesSize (answer : Result Content StoreFault) (why : ConfigRefusal) (number : ℕ) : Type 0 where
+pub record RefusesSize (answer : Result (List ℕ) StoreFault) (why : ConfigRefusal) (number : ℕ) : Type 0 where
   pub size : ℕ
   pub is : answer ≡ Err (store.Large size)
   pub why_is : why ≡ BadValue
   pub number_is : number ≡ 0
 
 -- one of these it was
-pub from-refused : (answer : Result Content StoreFault) (why : ConfigRefusal) (number : ℕ) → IsConfigFrom answer (Err (no.Refused why number))
+pub from-refused : (answer : Result (List ℕ) StoreFault) (why : ConfigRefusal) (number : ℕ) → IsConfigFrom answer (Err (no.Refused why number))
     → RefusesText answer why number ⊎ RefusesSize answer why number
-from-refused (Ok content) why number is = inl (record { content = content; is = refl; refused = is })
+from-refused (Ok text) why number is = inl (record { text = text; is = refl; refused = is })
 from-refused (Err store.Missing) why number is = absurd (cc is)
 from-refused (Err store.Failed) why number is = absurd (cc is)
 from-refused (Err (store.Large size)) why number is = inr (record { size = size; is = refl; why_is = cc is; number_is = cc is })
@@ -121,23 +120,23 @@ from-refused (Err store.NoMemory) why number is = absurd (cc is)
 -- ## A configuration that is accepted
 
 -- it is accepted, where the store tells on what it told after it was read
-pub has-accepted : (call : Call) (read : StoreSeen) (name : List ℕ) (answer : Result Content StoreFault) (conf : Configuration × List ℕ)
+pub has-accepted : (call : Call) (read : StoreSeen) (name : List ℕ) (answer : Result (List ℕ) StoreFault) (conf : Configuration × List ℕ)
     → ReadsFile call.store read name most_config answer → call.store'.told ≡ read.told → IsConfigFrom answer (Ok conf) → HasConfigAccepted call name conf.0
 has-accepted call read name answer conf reads stays is =
-    let content = from-ok answer conf is in
-    let has = has_file most_config call read name content.0 answer reads stays content.1 in
-    record { bytes = content.0.bytes; has = has; accepted = record { few = has.few; accepted = content.2.accepted } }
+    let text = from-ok answer conf is in
+    let has = has_file most_config call read name text.0 answer reads stays text.1 in
+    record { bytes = text.0; has = has; accepted = record { few = has.few; accepted = text.2.accepted } }
 
 -- it was accepted, whatever the store tells later
-pub had-accepted : (call : Call) (read : StoreSeen) (name : List ℕ) (answer : Result Content StoreFault) (conf : Configuration × List ℕ)
+pub had-accepted : (call : Call) (read : StoreSeen) (name : List ℕ) (answer : Result (List ℕ) StoreFault) (conf : Configuration × List ℕ)
     → ReadsFile call.store read name most_config answer → IsConfigFrom answer (Ok conf) → HadConfigAccepted call name conf.0
 had-accepted call read name answer conf reads is =
-    let content = from-ok answer conf is in
-    let how = subst (ReadsFile call.store read name most_config) content.1 reads in
+    let text = from-ok answer conf is in
+    let how = subst (ReadsFile call.store read name most_config) text.1 reads in
     record {
-      bytes = content.0.bytes;
-      file = is_file call.store.told name content.0 how.may.1;
-      accepted = record { few = how.may.0; accepted = content.2.accepted };
+      bytes = text.0;
+      file = is_file call.store.told name text.0 how.may.1;
+      accepted = record { few = how.may.0; accepted = text.2.accepted };
     }
 
 -- so it is accepted where the store still tells what it told
@@ -149,5 +148,5 @@ accepted-still call name c kept had = record {
 }
 
 -- and this is told of its corrections
-pub told-of : (answer : Result Content StoreFault) (conf : Configuration × List ℕ) → IsConfigFrom answer (Ok conf) → conf.1 ≡ warnings_of conf.0
+pub told-of : (answer : Result (List ℕ) StoreFault) (conf : Configuration × List ℕ) → IsConfigFrom answer (Ok conf) → conf.1 ≡ warnings_of conf.0
 told-of answer conf is = (from-ok answer conf is).2.told_is

@@ -1,5 +1,4 @@
 -- What the parts that read a configuration answer.
-use Rattle.mpm_base.specs.declared.store.Content.{Content}
 use Rattle.mpm_base.specs.declared.store.StoreFault.{StoreFault}
 use Rattle.mpm_config.specs.Config.{Configuration}
 use Rattle.mpm_config.specs.Reading.{config_of}
@@ -33,8 +32,8 @@ IsConfigOf text (Err no.Missing) = ⊥
 IsConfigOf text (Err no.Failed) = ⊥
 
 -- the same of what a store answered
-abbrev pub IsConfigFrom : Result Content StoreFault → Result (Configuration × List ℕ) NoConfig → Type 0
-IsConfigFrom (Ok content) result = IsConfigOf content.bytes result
+abbrev pub IsConfigFrom : Result (List ℕ) StoreFault → Result (Configuration × List ℕ) NoConfig → Type 0
+IsConfigFrom (Ok text) result = IsConfigOf text result
 IsConfigFrom (Err store.Missing) result = result ≡ Err no.Missing
 IsConfigFrom (Err store.Failed) result = result ≡ Err no.Failed
 IsConfigFrom (Err (store.Large size)) result = result ≡ Err (no.Refused BadValue 0)

@@ -4,7 +4,7 @@ ghost use Rattle.std.specs.List.{flat_map};
 ghost use Rattle.mpm_config.specs.Correction.{notice_text};
 ghost use Rattle.run_opening.specs.ConfiguredInside.{IsConfigFrom, IsConfigOf, IsRefusalFor};
 
-use mpm_base::{Content, NoMemory, Octets, StoreFault};
+use mpm_base::{NoMemory, Octets, StoreFault};
 use mpm_config::{ConfFault, Config, Warning, read_config, warning_text};
 use run_report::ConfigRefusal;
 use std::alloc::Global;
@@ -25,12 +25,12 @@ pub enum NoConfig {
 /// The configuration of what a store answered to a read of at most 1,048,576 bytes, and what is told of its corrections.
 pub fn config_from(
     alloc: Global,
-    answer: Result<Content, StoreFault>,
+    answer: Result<Octets, StoreFault>,
 ) -> Result<(Config, Octets), NoConfig>
     ensures { IsConfigFrom answer result }
 {
     match answer {
-        Ok(content) => config_of(alloc, &content.bytes),
+        Ok(text) => config_of(alloc, &text),
         Err(StoreFault::Missing) => Err(NoConfig::Missing),
         Err(StoreFault::Failed) => Err(NoConfig::Failed),
         Err(StoreFault::Large(_)) => Err(NoConfig::Refused(ConfigRefusal::BadValue, 0)),

@@ -14,7 +14,7 @@ use Rattle.mpm_base.specs.declared.script_line.ScriptLine.TheVariants as line
 use Rattle.mpm_base.specs.declared.script_line.SiteLine.{SiteLine}
 use Rattle.stand_ins.specs.History.{told_past}
 use Rattle.script_front.specs.DraftInside.{SeenDraft}
-use Rattle.script_front.specs.Editions.{conf_after, conf_file, conf_name, conf_of, edition_of, editions_behind, editions_of, is_graceful, is_site, no_others, opening_lines, others_after, others_of, OtherFiles, site_in, site_lines}
+use Rattle.script_front.specs.Editions.{conf_after, conf_file, conf_name, conf_of, edition_of, editions_behind, editions_of, files_after, files_of, is_graceful, is_site, opening_lines, site_in, site_lines}
 
 -- ## A further line
 
@@ -34,10 +34,9 @@ pub conf-more : (opening lines : List ScriptLine) (i : ℕ) (line : ScriptLine) 
     → conf_of (opening ++ take (i + 1) lines) ≡ fold conf_after (conf_of (opening ++ take i lines)) (site_in line)
 conf-more opening lines i line l e = ap conf_of (lines-more opening lines i line l e) ∙ fold-site conf_after [] (opening ++ take i lines) line
 
-pub others-more : (opening lines : List ScriptLine) (i : ℕ) (line : ScriptLine) → i < length lines → line ≡ get_or lines i line
-    → others_of (opening ++ take (i + 1) lines) ≡ others_after (others_of (opening ++ take i lines)) line
-others-more opening lines i line l e =
-    ap others_of (lines-more opening lines i line l e) ∙ fold-append others_after no_others (opening ++ take i lines) (line ∷ [])
+pub files-more : (opening lines : List ScriptLine) (i : ℕ) (line : ScriptLine) → i < length lines → line ≡ get_or lines i line
+    → files_of (opening ++ take (i + 1) lines) ≡ fold files_after (files_of (opening ++ take i lines)) (site_in line)
+files-more opening lines i line l e = ap files_of (lines-more opening lines i line l e) ∙ fold-site files_after [] (opening ++ take i lines) line
 
 -- the edition that may end with it
 one-edition : (graceful : Bool) (past rest : List (List File)) (edition : List File)
@@ -66,24 +65,15 @@ graceful-no_site (line.Client name act) is = absurd (cc is)
 graceful-no_site (line.Command word) is = refl
 graceful-no_site (line.Site site) is = absurd (cc is)
 
--- it leaves the other files, and the moment, as they were
-pub graceful-stays : (line : ScriptLine) (others : OtherFiles) → is_graceful line ≡ true → others_after others line ≡ others
-graceful-stays (line.At m) others is = absurd (cc is)
-graceful-stays (line.Conn name) others is = absurd (cc is)
-graceful-stays (line.Client name act) others is = absurd (cc is)
-graceful-stays (line.Command word) others is = refl
-graceful-stays (line.Site site) others is = absurd (cc is)
-
 -- ## The lines of the opening
 
 -- all happened, and their edition ended
 pub opening-ended : (lines : List ScriptLine) (i : ℕ) (draft : SeenDraft) → length lines ≤ i
-    → draft ≡ record { past = []; conf = conf_of (take i lines); others = others_of (take i lines) }
-    → record draft { past = draft.past ++ (conf_file draft.conf ∷ draft.others.files) ∷ [] }
-    ≡ record { past = edition_of lines ∷ []; conf = conf_of lines; others = others_of lines }
+    → draft ≡ record { past = []; conf = conf_of (take i lines); others = files_of (take i lines) }
+    → record draft { past = draft.past ++ (conf_file draft.conf ∷ draft.others) ∷ [] } ≡ record { past = edition_of lines ∷ []; conf = conf_of lines; others = files_of lines }
 opening-ended lines i draft past is =
-    ap (λ (d : SeenDraft). let ended : SeenDraft = record d { past = d.past ++ (conf_file d.conf ∷ d.others.files) ∷ [] } in ended) is
-    ∙ ap (λ xs. let ended : SeenDraft = record { past = edition_of xs ∷ []; conf = conf_of xs; others = others_of xs } in ended) (take_all i lines past)
+    ap (λ (d : SeenDraft). let ended : SeenDraft = record d { past = d.past ++ (conf_file d.conf ∷ d.others) ∷ [] } in ended) is
+    ∙ ap (λ xs. let ended : SeenDraft = record { past = edition_of xs ∷ []; conf = conf_of xs; others = files_of xs } in ended) (take_all i lines past)
 
 opening-from : (before lines : List ScriptLine)
     → editions_behind before lines ≡ editions_behind (before ++ take (prefix_len is_site lines) lines) (drop (prefix_len is_site lines) lines)

@@ -55,30 +55,22 @@ files_after moment files site.Clear = files
 files_after moment files (site.File name bytes) = if is_conf_name name then files else with_file name (set_at moment bytes) files
 files_after moment files (site.Unfile name) = if is_conf_name name then files else without_file name files
 
--- the moment at which further lines happen, and the files beside that of the configuration
-pub record OtherFiles : Type 0 where
-  pub moment : ℕ
-  pub files : List File
-
--- at first it is the moment 0, and there are none
-abbrev pub no_others : OtherFiles
-no_others = record { moment = 0; files = [] }
-
--- the same once a line happened
-abbrev pub others_after : OtherFiles → ScriptLine → OtherFiles
-others_after others (line.At m) = record others { moment = m }
-others_after others (line.Conn name) = others
-others_after others (line.Client name act) = others
-others_after others (line.Command word) = others
-others_after others (line.Site site) = record others { files = files_after others.moment others.files site }
+-- the same behind the lines, which begin at that moment
+abbrev pub files_from : ℕ → List File → List ScriptLine → List File
+files_from moment files [] = files
+files_from moment files (line.At later ∷ lines) = files_from later files lines
+files_from moment files (line.Conn name ∷ lines) = files_from moment files lines
+files_from moment files (line.Client name act ∷ lines) = files_from moment files lines
+files_from moment files (line.Command word ∷ lines) = files_from moment files lines
+files_from moment files (line.Site site ∷ lines) = files_from moment (files_after moment files site) lines
 
 -- the configuration that the lines leave, which is empty at first
 abbrev pub conf_of : List ScriptLine → List ℕ
 conf_of lines = fold conf_after [] (site_lines lines)
 
--- what they leave beside it: the lines before the first `at` happen at the moment 0
-abbrev pub others_of : List ScriptLine → OtherFiles
-others_of lines = fold others_after no_others lines
+-- the other files that they leave, of which there is none at first; lines before the first `at` happen at the moment 0
+abbrev pub files_of : List ScriptLine → List File
+files_of lines = files_from 0 [] lines
 
 -- the configuration's file with these bytes; when it was changed isn't told
 abbrev pub conf_file : List ℕ → File
@@ -88,7 +80,7 @@ conf_file bytes = record { name = conf_name; bytes = bytes; second = 0 }
 
 -- all files that the lines leave: that of the configuration, which is always there, and the others
 abbrev pub edition_of : List ScriptLine → List File
-edition_of lines = conf_file (conf_of lines) ∷ (others_of lines).files
+edition_of lines = conf_file (conf_of lines) ∷ files_of lines
 
 -- the line is one of the site
 abbrev pub is_site : ScriptLine → Bool

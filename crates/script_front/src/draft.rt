@@ -3,9 +3,9 @@ ghost use Rattle.std.specs.Prelude.{◌≡◌, [], ◌∷◌, ◌++◌, drop, Is
 ghost use Rattle.mpm_script.specs.FileNames.{NamesText};
 ghost use Rattle.stand_ins.specs.Files.{with_file, without_file};
 ghost use Rattle.script_front.specs.DraftInside.{IsDraft};
-ghost use Rattle.script_front.specs.Editions.{conf_after, conf_file, files_after, is_conf_name, no_others, set_at};
+ghost use Rattle.script_front.specs.Editions.{conf_after, conf_file, files_after, is_conf_name};
 
-use mpm_base::{Moment, NoMemory, Octets, Second, SiteLine};
+use mpm_base::{NoMemory, Octets, SiteLine};
 use stand_ins::History;
 use std::alloc::Global;
 use std::marker::Model;
@@ -20,7 +20,6 @@ pub(crate) struct Draft {
     history: History,
     conf: Octets,
     changed: bool,
-    moment: Moment,
 }
 
 impl Model for Draft {
@@ -32,7 +31,7 @@ impl Model for Draft {
     ghost view = { λ d. record {
       past = d.history.past;
       conf = d.conf;
-      others = record { moment = d.moment; files = drop 1 d.history.files };
+      others = drop 1 d.history.files;
     } };
 
     ghost invariant = { λ d. IsDraft d.history.files d.conf d.changed };
@@ -41,23 +40,15 @@ impl Model for Draft {
 impl Draft {
     /// No edition ended, and there is no file but that of an empty configuration.
     pub(crate) fn make(alloc: Global) -> Result<Draft, NoMemory>
-        ensures { IfOk result (λ draft. draft ≡ record { past = []; conf = []; others = no_others }) }
+        ensures { IfOk result (λ draft. draft ≡ record { past = []; conf = []; others = [] }) }
     {
         let mut history = History::make(alloc);
-        history.set(CONF_NAME, b"", Second::of(0))?;
+        history.set(CONF_NAME, b"")?;
         Ok(Draft {
             history,
             conf: Octets::make(alloc),
             changed: false,
-            moment: 0,
         })
-    }
-
-    /// Further lines happen at that moment.
-    pub(crate) fn go_to(&mut self, moment: Moment)
-        ensures { self.new ≡ record self.old { others = record self.old.others { moment = moment } } }
-    {
-        self.moment = moment;
     }
 
     /// What the line of the site does happens.
@@ -65,9 +56,7 @@ impl Draft {
         requires { NamesText site.now }
         ensures { OnOk result (self.new ≡ record self.old {
           conf = conf_after self.old.conf site.now;
-          others = record self.old.others {
-            files = files_after self.old.others.moment self.old.others.files site.now;
-          };
+          others = files_after self.old.others site.now;
         }) }
     {
         match site {
@@ -81,7 +70,7 @@ impl Draft {
     /// The files are the next edition.
     pub(crate) fn end(&mut self) -> Result<(), NoMemory>
         ensures { OnOk result (self.new ≡ record self.old {
-          past = self.old.past ++ (conf_file self.old.conf ∷ self.old.others.files) ∷ [];
+          past = self.old.past ++ (conf_file self.old.conf ∷ self.old.others) ∷ [];
         }) }
     {
         settle(&mut self.history, self.conf.as_slice(), self.changed)?;
@@ -98,7 +87,6 @@ impl Draft {
             history,
             conf: _,
             changed: _,
-            moment: _,
         } = self;
         history
     }
@@ -126,17 +114,14 @@ impl Draft {
         requires { IsUtf8 name.now }
         ensures { OnOk result (self.new ≡ record self.old {
           conf = if is_conf_name name.now then bytes.now else self.old.conf;
-          others = record self.old.others {
-            files = if is_conf_name name.now then self.old.others.files
-                else with_file name.now (set_at self.old.others.moment bytes.now) self.old.others.files;
-          };
+          others = if is_conf_name name.now then self.old.others
+              else with_file name.now bytes.now self.old.others;
         }) }
     {
         if is_conf_name(name) {
             return self.set_conf(bytes);
         }
-        self.history
-            .set(text_of(name.as_slice()), bytes, Second::at(self.moment))?;
+        self.history.set(text_of(name.as_slice()), bytes)?;
         Ok(())
     }
 
@@ -145,10 +130,8 @@ impl Draft {
         requires { IsUtf8 name.now }
         ensures { OnOk result (self.new ≡ record self.old {
           conf = if is_conf_name name.now then [] else self.old.conf;
-          others = record self.old.others {
-            files = if is_conf_name name.now then self.old.others.files
-                else without_file name.now self.old.others.files;
-          };
+          others = if is_conf_name name.now then self.old.others
+              else without_file name.now self.old.others;
         }) }
     {
         if is_conf_name(name) {
@@ -169,7 +152,7 @@ fn settle(history: &mut History, conf: &[u8], changed: bool) -> Result<(), NoMem
     if !changed {
         return Ok(());
     }
-    history.set(CONF_NAME, conf, Second::of(0))
+    history.set(CONF_NAME, conf)
 }
 
 fn is_conf_name(name: &Octets) -> bool

@@ -9,7 +9,7 @@ ghost use Rattle.mpm_base.specs.Store.{bytes_of};
 ghost use Rattle.mpm_base.specs.declared.store.File.{File as SeenFile};
 ghost use Rattle.mpm_base.specs.declared.script_line.ScriptLine.{ScriptLine as Line};
 ghost use Rattle.mpm_script.specs.FileNames.{HasTextName, HaveTextNames};
-ghost use Rattle.script_front.specs.Editions.{conf_after, conf_file, conf_name, conf_of, edition_of, editions_behind, editions_of, is_graceful, is_site, no_others, opening_lines, others_after, others_of, site_in, store_of};
+ghost use Rattle.script_front.specs.Editions.{conf_after, conf_file, conf_name, conf_of, edition_of, editions_behind, editions_of, files_after, files_of, is_graceful, is_site, opening_lines, site_in, store_of};
 
 use crate::draft::Draft;
 use mpm_base::{CommandWord, NoMemory, ScriptLine};
@@ -65,11 +65,11 @@ fn is_graceful(line: &ScriptLine) -> bool
 /// The lines of the opening happen to an empty site, and its edition ends.
 fn take_opening(draft: &mut Draft, lines: &[ScriptLine]) -> Result<(), NoMemory>
     requires names { HaveTextNames lines.now }
-    requires empty { draft.old ≡ record { past = []; conf = []; others = no_others } }
+    requires empty { draft.old ≡ record { past = []; conf = []; others = [] } }
     ensures { OnOk result (draft.new ≡ record {
       past = edition_of lines.now ∷ [];
       conf = conf_of lines.now;
-      others = others_of lines.now;
+      others = files_of lines.now;
     }) }
 {
     for line in lines {
@@ -86,7 +86,7 @@ fn take_lines(
 ) -> Result<(), NoMemory>
     requires names { HaveTextNames lines.now }
     requires conf { draft.old.conf ≡ conf_of opening.now }
-    requires others { draft.old.others ≡ others_of opening.now }
+    requires others { draft.old.others ≡ files_of opening.now }
     ensures { OnOk result
         (draft.new.past ≡ draft.old.past ++ editions_behind opening.now lines.now) }
 {
@@ -100,12 +100,12 @@ fn take_lines(
 fn take_line(draft: &mut Draft, line: &ScriptLine) -> Result<(), NoMemory>
     requires { HasTextName line.now }
     ensures past { OnOk result (draft.new.past ≡ (if is_graceful line.now
-        then draft.old.past ++ (conf_file draft.old.conf ∷ draft.old.others.files) ∷ []
+        then draft.old.past ++ (conf_file draft.old.conf ∷ draft.old.others) ∷ []
         else draft.old.past)) }
     ensures conf { OnOk result
         (draft.new.conf ≡ fold conf_after draft.old.conf (site_in line.now)) }
     ensures others { OnOk result
-        (draft.new.others ≡ others_after draft.old.others line.now) }
+        (draft.new.others ≡ fold files_after draft.old.others (site_in line.now)) }
 {
     if is_graceful(line) {
         return draft.end();
@@ -113,19 +113,15 @@ fn take_line(draft: &mut Draft, line: &ScriptLine) -> Result<(), NoMemory>
     change(draft, line)
 }
 
-/// What the line does to the site happens, or further lines happen at its moment.
+/// What the line does to the site happens.
 fn change(draft: &mut Draft, line: &ScriptLine) -> Result<(), NoMemory>
     requires { HasTextName line.now }
     ensures { OnOk result (draft.new ≡ record draft.old {
       conf = fold conf_after draft.old.conf (site_in line.now);
-      others = others_after draft.old.others line.now;
+      others = fold files_after draft.old.others (site_in line.now);
     }) }
 {
     match line {
-        ScriptLine::At(moment) => {
-            draft.go_to(*moment);
-            Ok(())
-        }
         ScriptLine::Site(site) => draft.change(site),
         _ => Ok(()),
     }

@@ -2,7 +2,6 @@
 use Rattle.run_opening.proofs.FileLemmas.{has_file, too_large}
 use Rattle.std.proofs.Common.{◌≡◌, inl, inr, ℕ, List, Option, None, Some, IfSome, IsSome, Result, Ok, Err, refl, sym, subst, ◌⊎◌, IsNone, arith}
 use Rattle.mpm_base.specs.Store.{ReadsFile}
-use Rattle.mpm_base.specs.declared.store.Content.{Content}
 use Rattle.mpm_base.specs.declared.store.StoreFault.{StoreFault}
 use Rattle.mpm_base.specs.declared.store.StoreFault.TheVariants as store
 use Rattle.mpm_base.specs.declared.script_line.ScriptLine.{ScriptLine}
@@ -35,15 +34,14 @@ use Rattle.run_opening.specs.Refusals.{EndsSilently}
 -- ## The lines that are played
 
 -- those of a script that was read
-pub reads-script : (call : Call) (name : List ℕ) (content : Content) (lines : List ScriptLine) (answer : Result Content StoreFault)
-    → IsScriptWords call.words name → ReadsFile call.store call.store' name most_script answer → answer ≡ Ok content
-    → ScriptIs content.bytes (Ok lines) → PlaysLines call lines
-reads-script call name content lines answer command reads is script =
+pub reads-script : (call : Call) (name bytes : List ℕ) (lines : List ScriptLine) (answer : Result (List ℕ) StoreFault) → IsScriptWords call.words name
+    → ReadsFile call.store call.store' name most_script answer → answer ≡ Ok bytes → ScriptIs bytes (Ok lines) → PlaysLines call lines
+reads-script call name bytes lines answer command reads is script =
     inl (record {
       name = name;
-      bytes = content.bytes;
+      bytes = bytes;
       command = command;
-      has = has_file most_script call call.store' name content answer reads refl is;
+      has = has_file most_script call call.store' name bytes answer reads refl is;
       script = script;
     })
 
@@ -110,24 +108,24 @@ unsited call lines plays refusal = record {
 -- ## A script that is refused
 
 -- at a line
-pub at-line : (call : Call) (name : List ℕ) (content : Content) (fault : ScriptFault) (answer : Result Content StoreFault)
-    → IsScriptWords call.words name → ReadsFile call.store call.store' name most_script answer → answer ≡ Ok content
-    → ScriptIs content.bytes (Err fault) → IsRefusalOf call.sink call.sink' fault call.shown → EndsRefused call
-at-line call name content fault answer command reads is script refusal =
+pub at-line : (call : Call) (name bytes : List ℕ) (fault : ScriptFault) (answer : Result (List ℕ) StoreFault) → IsScriptWords call.words name
+    → ReadsFile call.store call.store' name most_script answer → answer ≡ Ok bytes → ScriptIs bytes (Err fault)
+    → IsRefusalOf call.sink call.sink' fault call.shown → EndsRefused call
+at-line call name bytes fault answer command reads is script refusal =
     inr (record {
       name = name;
-      bytes = content.bytes;
+      bytes = bytes;
       line = refusal.line;
       why = refusal.why;
       command = command;
-      has = has_file most_script call call.store' name content answer reads refl is;
-      refused = subst (λ (f : ScriptFault). ScriptIs content.bytes (Err f)) refusal.fault_is script;
+      has = has_file most_script call call.store' name bytes answer reads refl is;
+      refused = subst (λ (f : ScriptFault). ScriptIs bytes (Err f)) refusal.fault_is script;
       shows = refusal.shows;
       text = refusal.text;
     })
 
 -- for its size
-pub refused-large : (call : Call) (name : List ℕ) (size : ℕ) (answer : Result Content StoreFault) → IsScriptWords call.words name
+pub refused-large : (call : Call) (name : List ℕ) (size : ℕ) (answer : Result (List ℕ) StoreFault) → IsScriptWords call.words name
     → ReadsFile call.store call.store' name most_script answer → answer ≡ Err (store.Large size)
     → RefusesRun call.sink call.sink' (Some 0) (script_refused 0 BadLine) call.shown → EndsRefused call
 refused-large call name size answer command reads is refused =

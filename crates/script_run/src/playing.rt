@@ -52,14 +52,14 @@ pub fn run_script<R: Wait, D: Store, G: Gate, K: Sink>(
         (K.seen out.old) (K.seen out.new) result.shown)
         result.status result.left }
 {
-    let content = match store.read(alloc, name, MOST_SCRIPT) {
-        Ok(content) => content,
+    let bytes = match store.read(alloc, name, MOST_SCRIPT) {
+        Ok(bytes) => bytes,
         Err(StoreFault::Missing) => return refuse_unread(alloc, name.as_bytes(), Some(0), out),
         Err(StoreFault::Failed) => return refuse_unread(alloc, name.as_bytes(), None, out),
         Err(StoreFault::Large(_)) => return refuse_script(alloc, ScriptRefusal::BadLine, 0, out),
         Err(StoreFault::Many | StoreFault::NoMemory) => return no_memory(),
     };
-    match read_script(alloc, content.bytes.as_slice()) {
+    match read_script(alloc, bytes.as_slice()) {
         Ok(script) => play_script(rt, alloc, script, gate, out),
         Err(fault) => refuse_for(alloc, fault, out),
     }

@@ -1,1 +1,2 @@
+pub mod TypeLaws
 pub mod TypeWords

@@ -6,9 +6,11 @@
 #![tactic(auto)]
 
 mod extension;
+mod laws;
 mod media_type;
 mod pairs;
 mod token;
 
+pub use laws::types_are_printable;
 pub use pairs::{add_pairs, are_type_words};
 pub use token::{charset_of_value, table_of_value};

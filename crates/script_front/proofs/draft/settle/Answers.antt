@@ -3,7 +3,7 @@ use Rattle.std.proofs.lemmas.Result.{on_ok_weaker}
 use Rattle.stand_ins.specs.Files.{with_file}
 use Rattle.stand_ins.specs.History.{SeenHistory}
 use Rattle.script_front.specs.Editions.{conf_name}
-use Rattle.script_front.proofs.DraftLemmas.{conf-set, conf-stays, conf_content}
+use Rattle.script_front.proofs.DraftLemmas.{conf-set, conf-stays}
 use Rattle.script_front.proofs.draft.settle.Goals as goal
 
 pub returns-then-not-changed-clause-ok : goal.returns-then-not-changed-clause-ok
@@ -15,5 +15,5 @@ pub returns-clause-ok : goal.returns-clause-ok
 returns-clause-ok c =
     let h = c.args.history.now in
     on_ok_weaker c.set.result (λ e.
-    let is : c.set.new.self ≡ record h { files = with_file conf_name (conf_content c.args.conf.now) h.files } = rw (← c.of.ensures) e in
+    let is : c.set.new.self ≡ record h { files = with_file conf_name c.args.conf.now h.files } = e in
     is ∙ ap (λ files. let history : SeenHistory = record h { files = files } in history) (conf-set h.files c.args.conf.now c.args.changed c.requires)) c.set.ensures.ok

@@ -11,14 +11,14 @@ pub returns-in-Ok-read_script : goal.returns-in-Ok-read_script
 returns-in-Ok-read_script g c words command =
     let played = c.play_script.ensures in
     plays _ c.in-Ok-read_script.script c.play_script.result.status c.play_script.result.left
-    (reads-script _ c.args.name.now c.in-Ok.content c.in-Ok-read_script.script c.read.result command c.read.ensures c.in-Ok.is
+    (reads-script _ c.args.name.now c.in-Ok.bytes c.in-Ok-read_script.script c.read.result command c.read.ensures c.in-Ok.is
     (subst (λ (bytes : List ℕ). ScriptIs bytes (Ok c.in-Ok-read_script.script)) c.as_slice.ensures c.in-Ok-read_script.ensures.answer))
     played.kept played.opened played.shown played.known played.misconfigured played.site_refused played.silent
 
 pub returns : goal.returns
 returns g c words command =
     refused-script _ c.refuse_for.result.status c.refuse_for.result.left c.refuse_for.ensures.scripted c.refuse_for.ensures.known
-    (λ eight. at-line _ c.args.name.now c.in-Ok.content c.in-Err.fault c.read.result command c.read.ensures c.in-Ok.is
+    (λ eight. at-line _ c.args.name.now c.in-Ok.bytes c.in-Err.fault c.read.result command c.read.ensures c.in-Ok.is
     (subst (λ (bytes : List ℕ). ScriptIs bytes (Err c.in-Err.fault)) c.as_slice.ensures c.in-Err.ensures.answer)
     (c.refuse_for.ensures.refused eight)) c.refuse_for.ensures.silent
 
