@@ -3,7 +3,7 @@ use Rattle.std.specs.Prelude.{◌≡◌, ℕ, List, ◌++◌, Option}
 use Rattle.mpm_base.specs.declared.note.Note.{Note}
 use Rattle.mpm_base.specs.declared.store.File.{File}
 use Rattle.file_table.specs.Site.{SeenSite}
-use Rattle.http_core.specs.Reply.{IsTimeLine, accepts_line, file_of, head_of, tag_line, told_second}
+use Rattle.http_core.specs.Reply.{IsTimeLine, file_lines, file_of, head_of, told_second}
 use Rattle.http_core.specs.declared.plan.Plan.{Plan}
 use Rattle.http_core.specs.declared.plan.Served.{Served}
 
@@ -17,7 +17,7 @@ pub record IsTimeAdded (told : Option ℕ) (old new : List ℕ) : Type 0 where
 pub record AreMarksAdded (site : SeenSite) (served : Served) (file : Option File) (now : ℕ) (old new : List ℕ) : Type 0 where
   pub changed : List ℕ
   pub is_changed : IsTimeLine (told_second site.marks now file) changed
-  pub added : new ≡ old ++ (tag_line site.marks file ++ changed ++ accepts_line site.marks served)
+  pub added : new ≡ old ++ file_lines site.marks file served changed
 
 -- the head of the response of this plan, note and date was added
 pub record IsHeadAdded (site : SeenSite) (plan : Plan) (note : Note) (date old new : List ℕ) : Type 0 where

@@ -7,7 +7,7 @@ ghost use Rattle.http_core.specs.Conditions as spec;
 ghost use Rattle.http_core.specs.ConditionsInside.{AreMarksOf};
 ghost use Rattle.http_core.specs.Served.{range_of_file, verdict_of};
 
-use file_table::{Site, second, tag};
+use file_table::{Site, entity_tag, last_change};
 use http_read::Request;
 use httpdate::HttpDate;
 
@@ -35,12 +35,12 @@ fn marks_of(site: &Site, file: u32) -> FileMarks<'_>
     ensures { AreMarksOf site.now.marks (slice_get site.now.files file) result }
 {
     let second = if site.marks().times {
-        Some(second(site, file))
+        Some(last_change(site, file))
     } else {
         None
     };
     FileMarks {
-        tag: tag(site, file),
+        tag: entity_tag(site, file),
         second,
     }
 }
@@ -177,7 +177,7 @@ pub fn range_on<'a>(site: &Site, request: &'a Request, file: u32) -> Option<&'a 
     ensures { option_map (λ range. range.now) result
         ≡ range_of_file site.now request.now (slice_get site.now.files file) }
 {
-    if request.ranged_if() && !is_exactly(tag(site, file), request.if_range()) {
+    if request.ranged_if() && !is_exactly(entity_tag(site, file), request.if_range()) {
         None
     } else {
         request.range()

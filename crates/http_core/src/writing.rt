@@ -11,7 +11,7 @@ ghost use Rattle.http_core.specs.ReplyInside.{AreMarksAdded, IsHeadAdded, IsTime
 use crate::code::Code;
 use crate::plan::{FilePart, Plan, Served};
 use crate::status_page::page_type;
-use file_table::{Site, content_type, second, tag};
+use file_table::{Site, content_type, entity_tag, last_change};
 use httpdate::HttpDate;
 use mpm_base::{NoMemory, Note, Octets};
 
@@ -179,7 +179,7 @@ fn add_tag(head: &mut Octets, site: &Site, file: Option<u32>) -> Result<(), NoMe
     let Some(file) = file else {
         return Ok(());
     };
-    match tag(site, file) {
+    match entity_tag(site, file) {
         Some(tag) => add_line(head, b"ETag: ", tag),
         None => Ok(()),
     }
@@ -198,7 +198,7 @@ fn add_time(head: &mut Octets, site: &Site, file: Option<u32>, now: u64) -> Resu
     if !site.marks().times {
         return Ok(());
     }
-    let date = date_at(second(site, file).min(now));
+    let date = date_at(last_change(site, file).min(now));
     add_line(head, b"Last-Modified: ", &date.to_bytes())
 }
 
