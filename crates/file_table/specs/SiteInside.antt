@@ -1,6 +1,6 @@
 -- What a site keeps.
 use Rattle.std.specs.Prelude.{◌≡◌, ℕ, ◌+◌, ◌<◌, ◌≤◌, ◌^◌, true, List, length, map, All}
-use Rattle.media_types.specs.PlacesInside.{place_of_name}
+use Rattle.media_types.specs.Places.{place_of_name}
 use Rattle.media_types.specs.declared.types.MediaTypes.{MediaTypes}
 use Rattle.mpm_base.specs.declared.store.File.{File}
 use Rattle.file_table.specs.declared.marks.Marks.{Marks}

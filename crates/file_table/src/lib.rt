@@ -4,7 +4,7 @@
 //! its cause (`specs/Site.antt`, `Load.antt`). `find` answers exactly what a path names for a host (`specs/Path.antt`,
 //! `Resource.antt`): it searches the names of the files that the host has by halves (`specs/Order.antt`), and takes memory only
 //! where the path is no plain one or names a folder without its slash. `count_before` is that search, of anything that has a
-//! name. `hosts`, `bytes`, `content_type`, `tag` (`specs/Tag.antt`) and `second` hand out what the site holds. Tags, and the places of
+//! name. `hosts`, `bytes`, `content_type`, `entity_tag` (`specs/Tag.antt`) and `last_change` hand out what the site holds. Tags, and the places of
 //! types in the table of `media_types`, are found once a file, and `load_again` takes the tags of an old site over. That each host has
 //! the files under its own root stands in `laws` (`specs/HostFiles.antt`).
 #![tactic(auto)]
@@ -31,5 +31,5 @@ pub use marks::Marks;
 pub use part::Part;
 pub use resource::find;
 pub use search::{Named, count_before};
-pub use site::{Host, Site, bytes, content_type, hosts, second, tag};
+pub use site::{Host, Site, bytes, content_type, entity_tag, hosts, last_change};
 pub use site_order::{HostOrder, HostOrders, SiteOrder};

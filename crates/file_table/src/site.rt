@@ -253,7 +253,7 @@ pub fn content_type(site: &Site, file: u32) -> &[u8]
 }
 
 /// The entity tag of a file of the site (RFC 9110, section 8.8.3), where files have tags. Takes no memory.
-pub fn tag(site: &Site, file: u32) -> Option<&[u8]>
+pub fn entity_tag(site: &Site, file: u32) -> Option<&[u8]>
     requires { file < length site.now.files }
     ensures { option_map (λ tag. tag.now) result ≡ (if site.now.marks.tags
         then option_map (λ f. tag_of f.bytes) (slice_get site.now.files file) else None) }
@@ -262,7 +262,7 @@ pub fn tag(site: &Site, file: u32) -> Option<&[u8]>
 }
 
 /// The second in which a file of the site was changed (RFC 9110, section 8.8.2). Takes no memory.
-pub fn second(site: &Site, file: u32) -> u64
+pub fn last_change(site: &Site, file: u32) -> u64
     requires { file < length site.now.files }
     ensures second { option_map (λ f. f.second) (slice_get site.now.files file) ≡ Some result }
     ensures bound { IsSecond result }

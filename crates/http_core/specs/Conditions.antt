@@ -77,13 +77,16 @@ is_unmodified m c f = by_words c.if_none_match (λ words. names_file m f words) 
 abbrev pub has_marks : Marks → Bool
 has_marks m = m.tags || m.times
 
--- what the conditions of a GET or HEAD say of the file, in the order of section 13.2.2; without marks they aren't looked at
-abbrev pub precondition : Marks → Conditions → File → Verdict
-precondition m c f =
-    if not (has_marks m) then verdict.Sends
-    else (if fails_match m c f then verdict.Fails
+-- what the conditions of a GET or HEAD say of the file by its marks, in the order of section 13.2.2
+abbrev pub verdict_by_marks : Marks → Conditions → File → Verdict
+verdict_by_marks m c f =
+    if fails_match m c f then verdict.Fails
     else (if is_unmodified m c f then verdict.Unmodified
-    else verdict.Sends))
+    else verdict.Sends)
+
+-- the same; where files have no marks it isn't looked at
+abbrev pub precondition : Marks → Conditions → File → Verdict
+precondition m c f = if has_marks m then verdict_by_marks m c f else verdict.Sends
 
 -- the value is exactly that tag
 abbrev pub is_exactly : List ℕ → Option (List ℕ) → Bool

@@ -109,6 +109,10 @@ sends_file (served.Moved path) = false
 abbrev pub accepts_line : Marks → Served → List ℕ
 accepts_line m served = if has_marks m && sends_file served then head_line_of (codes "Accept-Ranges: bytes") else []
 
+-- the lines that speak of the file, whose last change is told by that line
+abbrev pub file_lines : Marks → Option File → Served → List ℕ → List ℕ
+file_lines m file served changed = tag_line m file ++ changed ++ accepts_line m served
+
 -- the type of the file at the place
 abbrev pub type_of_file : SeenSite → Option File → List ℕ
 type_of_file site None = []
@@ -169,8 +173,8 @@ end_lines (served.Moved path) size = last_lines size
 abbrev pub head_of : SeenSite → Plan → Note → List ℕ → List ℕ → List ℕ
 head_of site plan note date changed =
     first_lines (code_of plan.served) date ++ connection_line note.last plan.minor ++ allow_line plan.served ++ location_line plan.served
-    ++ range_line plan.served ++ tag_line site.marks (file_of site plan.served) ++ changed ++ accepts_line site.marks plan.served
-    ++ type_line site plan.served ++ end_lines plan.served (body_length (body_of_get plan.served note.page))
+    ++ range_line plan.served ++ file_lines site.marks (file_of site plan.served) plan.served changed ++ type_line site plan.served
+    ++ end_lines plan.served (body_length (body_of_get plan.served note.page))
 
 -- the body of the response of this plan and note; a HEAD has none
 abbrev pub reply_body : Plan → Note → Body

@@ -5,7 +5,8 @@ use Rattle.std.specs.List.{find, position, position_or_len}
 use Rattle.std.proofs.lemmas.List.{length-map, reverse-append}
 use Rattle.media_types.specs.MediaType.{extension_of, is_pair_of, pair_of_extension, pairs_of, type_of_name, type_of_pair, with_charset}
 use Rattle.media_types.specs.PairLaws.{with_pair}
-use Rattle.media_types.specs.PlacesInside.{ArePairsOf, pair_sent, place_of_extension, place_of_name}
+use Rattle.media_types.specs.PairsInside.{ArePairsOf, pair_sent}
+use Rattle.media_types.specs.Places.{place_of_extension, place_of_name}
 use Rattle.media_types.specs.declared.types.MediaTypes.{MediaTypes}
 use Rattle.media_types.specs.declared.types.TypePair.{TypePair}
 

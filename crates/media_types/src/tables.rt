@@ -1,7 +1,7 @@
 //! The tables of extensions and their types.
 ghost use Rattle.std.specs.Prelude.{◌≡◌, [], ◌∷◌, ◌++◌, map, IfOk, OnOk};
 ghost use Rattle.media_types.specs.MediaType.{pair, table_of, takes_charset, with_charset};
-ghost use Rattle.media_types.specs.PlacesInside.{pair_sent};
+ghost use Rattle.media_types.specs.PairsInside.{pair_sent};
 ghost use Rattle.media_types.specs.TablesInside.{pair_of};
 
 use crate::types::TypePair;

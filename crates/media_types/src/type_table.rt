@@ -2,7 +2,8 @@
 ghost use Rattle.std.specs.Prelude.{◌≡◌, ◌==◌, ◌++◌, ℕ, List, length, map, reverse, position, Some, IfOk, OnOk, option_map};
 ghost use Rattle.std.specs.List.{position_or_len};
 ghost use Rattle.media_types.specs.MediaType.{extension_of, is_pair_of, type_of_name};
-ghost use Rattle.media_types.specs.PlacesInside.{ArePairsOf, pair_sent, place_of_name};
+ghost use Rattle.media_types.specs.PairsInside.{ArePairsOf, pair_sent};
+ghost use Rattle.media_types.specs.Places.{place_of_name};
 
 use crate::tables::{add_pair, add_table};
 use crate::types::{MediaTypes, TypePair};
@@ -20,7 +21,7 @@ pub struct TypeTable {
 
 impl Model for TypeTable {
     ghost use Rattle.media_types.specs.declared.types.MediaTypes.{MediaTypes};
-    ghost use Rattle.media_types.specs.PlacesInside.{ArePairsOf};
+    ghost use Rattle.media_types.specs.PairsInside.{ArePairsOf};
 
     ghost Value = { MediaTypes };
 

@@ -102,6 +102,22 @@ pub record ReadsFile (old new : StoreSeen) (name : List ℕ) (most : ℕ) (answe
   pub counted : CountsAsk old.counts new.counts answer
   pub may : MayRead (option_map (λ t. content_of name t.files) old.told) most answer
 
+-- what a read of the bytes alone may answer, where the file is known and whether it is
+abbrev pub MayReadBytes : Option (Option (List ℕ)) → ℕ → Result (List ℕ) StoreFault → Type 0
+MayReadBytes known most (Ok bytes) = (length bytes ≤ most) × IfSome known (λ file. file ≡ Some bytes)
+MayReadBytes known most (Err fault.Missing) = IfSome known (λ file. file ≡ None)
+MayReadBytes known most (Err (fault.Large size)) =
+    (most < size) × IfSome known (λ file. (bytes : List ℕ) × (file ≡ Some bytes) × (length bytes ≡ size))
+MayReadBytes known most (Err fault.Many) = ⊥
+MayReadBytes known most (Err fault.Failed) = ⊤
+MayReadBytes known most (Err fault.NoMemory) = ⊤
+
+-- what a read of at most so many bytes of the file of that name answered, of the bytes alone, and left of the store
+pub record ReadsBytes (old new : StoreSeen) (name : List ℕ) (most : ℕ) (answer : Result (List ℕ) StoreFault) : Type 0 where
+  pub told_stays : new.told ≡ old.told
+  pub counted : CountsAsk old.counts new.counts answer
+  pub may : MayReadBytes (option_map (λ t. bytes_of name t.files) old.told) most answer
+
 -- what a listing may answer, where the names are known and whether they are
 abbrev pub MayList : Option (List (List ℕ)) → ℕ → Result (List (List ℕ)) StoreFault → Type 0
 MayList known most (Ok names) = (length names ≤ most) × All IsUtf8 names × IfSome known (λ all. names ≡ all)

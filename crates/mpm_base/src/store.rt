@@ -49,7 +49,7 @@ pub enum StoreFault {
 
 /// A folder of files by name. Where it tells its files, they change at a call of `renew` alone.
 pub trait Store {
-    ghost use Rattle.mpm_base.specs.Store.{StoreSeen, Renews, ListsNames, ReadsFile};
+    ghost use Rattle.mpm_base.specs.Store.{StoreSeen, Renews, ListsNames, ReadsBytes, ReadsFile};
 
     /// The files, where the object tells them; and its counts of faults, and of refusals for what the files are, none of which
     /// ever falls.
@@ -66,4 +66,24 @@ pub trait Store {
     /// What a file has, of at most so many bytes. Answers Missing, Large, Failed or NoMemory where it gives none.
     fn read(&mut self, alloc: Global, name: &str, most: u64) -> Result<Content, StoreFault>
         ensures { ReadsFile (seen self.old) (seen self.new) name.now most result };
+
+    /// The bytes of a file alone, at most so many. Answers as `read` does where it gives none.
+    final fn read_bytes(
+        &mut self,
+        alloc: Global,
+        name: &str,
+        most: u64,
+    ) -> Result<Octets, StoreFault>
+    where
+        Self: Sized,
+        ensures { ReadsBytes (seen self.old) (seen self.new) name.now most result }
+    {
+        match self.read(alloc, name, most) {
+            Ok(content) => {
+                let Content { bytes, second: _ } = content;
+                Ok(bytes)
+            }
+            Err(fault) => Err(fault),
+        }
+    }
 }

@@ -55,22 +55,26 @@ files_after moment files site.Clear = files
 files_after moment files (site.File name bytes) = if is_conf_name name then files else with_file name (set_at moment bytes) files
 files_after moment files (site.Unfile name) = if is_conf_name name then files else without_file name files
 
--- the same behind the lines, which begin at that moment
-abbrev pub files_from : ℕ → List File → List ScriptLine → List File
-files_from moment files [] = files
-files_from moment files (line.At later ∷ lines) = files_from later files lines
-files_from moment files (line.Conn name ∷ lines) = files_from moment files lines
-files_from moment files (line.Client name act ∷ lines) = files_from moment files lines
-files_from moment files (line.Command word ∷ lines) = files_from moment files lines
-files_from moment files (line.Site site ∷ lines) = files_from moment (files_after moment files site) lines
+-- the moment that lines came to, and the files other than that of the configuration
+pub record Filed : Type 0 where
+  pub moment : ℕ
+  pub files : List File
+
+-- the same once a line happened
+abbrev pub after_line : Filed → ScriptLine → Filed
+after_line f (line.At moment) = record f { moment = moment }
+after_line f (line.Conn name) = f
+after_line f (line.Client name act) = f
+after_line f (line.Command word) = f
+after_line f (line.Site site) = record f { files = files_after f.moment f.files site }
 
 -- the configuration that the lines leave, which is empty at first
 abbrev pub conf_of : List ScriptLine → List ℕ
 conf_of lines = fold conf_after [] (site_lines lines)
 
--- the other files that they leave, of which there is none at first; lines before the first `at` happen at the moment 0
-abbrev pub files_of : List ScriptLine → List File
-files_of lines = files_from 0 [] lines
+-- what they leave of the other files, of which there is none at first; lines before the first `at` happen at the moment 0
+abbrev pub filed_by : List ScriptLine → Filed
+filed_by lines = fold after_line (record { moment = 0; files = [] }) lines
 
 -- the configuration's file with these bytes; when it was changed isn't told
 abbrev pub conf_file : List ℕ → File
@@ -80,7 +84,7 @@ conf_file bytes = record { name = conf_name; bytes = bytes; second = 0 }
 
 -- all files that the lines leave: that of the configuration, which is always there, and the others
 abbrev pub edition_of : List ScriptLine → List File
-edition_of lines = conf_file (conf_of lines) ∷ files_of lines
+edition_of lines = conf_file (conf_of lines) ∷ (filed_by lines).files
 
 -- the line is one of the site
 abbrev pub is_site : ScriptLine → Bool

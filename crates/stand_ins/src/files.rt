@@ -39,9 +39,18 @@ impl Files {
         }
     }
 
-    /// Gives the file of that name these bytes, changed in that second, in its place, or puts it at the end where there is none.
+    /// Gives the file of that name these bytes, changed in the second 0, in its place, or puts it at the end where there is none.
     /// Where memory lacks nothing changes.
-    pub fn set(&mut self, name: &str, bytes: &[u8], second: Second) -> Result<(), NoMemory>
+    pub fn set(&mut self, name: &str, bytes: &[u8]) -> Result<(), NoMemory>
+        ensures ok { OnOk result (self.new
+            ≡ with_file name.now (record { bytes = bytes.now; second = 0 }) self.old) }
+        ensures err { OnErr result (self.new ≡ self.old) }
+    {
+        self.set_at(name, bytes, Second::of(0))
+    }
+
+    /// The same, changed in that second.
+    pub fn set_at(&mut self, name: &str, bytes: &[u8], second: Second) -> Result<(), NoMemory>
         ensures ok { OnOk result (self.new
             ≡ with_file name.now (record { bytes = bytes.now; second = second }) self.old) }
         ensures err { OnErr result (self.new ≡ self.old) }

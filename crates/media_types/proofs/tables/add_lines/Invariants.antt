@@ -1,6 +1,6 @@
 -- The lines so far stand behind the pairs that were there.
 use Rattle.std.proofs.Common.{◌≡◌, ◌++◌, map, take}
-use Rattle.media_types.specs.PlacesInside.{pair_sent}
+use Rattle.media_types.specs.PairsInside.{pair_sent}
 use Rattle.media_types.specs.TablesInside.{pair_of}
 use Rattle.media_types.proofs.tables.add_lines.Given as goal
 

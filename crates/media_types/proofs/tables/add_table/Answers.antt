@@ -1,7 +1,7 @@
 use Rattle.std.proofs.Common.{◌≡◌, ◌++◌, map, sym, ap, ◌∙◌}
 use Rattle.std.proofs.lemmas.List.{append_assoc, map-append}
 use Rattle.media_types.specs.MediaType.{further_table, short_table, table_of}
-use Rattle.media_types.specs.PlacesInside.{pair_sent}
+use Rattle.media_types.specs.PairsInside.{pair_sent}
 use Rattle.media_types.proofs.tables.add_table.Goals as goal
 
 pub returns-in_ok-add_lines-2 : goal.returns-in_ok-add_lines-2

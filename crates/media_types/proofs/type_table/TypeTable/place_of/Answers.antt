@@ -2,7 +2,8 @@ use Rattle.std.proofs.Common.{◌≡◌, length, map, Some, sym, ap, ◌∙◌, 
 use Rattle.std.specs.List.{position_or_len}
 use Rattle.std.proofs.lemmas.List.{length-map}
 use Rattle.media_types.specs.MediaType.{extension_of, is_pair_of, pairs_of}
-use Rattle.media_types.specs.PlacesInside.{pair_sent, place_of_extension, place_of_name}
+use Rattle.media_types.specs.PairsInside.{pair_sent}
+use Rattle.media_types.specs.Places.{place_of_extension, place_of_name}
 use Rattle.media_types.proofs.PairLemmas.{sent_place}
 use Rattle.media_types.proofs.type_table.TypeTable.place_of.Goals as goal
 

@@ -1,6 +1,6 @@
 use Rattle.std.proofs.Common.{◌≡◌, ◌<◌, ◌≤◌, length, sym, ap, ◌∙◌, arith}
 use Rattle.media_types.specs.MediaType.{type_of_name}
-use Rattle.media_types.specs.PlacesInside.{place_of_name}
+use Rattle.media_types.specs.Places.{place_of_name}
 use Rattle.media_types.specs.declared.types.TypePair.{TypePair}
 use Rattle.media_types.proofs.PairLemmas.{type_missing, type_there}
 use Rattle.media_types.proofs.type_table.TypeTable.type_at.Goals as goal

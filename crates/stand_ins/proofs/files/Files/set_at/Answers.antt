@@ -4,7 +4,7 @@ use Rattle.mpm_base.specs.Store.{content_of}
 use Rattle.stand_ins.specs.Files.{with_file}
 use Rattle.stand_ins.specs.FilesInside.{SeenEntry}
 use Rattle.stand_ins.proofs.LookupLemmas.{content_of_set, content_of_other}
-use Rattle.stand_ins.proofs.files.Files.set.Goals as goal
+use Rattle.stand_ins.proofs.files.Files.set_at.Goals as goal
 
 pub returns-clause-found : goal.returns-clause-found
 returns-clause-found c =
