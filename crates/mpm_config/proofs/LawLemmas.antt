@@ -57,6 +57,7 @@ replaced s v w (sets.MimeTable b) (sets.MimeTable c) h = refl
 replaced s v w (sets.AddDefaultCharset b) (sets.AddDefaultCharset c) h = refl
 replaced s v w (sets.ServerStatus b) (sets.ServerStatus c) h = refl
 replaced s v w sets.ServerName sets.ServerName h = refl
+replaced s v w sets.TransferLog sets.TransferLog h = refl
 replaced s v w a b h = absurd h
 
 -- the same in the section of a host; what may not stand there is refused the first time
@@ -73,6 +74,7 @@ replaced_in_host h v w (sets.MimeTable b) (sets.MimeTable c) same = tt
 replaced_in_host h v w (sets.AddDefaultCharset b) (sets.AddDefaultCharset c) same = tt
 replaced_in_host h v w (sets.ServerStatus b) (sets.ServerStatus c) same = tt
 replaced_in_host h v w sets.ServerName sets.ServerName same = refl
+replaced_in_host h v w sets.TransferLog sets.TransferLog same = tt
 replaced_in_host h v w a b same = absurd same
 
 -- what holds of both outcomes of a test holds of its outcome

@@ -24,8 +24,8 @@ pub record AreHostConfs (hosts : List HostConf) : Type 0 where
 
 -- the numbers as they were written and after the corrections, the address to listen at, the port of the
 -- control line, the folder of the files, the name of a folder's own file, whether files have tags, whether the
--- times at which they were changed count, by what they get their types, whether the status page is served, and
--- the hosts
+-- times at which they were changed count, by what they get their types, whether the status page is served, the
+-- name of the log, where there is one, and the hosts
 pub record Configuration : Type 0 where
   pub written : Numbers
   pub current : Numbers
@@ -37,6 +37,7 @@ pub record Configuration : Type 0 where
   pub times : Bool
   pub types : MediaTypes
   pub status : Bool
+  pub log : Option (List ℕ)
   pub hosts : List HostConf
 
 -- what every configuration keeps

@@ -2,7 +2,7 @@
 use Rattle.std.specs.Prelude.{ℕ, List, [], ◌∷◌, Option, find, codes, option_map}
 use Rattle.mpm_base.specs.LetterCase.{is_same_ignoring_case}
 use Rattle.mpm_config.specs.declared.directive.Directive.{Directive}
-use Rattle.mpm_config.specs.declared.directive.Directive.TheVariants.{Number, KeepAlive, Listen, ControlListen, DocumentRoot, DirectoryIndex, FileETag, LastModified, AddType, MimeTable, AddDefaultCharset, ServerStatus, ServerName, ServerAlias}
+use Rattle.mpm_config.specs.declared.directive.Directive.TheVariants.{Number, KeepAlive, Listen, ControlListen, DocumentRoot, DirectoryIndex, FileETag, LastModified, AddType, MimeTable, AddDefaultCharset, ServerStatus, ServerName, ServerAlias, TransferLog}
 use Rattle.mpm_config.specs.declared.directive.Quantity.{Quantity}
 use Rattle.mpm_config.specs.declared.directive.Quantity.TheVariants as number
 
@@ -69,7 +69,8 @@ names =
     record { text = codes "AddDefaultCharset"; directive = AddDefaultCharset } ∷
     record { text = codes "ServerStatus"; directive = ServerStatus } ∷
     record { text = codes "ServerName"; directive = ServerName } ∷
-    record { text = codes "ServerAlias"; directive = ServerAlias } ∷ []
+    record { text = codes "ServerAlias"; directive = ServerAlias } ∷
+    record { text = codes "TransferLog"; directive = TransferLog } ∷ []
 
 -- the directive of the first of the names that the word is
 abbrev pub directive_among : List Name → List ℕ → Option Directive

@@ -193,6 +193,7 @@ configuration_of s = record {
     times = s.times;
     types = s.types;
     status = s.status;
+    log = s.log;
     hosts = confs_by s.name s.root s.index s.hosts;
   };
   warnings = notices s.numbers;

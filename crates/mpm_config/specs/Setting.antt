@@ -1,7 +1,7 @@
 -- What the line of a directive sets.
 use Rattle.std.specs.Prelude.{ℕ, List, [], ◌∷◌, Option, Some, None, option_map, if◌then◌else◌, Result, Ok, Err}
 use Rattle.mpm_config.specs.declared.directive.Directive.{Directive}
-use Rattle.mpm_config.specs.declared.directive.Directive.TheVariants.{Number, KeepAlive, Listen, ControlListen, DocumentRoot, DirectoryIndex, FileETag, LastModified, AddType, MimeTable, AddDefaultCharset, ServerStatus, ServerName, ServerAlias}
+use Rattle.mpm_config.specs.declared.directive.Directive.TheVariants.{Number, KeepAlive, Listen, ControlListen, DocumentRoot, DirectoryIndex, FileETag, LastModified, AddType, MimeTable, AddDefaultCharset, ServerStatus, ServerName, ServerAlias, TransferLog}
 use Rattle.mpm_config.specs.declared.setting.Setting.{Setting}
 use Rattle.mpm_config.specs.declared.setting.Setting.TheVariants as sets
 use Rattle.mpm_config.specs.declared.setting.Wrong.{Wrong}
@@ -9,7 +9,7 @@ use Rattle.mpm_config.specs.declared.setting.Wrong.TheVariants.{Name, Value}
 use Rattle.mpm_config.specs.Directive.{directive_of}
 use Rattle.mpm_config.specs.HostName.{are_aliases, is_server_name}
 use Rattle.mpm_config.specs.Range.{port_range}
-use Rattle.mpm_config.specs.Value.{number, number_of, switch, tags_of_value, address, is_folder, is_file}
+use Rattle.mpm_config.specs.Value.{number, number_of, switch, tags_of_value, address, is_folder, is_file, is_log}
 use Rattle.type_words.specs.TypeWords.{are_type_words, charset_of_value, table_of_value}
 use Rattle.conf_text.specs.Words.{Word, Closed, words}
 
@@ -28,6 +28,7 @@ setting_of MimeTable v = option_map (λ b. sets.MimeTable b) (table_of_value v)
 setting_of AddDefaultCharset v = option_map (λ b. sets.AddDefaultCharset b) (charset_of_value v)
 setting_of ServerStatus v = option_map (λ b. sets.ServerStatus b) (switch v)
 setting_of ServerName v = if is_server_name v then Some sets.ServerName else None
+setting_of TransferLog v = if is_log v then Some sets.TransferLog else None
 setting_of ServerAlias v = None
 
 -- what the line of a directive does: it sets what the value spells, adds the words to the names of a host, or adds the pairs that they

@@ -6,7 +6,7 @@ use Rattle.media_types.specs.declared.types.TypePair.{TypePair}
 use Rattle.mpm_base.specs.declared.addr.Addr.{Addr}
 use Rattle.mpm_config.specs.declared.numbers.Numbers.{Numbers}
 use Rattle.mpm_config.specs.declared.setting.Setting.{Setting}
-use Rattle.mpm_config.specs.declared.setting.Setting.TheVariants.{Number, KeepAlive, Listen, ControlListen, DocumentRoot, DirectoryIndex, FileETag, LastModified, MimeTable, AddDefaultCharset, ServerStatus, ServerName}
+use Rattle.mpm_config.specs.declared.setting.Setting.TheVariants.{Number, KeepAlive, Listen, ControlListen, DocumentRoot, DirectoryIndex, FileETag, LastModified, MimeTable, AddDefaultCharset, ServerStatus, ServerName, TransferLog}
 use Rattle.mpm_config.specs.HostName.{server_name}
 use Rattle.mpm_config.specs.Numbers.{initial_numbers, with_number}
 
@@ -36,10 +36,11 @@ with_host_setting h v (LastModified b) = None
 with_host_setting h v (MimeTable b) = None
 with_host_setting h v (AddDefaultCharset b) = None
 with_host_setting h v (ServerStatus b) = None
+with_host_setting h v TransferLog = None
 
 -- the numbers, the address to listen at, the port of the control line, the folder of the files, a folder's own file, whether files have
 -- tags, whether the times at which they were changed count, by what they get their types, whether the status page is served, the name of
--- the server, where it has one, and the hosts whose sections were closed
+-- the server, where it has one, that of the log, where there is one, and the hosts whose sections were closed
 pub record Settings : Type 0 where
   pub numbers : Numbers
   pub listen : Addr
@@ -51,6 +52,7 @@ pub record Settings : Type 0 where
   pub types : MediaTypes
   pub status : Bool
   pub name : List (List ℕ)
+  pub log : Option (List ℕ)
   pub hosts : List HostSettings
 
 -- the settings of the empty text
@@ -66,6 +68,7 @@ initial_settings = record {
   types = default_types;
   status = true;
   name = [];
+  log = None;
   hosts = [];
 }
 
@@ -87,6 +90,7 @@ with_setting s v (MimeTable b) = record s { types = record s.types { long = b } 
 with_setting s v (AddDefaultCharset b) = record s { types = record s.types { charset = charset_named b v } }
 with_setting s v (ServerStatus b) = record s { status = b }
 with_setting s v ServerName = record s { name = server_name v ∷ [] }
+with_setting s v TransferLog = record s { log = Some v }
 
 -- the settings with these pairs behind those of the types
 abbrev pub with_pairs : Settings → List TypePair → Settings
@@ -106,4 +110,5 @@ IsSameDirective (MimeTable b) (MimeTable c) = Unit {0}
 IsSameDirective (AddDefaultCharset b) (AddDefaultCharset c) = Unit {0}
 IsSameDirective (ServerStatus b) (ServerStatus c) = Unit {0}
 IsSameDirective ServerName ServerName = Unit {0}
+IsSameDirective TransferLog TransferLog = Unit {0}
 IsSameDirective s t = ⊥

@@ -79,3 +79,7 @@ is_folder v = is_short v && not (slice_index v 0 == 47) && not (slice_index v (l
 -- the name of a file: no slash
 abbrev pub is_file : List ℕ → Bool
 is_file v = is_short v && not (list_any (λ b. b == 47) v)
+
+-- the name of a log: no bar (124), behind which Apache has a program, stands in front
+abbrev pub is_log : List ℕ → Bool
+is_log v = is_short v && not (slice_index v 0 == 124)

@@ -32,11 +32,15 @@ pub struct Config {
     pub types: MediaTypes,
     /// ServerStatus: whether the status page is served.
     pub status: bool,
+    /// TransferLog: the name of the log, where there is one.
+    pub log: Option<String>,
     /// The hosts: those of the sections, or else the one outside of such sections; 1 to 64.
     pub hosts: HostConfs,
 }
 
 impl Model for Config {
+    ghost use Rattle.std.specs.Prelude.{option_map};
+    ghost use Rattle.std.specs.String.{string_bytes};
     ghost use Rattle.mpm_config.specs.Config.{Configuration, IsConfiguration};
 
     ghost Value = { Configuration };
@@ -52,6 +56,7 @@ impl Model for Config {
       times = c.times;
       types = c.types;
       status = c.status;
+      log = option_map string_bytes c.log;
       hosts = c.hosts;
     } };
 

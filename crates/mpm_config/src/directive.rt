@@ -45,6 +45,7 @@ pub enum Directive {
     ServerStatus,
     ServerName,
     ServerAlias,
+    TransferLog,
 }
 
 /// A name, and the directive that it stands for.
@@ -55,7 +56,7 @@ pub struct Spelling {
 }
 
 /// Every name of the language, the first spelling of a directive before the others.
-pub const SPELLINGS: [Spelling; 32] = [
+pub const SPELLINGS: [Spelling; 33] = [
     Spelling {
         name: "ServerLimit",
         directive: Directive::Number(Quantity::ServerLimit),
@@ -183,6 +184,10 @@ pub const SPELLINGS: [Spelling; 32] = [
     Spelling {
         name: "ServerAlias",
         directive: Directive::ServerAlias,
+    },
+    Spelling {
+        name: "TransferLog",
+        directive: Directive::TransferLog,
     },
 ];
 

@@ -35,10 +35,13 @@ pub struct Draft {
     types: MediaTypes,
     status: bool,
     name: Names,
+    log: Option<String>,
     hosts: Vec<HostDraft>,
 }
 
 impl Model for Draft {
+    ghost use Rattle.std.specs.Prelude.{option_map};
+    ghost use Rattle.std.specs.String.{string_bytes};
     ghost use Rattle.mpm_config.specs.Settings.{Settings};
     ghost use Rattle.mpm_config.specs.SettingsInside.{AreKept};
 
@@ -55,6 +58,7 @@ impl Model for Draft {
       types = d.types;
       status = d.status;
       name = d.name;
+      log = option_map string_bytes d.log;
       hosts = d.hosts.items;
     } };
 
@@ -80,6 +84,7 @@ impl Draft {
             types: MediaTypes::usual(alloc),
             status: true,
             name: Names::make(alloc),
+            log: None,
             hosts: Vec::new(alloc),
         })
     }
@@ -108,6 +113,7 @@ impl Draft {
                 name.push(Octets::of(alloc, server_name(value.as_bytes()))?)?;
                 self.name = name;
             }
+            Setting::TransferLog => self.log = Some(String::from_str(alloc, value)?),
         }
         Ok(())
     }
@@ -160,6 +166,7 @@ impl Draft {
             types,
             status,
             name,
+            log,
             hosts,
         } = self;
         let hosts = confs_of(
@@ -181,6 +188,7 @@ impl Draft {
             times,
             types,
             status,
+            log,
             hosts,
         };
         Ok((config, warnings))

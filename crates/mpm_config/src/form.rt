@@ -1,8 +1,8 @@
 //! What kind of line a line is: nothing, a section's opening or closing, or a directive.
 ghost use Rattle.std.specs.Prelude.{◌≡◌, ◌==◌, ◌&&◌, ◌+◌, ◌<◌, drop, length, option_map, slice_index};
 ghost use Rattle.std.specs.List.{list_all};
-ghost use Rattle.mpm_config.specs.Form.{before_end, closing_of, form_of, guard, guard_of, is_any_address, is_present, kind_of, of_inside, of_section, opening_of, section_closing, section_opening, takes_hosts};
 ghost use Rattle.conf_text.specs.Words.{is_blank, words};
+ghost use Rattle.mpm_config.specs.Form.{before_end, closing_of, form_of, guard, guard_of, is_any_address, is_present, kind_of, of_inside, of_section, opening_of, takes_hosts};
 
 use crate::value::port;
 use conf_text::{First, around, at_blank, first_word, is_blank, past_first, skip_blanks};
@@ -103,33 +103,14 @@ fn kind_of(word: &[u8]) -> Option<Kind>
     }
 }
 
-/// The opening of a section of the kind, by what follows that.
-fn opening(line: &str, kind: Kind) -> Form
-    ensures { result ≡ section_opening (words line.now) kind }
-{
-    match kind {
-        Kind::Module => Form::Opening(guard(line)),
-        Kind::Host => Form::OpeningHost(takes_hosts(line)),
-    }
-}
-
-/// The closing of a section of the kind, by what follows that.
-fn closing(line: &str, kind: Kind) -> Form
-    ensures { result ≡ section_closing (words line.now) kind }
-{
-    match first_word(line) {
-        First::End => Form::Closing(kind),
-        _ => Form::ClosingWithWord,
-    }
-}
-
 /// The form of an opening.
 fn opening_of(text: &str) -> Form
     ensures { result ≡ opening_of text.now }
 {
     let (word, after) = at_blank(text);
     match kind_of(word.as_bytes()) {
-        Some(kind) => opening(after, kind),
+        Some(Kind::Module) => Form::Opening(guard(after)),
+        Some(Kind::Host) => Form::OpeningHost(takes_hosts(after)),
         None => Form::OtherSection,
     }
 }
@@ -139,9 +120,12 @@ fn closing_of(text: &str) -> Form
     ensures { result ≡ closing_of text.now }
 {
     let (word, after) = at_blank(text);
-    match kind_of(word.as_bytes()) {
-        Some(kind) => closing(after, kind),
-        None => Form::OtherSection,
+    let Some(kind) = kind_of(word.as_bytes()) else {
+        return Form::OtherSection;
+    };
+    match first_word(after) {
+        First::End => Form::Closing(kind),
+        _ => Form::ClosingWithWord,
     }
 }
 

@@ -6,7 +6,7 @@ ghost use Rattle.conf_text.specs.Words.{words};
 
 use crate::directive::{Directive, Quantity, named};
 use crate::host_name::{are_aliases, is_server_name};
-use crate::value::{address, is_file, is_folder, port, switch, tags_of_value};
+use crate::value::{address, is_file, is_folder, is_log, port, switch, tags_of_value};
 use conf_text::{First, first_word};
 use mpm_base::Addr;
 use type_words::{are_type_words, charset_of_value, table_of_value};
@@ -27,6 +27,7 @@ pub enum Setting {
     AddDefaultCharset(bool),
     ServerStatus(bool),
     ServerName,
+    TransferLog,
 }
 
 /// What the line of a directive does.
@@ -60,20 +61,8 @@ impl Directive {
             Directive::KeepAlive => Some(Setting::KeepAlive(switch(value)?)),
             Directive::Listen => Some(Setting::Listen(address(value)?)),
             Directive::ControlListen => Some(Setting::ControlListen(port(value)?)),
-            Directive::DocumentRoot => {
-                if is_folder(value) {
-                    Some(Setting::DocumentRoot)
-                } else {
-                    None
-                }
-            }
-            Directive::DirectoryIndex => {
-                if is_file(value) {
-                    Some(Setting::DirectoryIndex)
-                } else {
-                    None
-                }
-            }
+            Directive::DocumentRoot => is_folder(value).then_some(Setting::DocumentRoot),
+            Directive::DirectoryIndex => is_file(value).then_some(Setting::DirectoryIndex),
             Directive::FileETag => Some(Setting::FileETag(tags_of_value(value)?)),
             Directive::LastModified => Some(Setting::LastModified(switch(value)?)),
             Directive::MimeTable => Some(Setting::MimeTable(table_of_value(value)?)),
@@ -81,13 +70,8 @@ impl Directive {
                 Some(Setting::AddDefaultCharset(charset_of_value(value)?))
             }
             Directive::ServerStatus => Some(Setting::ServerStatus(switch(value)?)),
-            Directive::ServerName => {
-                if is_server_name(value) {
-                    Some(Setting::ServerName)
-                } else {
-                    None
-                }
-            }
+            Directive::ServerName => is_server_name(value).then_some(Setting::ServerName),
+            Directive::TransferLog => is_log(value).then_some(Setting::TransferLog),
             Directive::ServerAlias | Directive::AddType => None,
         }
     }

@@ -1,10 +1,9 @@
 //! What the value of a directive spells: numbers, switches, addresses and names.
 ghost use Rattle.std.specs.Prelude.{◌≡◌, ◌==◌, ◌<◌, ◌≤◌, ◌^◌, IfSome};
-ghost use Rattle.std.specs.List.{list_any};
 ghost use Rattle.mpm_base.specs.Digits.{number_in_digits};
 ghost use Rattle.mpm_config.specs.Range.{millisecond_range, octet_range, port_range, number_in, IsAllowed, IsNumberIn};
 ghost use Rattle.mpm_config.specs.RangeInside.{IsWellFormed};
-ghost use Rattle.mpm_config.specs.Value.{address, decimals, hundredths, is_file, is_folder, is_short, milliseconds, number, number_of, octets, switch, tags_of_value};
+ghost use Rattle.mpm_config.specs.Value.{address, decimals, hundredths, is_file, is_folder, is_log, is_short, milliseconds, number, number_of, octets, switch, tags_of_value};
 
 use crate::directive::Quantity;
 use crate::range::{
@@ -170,18 +169,18 @@ pub fn is_folder(value: &[u8]) -> bool
     is_short(value) && value[0] != b'/' && value[value.len() - 1] != b'/'
 }
 
-/// Whether there is a `/`.
-fn has_slash(value: &[u8]) -> bool
-    ensures { result ≡ list_any (λ b. b == 47) value.now }
-{
-    value.iter().any(|b| *b == b'/')
-}
-
 /// Whether this may name a folder's own file: 1 to 255 bytes without a `/`.
 pub fn is_file(value: &[u8]) -> bool
     ensures { result ≡ is_file value.now }
 {
-    is_short(value) && !has_slash(value)
+    is_short(value) && !value.contains(&b'/')
+}
+
+/// Whether this may name a log: 1 to 255 bytes that don't begin with a `|`, which would be the name of a program.
+pub fn is_log(value: &[u8]) -> bool
+    ensures { result ≡ is_log value.now }
+{
+    is_short(value) && value[0] != b'|'
 }
 
 impl Quantity {

@@ -9,6 +9,8 @@
 //!   its third and fourth one the reads and the writes that fail, its fifth one whether a line drops it. The others are calls of it,
 //!   or of the wire that paces it.
 //! - `sink`: an output. Its first row has the writes that fail, the others are pieces that are written. `slow` takes single bytes.
+//! - `log`: a log. Its first row has the calls that fail, the others are calls: `begin NAME`, and `write PIECE`. `slow-log` takes single
+//!   bytes.
 //! - `files`: files are set and unset. `store`: the same up to a row `--`, then a row with the calls that fail, and calls of the store.
 //!   Where there is no such row the rows are scripts, of each of which is shown what its store has in `httpd.conf` and below `htdocs`
 //!   at first, and behind each of three renewals.
@@ -64,6 +66,8 @@ fn show_section<R: Print + Wait>(rt: &R, alloc: Global, section: Section<'_>) ->
         "plain" | "listed" | "paced" => links::show_link(rt, alloc, word, rows),
         "sink" => sinks::show_sink(rt, alloc, false, rows),
         "slow" => sinks::show_sink(rt, alloc, true, rows),
+        "log" => sinks::show_log(rt, alloc, false, rows),
+        "slow-log" => sinks::show_log(rt, alloc, true, rows),
         "files" => stores::show_files(rt, alloc, rows),
         "store" => match rows.split_once("--\n") {
             Some((files, calls)) => stores::show_store(rt, alloc, files, calls),

@@ -66,6 +66,9 @@ fn show_values(sheet: &mut Sheet, config: &Config) {
     print!(sheet; "{:?} {:?}", config.listen, config.control);
     sheet.bytes("", config.root.as_slice());
     sheet.bytes("", config.index.as_slice());
+    if let Some(log) = &config.log {
+        sheet.bytes(" log", log.as_bytes());
+    }
     sheet.println(if config.status {
         ""
     } else {

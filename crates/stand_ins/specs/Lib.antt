@@ -3,6 +3,7 @@ pub mod Files
 pub mod FilesInside
 pub mod History
 pub mod HistoryInside
+pub mod MemLog
 pub mod MemSink
 pub mod MemStore
 pub mod PlainLink

@@ -1,5 +1,6 @@
 //! A sink in memory, and one that keeps nothing.
 ghost use Rattle.std.specs.Prelude.{◌≡◌, true, false, Some, None, length};
+ghost use Rattle.mpm_base.specs.Count.{Rises, next_count};
 ghost use Rattle.mpm_base.specs.Sink.{Puts, telling_sink, silent_sink};
 ghost use Rattle.stand_ins.specs.Calls.{next_is_listed};
 ghost use Rattle.stand_ins.specs.MemSink.{new_sink, taken_at_once, PutsUnless, sink_after_write};
@@ -70,6 +71,23 @@ impl MemSink {
     {
         self.failures
     }
+
+    /// Counts a call, and says whether it is to fail.
+    pub(crate) fn counts_call(&mut self) -> bool
+        ensures answer { result ≡ next_is_listed self.old.fails self.old.writes }
+        ensures state { self.new ≡ record self.old { writes = next_count self.old.writes } }
+    {
+        self.calls = self.calls.saturating_add(1);
+        self.bad_calls.has(self.calls)
+    }
+
+    /// Counts a call that failed.
+    pub(crate) fn counts_fault(&mut self)
+        ensures state { self.new ≡ record self.old { faults = next_count self.old.faults } }
+        ensures count { Rises self.old.faults self.new.faults }
+    {
+        self.failures = self.failures.saturating_add(1);
+    }
 }
 
 impl Sink for MemSink {
@@ -83,16 +101,16 @@ impl Sink for MemSink {
             (taken_at_once self.old.slow (length bytes.now)) }
         ensures state { self.new ≡ sink_after_write result bytes.now self.old }
     {
-        self.calls = self.calls.saturating_add(1);
+        let is_bad = self.counts_call();
         let count = if self.one_by_one {
             bytes.len().min(1)
         } else {
             bytes.len()
         };
-        if !self.bad_calls.has(self.calls) && self.kept.add(&bytes[..count]).is_ok() {
+        if !is_bad && self.kept.add(&bytes[..count]).is_ok() {
             return Put::Put(count as u64);
         }
-        self.failures = self.failures.saturating_add(1);
+        self.counts_fault();
         Put::Failed
     }
 }
