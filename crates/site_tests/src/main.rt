@@ -5,7 +5,8 @@
 //! In the input a line that begins with `== ` begins a section: the word behind it says what its rows are, and the rest is its title.
 //! In a row of a configuration or a script `|` stands for a line feed.
 //!
-//! - `numbers`, `corrected`, `shape`, `values`, `hosts`, `warnings`: configurations, and what of each is shown where it isn't refused.
+//! - `numbers`, `corrected`, `shape`, `values`, `hosts`, `marks`, `media`, `warnings`: configurations, and what of each is shown where it
+//!   isn't refused.
 //! - `bytes`: configurations, as the numbers of their bytes. `long`: directives, and how many bytes the name behind each has.
 //! - `restart`: configurations and, behind ` => `, the ones that follow them.
 //! - `script`: scripts, whose configuration is shown as it is first and later.
@@ -28,6 +29,7 @@
 
 mod command_lines;
 mod configurations;
+mod configured_types;
 mod hosts;
 mod loads;
 mod paths;

@@ -71,12 +71,13 @@ two-tokens v h = by (nat_lt (position_or_len (λ b. b == 47) v) (length v)) refl
 
 spaces : (v : List ℕ) → All IsPrintable (without_spaces v) → All IsPrintable v
 spaces [] rest = rest
-spaces (b ∷ bs) rest = by (b == 32) refl rest where
-  by : (t : Bool) → (b == 32) ≡ t → All IsPrintable (if t then without_spaces bs else b ∷ bs) → All IsPrintable (b ∷ bs)
-  by true space rest =
+spaces (b ∷ bs) rest = by (b == 32) refl (λ behind. spaces bs behind) rest where
+  by : (t : Bool) → (b == 32) ≡ t → (All IsPrintable (without_spaces bs) → All IsPrintable bs)
+      → All IsPrintable (if t then without_spaces bs else b ∷ bs) → All IsPrintable (b ∷ bs)
+  by true space further rest =
       let own : IsPrintable b = (grind (arith, nat_tests, space), grind (arith, nat_tests, space)) in
-      All-cons IsPrintable b bs own (spaces bs rest)
-  by false other rest = rest
+      All-cons IsPrintable b bs own (further rest)
+  by false other further rest = rest
 
 charset-is : All IsPrintable (codes "charset=")
 charset-is =

@@ -1,7 +1,7 @@
 //! The words of a type and its extensions, and the pairs that they spell.
 ghost use Rattle.std.specs.Prelude.{◌≡◌, [], ◌∷◌, ◌++◌, OnOk};
 ghost use Rattle.conf_text.specs.Words.{words};
-ghost use Rattle.type_words.specs.TypeWords.{are_extensions, are_some_extensions, are_type_words, pairs_of_words, pairs_with};
+ghost use Rattle.type_words.specs.TypeWords.{are_extensions, are_some_extensions, are_type_words, extension_kept, pairs_of_words, pairs_with};
 
 use crate::extension::{extension_kept, is_extension};
 use crate::media_type::is_media_type;
