@@ -10,11 +10,7 @@ pub fn show_marks(sheet: &mut Sheet, config: &Config) {
 
 /// Shows which table counts, the character set, where one is named, and the pairs that are added, in order.
 pub fn show_types(sheet: &mut Sheet, types: &MediaTypes) {
-    sheet.print(if types.long {
-        "long"
-    } else {
-        "short"
-    });
+    sheet.print(if types.long { "long" } else { "short" });
     if let Some(charset) = &types.charset {
         sheet.bytes("", charset.as_slice());
     }

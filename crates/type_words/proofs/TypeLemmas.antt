@@ -1,8 +1,7 @@
 -- Each byte of a type, and of the name of a character set, can be seen.
-use Rattle.std.proofs.Common.{◌≡◌, ℕ, ◌+◌, ◌<◌, ◌≤◌, ◌==◌, ◌&&◌, ◌||◌, nat_le, nat_lt, Bool, true, false, not, List, [], ◌∷◌, ◌++◌, length, take, drop, codes, get_or, Option, Some, None, if◌then◌else◌, refl, sym, subst, ap, ◌∙◌, arith}
-use Rattle.std.specs.List.{All, list_all, list_any, before_first, after_first, position_or_len}
+use Rattle.std.proofs.Common.{◌≡◌, ℕ, ◌<◌, ◌==◌, ◌&&◌, nat_le, nat_lt, Bool, true, false, List, [], ◌∷◌, length, take, drop, codes, get_or, Some, None, if◌then◌else◌, refl, sym, subst, arith}
+use Rattle.std.specs.List.{All, list_all, before_first, after_first, position_or_len}
 use Rattle.std.specs.Str.{bytes_eq}
-use Rattle.std.specs.Char.{is_ascii_alphanumeric}
 use Rattle.std.proofs.lemmas.Bool.Decides.{nat_tests}
 use Rattle.std.proofs.lemmas.List.{take-append-drop}
 use Rattle.std.proofs.lemmas.List.Elements.{All-append, All-cons, All-nil}
@@ -10,7 +9,7 @@ use Rattle.std.proofs.lemmas.List.Sums.{passes_at_first, split_at_first}
 use Rattle.std.proofs.lemmas.Slice.Eq.{bytes_eq-Decides}
 use Rattle.mpm_base.specs.LetterCase.{is_same_ignoring_case}
 use Rattle.media_types.specs.declared.types.TypePair.{TypePair}
-use Rattle.conf_text.specs.Parts.{Parts, parts_around}
+use Rattle.conf_text.specs.Parts.{parts_around}
 use Rattle.conf_text.specs.Words.{Word, Closed, Unclosed}
 use Rattle.type_words.specs.TypeLaws.{IsPrintable}
 use Rattle.type_words.specs.TypeWords.{are_some_extensions, are_two_tokens, are_type_words, charset_of_value, is_charset_parameter, is_media_type, is_token, is_token_byte, is_type_text, pairs_of_words, pairs_with, without_spaces}
@@ -40,6 +39,7 @@ charset-printable v h = by (is_same_ignoring_case v (codes "Off")) h where
   named : (t : Bool) → (t ≡ true → All IsPrintable v) → (if t then Some true else None) ≡ Some true → All IsPrintable v
   named true so is = so refl
   named false so is = absurd (cc is)
+
   by : (off : Bool) → (if off then Some false else (if is_token v && nat_le (length v) 40 then Some true else None)) ≡ Some true → All IsPrintable v
   by true is = absurd (cc is)
   by false is = named (is_token v && nat_le (length v) 40) (λ both_are. token v (both (is_token v) (nat_le (length v) 40) both_are).0) is

@@ -52,12 +52,7 @@ pub fn are_type_words(line: &str) -> bool
 }
 
 /// Puts the pair of an extension and a type at the end.
-fn add_pair(
-    alloc: Global,
-    pairs: &mut TypePairs,
-    media: &[u8],
-    word: &[u8],
-) -> Result<(), NoMemory>
+fn add_pair(alloc: Global, pairs: &mut TypePairs, media: &[u8], word: &[u8]) -> Result<(), NoMemory>
     ensures { OnOk result (pairs.new ≡ pairs.old
         ++ record { extension = extension_kept word.now; media = media.now } ∷ []) }
 {
