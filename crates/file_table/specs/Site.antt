@@ -1,6 +1,6 @@
 -- A site: the files under the roots of its hosts, root by root, and what each host has of them. A root of several hosts stands in it once.
 -- Why it is so stands in docs/DECISIONS.md: 117, One list of files for all hosts.
-use Rattle.std.specs.Prelude.{◌≡◌, ℕ, ◌+◌, ◌<◌, ◌^◌, ◌||◌, nat_lt, All, IsUtf8, Bool, List, [], ◌∷◌, ◌++◌, length, map, take, drop, position, slice_get, Option, Some, None, if◌then◌else◌, unwrap_or, ⊤}
+use Rattle.std.specs.Prelude.{◌≡◌, ℕ, ◌+◌, ◌<◌, ◌^◌, ◌||◌, nat_lt, All, IsUtf8, Bool, false, List, [], ◌∷◌, ◌++◌, length, map, take, drop, position, slice_get, Option, Some, None, if◌then◌else◌, unwrap_or, ⊤}
 use Rattle.std.specs.List.{list_any}
 use Rattle.std.specs.List.Sorted.{IsPermutation}
 use Rattle.std.specs.Option.{option_and_then}

@@ -78,7 +78,7 @@ fn order_of(alloc: Global, config: &Config) -> Result<SiteOrder, NoMemory>
 }
 
 /// The same, which can be loaded.
-fn site_order(alloc: Global, config: &Config) -> Result<SiteOrder, NoMemory>
+pub(crate) fn site_order(alloc: Global, config: &Config) -> Result<SiteOrder, NoMemory>
     ensures order { IfOk result (λ order. order ≡ order_of config.entry.now) }
     ensures loadable { IfOk result IsLoadable }
 {

@@ -2,10 +2,11 @@
 ghost use Rattle.std.specs.Prelude.{IfOk, IsUtf8, None};
 ghost use Rattle.file_table.specs.Site.{IsLoadable};
 
-use crate::loads::{named, show_load, sized};
+use crate::loads::{empty, named, show_load, sized};
 use crate::paths::show_found_for;
-use file_table::{HostOrder, HostOrders, LoadFault, Site, SiteOrder, load};
-use mpm_base::{Names, NoMemory, Octets, Store, StoreFault};
+use file_table::{HostOrder, HostOrders, LoadFault, Marks, Site, SiteOrder, load};
+use media_types::MediaTypes;
+use mpm_base::{Content, Names, NoMemory, Octets, Store, StoreFault};
 use name_hosts::{HostList, HostNames, choose, host_part};
 use stand_ins::{Calls, Files, MemStore};
 use std::alloc::Global;
@@ -76,6 +77,11 @@ fn three_hosts(alloc: Global, first: &str, second: &str, third: &str) -> Result<
     Ok(SiteOrder {
         hosts,
         status: true,
+        marks: Marks {
+            tags: false,
+            times: false,
+        },
+        types: MediaTypes::usual(alloc),
     })
 }
 
@@ -156,8 +162,8 @@ impl Store for CrowdedFolder {
         Err(StoreFault::Many)
     }
 
-    fn read(&mut self, alloc: Global, _: &str, _: u64) -> Result<Octets, StoreFault> {
-        Ok(Octets::make(alloc))
+    fn read(&mut self, alloc: Global, _: &str, _: u64) -> Result<Content, StoreFault> {
+        Ok(empty(alloc))
     }
 }
 
