@@ -78,7 +78,7 @@ replaced_in_host h v w sets.TransferLog sets.TransferLog same = tt
 replaced_in_host h v w a b same = absurd same
 
 -- what holds of both outcomes of a test holds of its outcome
-choice : (P : Result Progress ConfFault → Type 0) (t : Bool) (r s : Result Progress ConfFault) → P r → P s → P (if t then r else s)
+pub choice : (P : Result Progress ConfFault → Type 0) (t : Bool) (r s : Result Progress ConfFault) → P r → P s → P (if t then r else s)
 choice P true r s a b = a
 choice P false r s a b = b
 
@@ -86,17 +86,17 @@ choice P false r s a b = b
 nothing : (p : Progress) (sections : List Section) → SetsNothing p (record p { sections = sections })
 nothing p sections = record { settings = refl; host = refl }
 
-opened_sets : (n : ℕ) (kind : Kind) (shown : Bool) (p : Progress) → IfOk (open_section n kind shown p) (SetsNothing p)
+pub opened_sets : (n : ℕ) (kind : Kind) (shown : Bool) (p : Progress) → IfOk (open_section n kind shown p) (SetsNothing p)
 opened_sets n kind shown p = choice (λ r. IfOk r (SetsNothing p)) (nat_lt (length p.sections) 8) _ _ (nothing p _) tt
 
 innermost_sets : (n : ℕ) (kind : Kind) (p : Progress) (s : Option Section) → IfOk (close_innermost n kind p s) (SetsNothing p)
 innermost_sets n kind p None = tt
 innermost_sets n kind p (Some s) = choice (λ r. IfOk r (SetsNothing p)) (is_same_kind s.kind kind) _ _ (nothing p _) tt
 
-closed_sets : (n : ℕ) (kind : Kind) (p : Progress) → IfOk (close_section n kind p) (SetsNothing p)
+pub closed_sets : (n : ℕ) (kind : Kind) (p : Progress) → IfOk (close_section n kind p) (SetsNothing p)
 closed_sets n kind p = innermost_sets n kind p (slice_get p.sections (length p.sections - 1))
 
-hiding_sets : (p : Progress) (l : Line) (f : Form) → IfOk (in_hiding p l f) (SetsNothing p)
+pub hiding_sets : (p : Progress) (l : Line) (f : Form) → IfOk (in_hiding p l f) (SetsNothing p)
 hiding_sets p l form.Blank = record { settings = refl; host = refl }
 hiding_sets p l (form.Opening g) = opened_sets l.number kind.Module true p
 hiding_sets p l (form.OpeningHost right) = opened_sets l.number kind.Host true p

@@ -1,8 +1,9 @@
 pub mod CorrectionLemmas
 pub mod FormLemmas
+pub mod HostLemmas
 pub mod LawLemmas
 pub mod NameLemmas
 pub mod PieceLemmas
 pub mod RangeLemmas
 pub mod TextLemmas
-pub mod HostLemmas
+pub mod TypeLemmas

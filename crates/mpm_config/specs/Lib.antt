@@ -15,5 +15,6 @@ pub mod SettingInside
 pub mod Settings
 pub mod SettingsInside
 pub mod Shape
+pub mod TypeLaws
 pub mod Value
 pub mod Warning

@@ -4,8 +4,7 @@
 //! `read_config` accepts just the texts of the language and answers what they configure, with a warning for each
 //! number that was corrected; else it names the first fault with its line. `carry_limits` keeps the two limits
 //! over a restart, and `shape_of` gives the shape of a configuration, which is in its bounds.
-//! The definition is `config_of` in `specs/Reading.antt`: the lines of a text (`Line`), the kind of each (`Form`), its words (`Words`), what they set (`Directive`, `Value`, `NumberRange`, `Setting`, `Settings`) and the corrections
-//! (`Correction`). The section of a host sets what it has of its own (`HostName`, `HostSettings` in `Settings`), and the hosts are made of these
+//! The definition is `config_of` in `specs/Reading.antt`: the lines of a text and their words (of the crate `conf_text`), the kind of each line (`Form`), what its words set (`Directive`, `Value`, `NumberRange`, `Setting`, `Settings`; of types in the crate `type_words`) and the corrections (`Correction`). The section of a host sets what it has of its own (`HostName`, `HostSettings` in `Settings`), and the hosts are made of these
 //! once the text is read (`confs_by`; `HostConf`, `Config`). `laws` says what these come to.
 #![tactic(auto)]
 
@@ -32,8 +31,8 @@ pub use correction::warning_text;
 pub use fault::ConfFault;
 pub use host_conf::{HostConf, HostConfs};
 pub use laws::{
-    corrected_numbers_are_in_bounds, first_refusal_decides, later_settings_replace,
-    skipped_lines_set_nothing,
+    configured_types_are_printable, corrected_numbers_are_in_bounds, first_refusal_decides,
+    later_settings_replace, skipped_lines_set_nothing,
 };
 pub use numbers::Numbers;
 pub use read::read_config;
