@@ -13,7 +13,7 @@ use Rattle.mpm_config.specs.Directive.{directive_of}
 use Rattle.mpm_config.specs.Form.{form_of}
 use Rattle.mpm_config.specs.HostName.{aliases_of, are_aliases, is_server_name}
 use Rattle.mpm_config.specs.Range.{port_range}
-use Rattle.mpm_config.specs.Reading.{ConfigAndWarnings, Progress, SetsNothing, adds_names, adds_pairs, after_closing, after_line, and_then, assigns, at_end, close_section, close_shown, config_of, configuration_of, hides, in_hiding, in_sight, may_open_host, open_by_guard, open_host, open_section, sets, sets_host, settings_of, start, text_len, text_settings, with_closed_host}
+use Rattle.mpm_config.specs.Reading.{Progress, SetsNothing, adds_names, adds_pairs, after_closing, after_line, and_then, assigns, at_end, close_section, close_shown, config_of, configuration_of, hides, in_hiding, in_sight, may_open_host, open_by_guard, open_host, open_section, sets, sets_host, settings_of, start, text_len, text_settings, with_closed_host}
 use Rattle.mpm_config.specs.Setting.{AddsNames, AddsPairs, Assignment, Sets, assignment, assignment_of, meaning, of_name, of_value, of_words, setting_of}
 use Rattle.mpm_config.specs.Settings.{HostSettings, Settings, empty_host, with_host_setting, with_setting}
 use Rattle.mpm_config.specs.TypeLaws.{HavePrintable}

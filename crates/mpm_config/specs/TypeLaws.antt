@@ -1,5 +1,5 @@
 -- What the types of a configuration come to.
-use Rattle.std.specs.Prelude.{List, All, IfSome}
+use Rattle.std.specs.Prelude.{All, IfSome}
 use Rattle.media_types.specs.declared.types.MediaTypes.{MediaTypes}
 use Rattle.media_types.specs.declared.types.TypePair.{TypePair}
 use Rattle.type_words.specs.TypeLaws.{IsPrintable}

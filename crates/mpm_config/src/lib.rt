@@ -4,8 +4,10 @@
 //! `read_config` accepts just the texts of the language and answers what they configure, with a warning for each
 //! number that was corrected; else it names the first fault with its line. `carry_limits` keeps the two limits
 //! over a restart, and `shape_of` gives the shape of a configuration, which is in its bounds.
-//! The definition is `config_of` in `specs/Reading.antt`: the lines of a text and their words (of the crate `conf_text`), the kind of each line (`Form`), what its words set (`Directive`, `Value`, `NumberRange`, `Setting`, `Settings`; of types in the crate `type_words`) and the corrections (`Correction`). The section of a host sets what it has of its own (`HostName`, `HostSettings` in `Settings`), and the hosts are made of these
-//! once the text is read (`confs_by`; `HostConf`, `Config`). `laws` says what these come to.
+//! The definition is `config_of` in `specs/Reading.antt`: the lines of a text and their words (of the crate `conf_text`), the kind of each
+//! line (`Form`), what its words set (`Directive`, `Value`, `NumberRange`, `Setting`, `Settings`; of types in the crate `type_words`) and the
+//! corrections (`Correction`). The section of a host sets what it has of its own (`HostName`, `HostSettings` in `Settings`), and the hosts
+//! are made of these once the text is read (`confs_by`; `HostConf`, `Config`). `laws` says what these come to.
 #![tactic(auto)]
 
 mod config;
