@@ -23,17 +23,26 @@ pub(crate) struct FoundOnce {
     pub places: Vec<usize>,
 }
 
-/// The tag of the old site's file of that name for that host, where it has the same bytes: then it is the tag of this one too.
+/// The tag of the old site's file at the place, where that has the bytes of this one: then it is the tag of both.
+fn tag_of_same<'a>(old: &'a Site, place: usize, file: &File) -> Option<&'a [u8]>
+    ensures { IfSome result (λ tag. tag.now ≡ spec.tag_of file.now.bytes) }
+{
+    let files = old.files();
+    if place < files.len() && files[place].bytes.as_slice() == file.bytes.as_slice() {
+        old.tag_at(place)
+    } else {
+        None
+    }
+}
+
+/// The tag of the old site's file of that name for that host, where it has the same bytes.
 fn kept_tag<'a>(old: &'a Site, host: u32, file: &File) -> Option<&'a [u8]>
     requires { host < length old.now.hosts }
     ensures { IfSome result (λ tag. tag.now ≡ spec.tag_of file.now.bytes) }
 {
-    let files = old.files_of(host);
-    let place = place_of_file(files, file.name.as_slice(), b"")?;
-    if files[place].bytes.as_slice() != file.bytes.as_slice() {
-        return None;
-    }
-    old.tag_at(old.part_of(host).first as usize + place)
+    let place = place_of_file(old.files_of(host), file.name.as_slice(), b"")?;
+    let first = old.part_of(host).first as usize;
+    tag_of_same(old, first.saturating_add(place), file)
 }
 
 /// The same where there is such a site and such a host.

@@ -141,7 +141,8 @@ impl Site {
 
     /// How many hosts there are.
     pub(crate) fn host_count(&self) -> usize
-        ensures { result ≡ length self.now.hosts }
+        ensures count { result ≡ length self.now.hosts }
+        ensures most { length self.now.hosts < 2 ^ 32 }
     {
         self.hosts.len()
     }

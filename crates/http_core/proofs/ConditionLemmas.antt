@@ -1,8 +1,9 @@
 -- What conditions come to: what a request is served beside what it is served without them.
-use Rattle.std.proofs.Common.{◌≡◌, ℕ, ◌<◌, Bool, true, false, cond, not, ◌&&◌, ◌||◌, List, [], length, Option, None, Some, refl, sym, ap, subst, ◌∙◌}
+use Rattle.std.proofs.Common.{◌≡◌, ℕ, ◌<◌, Bool, true, false, cond, not, ◌&&◌, ◌||◌, List, [], get_or, length, Option, None, Some, refl, sym, ap, subst, ◌∙◌}
 use Rattle.std.specs.Prelude.{codes, slice_get}
 use Rattle.std.specs.Str.{bytes_eq}
-use Rattle.std.proofs.lemmas.Option.{slice_get-get_or}
+use Rattle.std.proofs.lemmas.Bool.{false≢true}
+use Rattle.std.proofs.lemmas.Option.{none-some, slice_get-get_or}
 use Rattle.std.proofs.lemmas.Slice.Eq.{bytes_eq-Decides}
 use Rattle.mpm_base.specs.declared.store.File.{File}
 use Rattle.http_read.specs.RequestParts.{Conditions, RequestParts, no_conditions}
@@ -36,11 +37,11 @@ and_false false = refl
 
 and_first : (a b : Bool) → (a && b) ≡ true → a ≡ true
 and_first true b h = refl
-and_first false b h = absurd (cc h)
+and_first false b h = absurd (false≢true h)
 
 and_second : (a b : Bool) → (a && b) ≡ true → b ≡ true
 and_second true b h = h
-and_second false b h = absurd (cc h)
+and_second false b h = absurd (false≢true h)
 
 same_both : {A : Type 0} (b : Bool) (x : A) → cond b x x ≡ x
 same_both true x = refl
@@ -122,7 +123,7 @@ has_file site c f None h = h
 has_file site c f (Some words) h = h
 
 is_tag : (tag : List ℕ) (value : Option (List ℕ)) → is_exactly tag value ≡ true → value ≡ Some tag
-is_tag tag None h = absurd (cc h)
+is_tag tag None h = absurd (false≢true h)
 is_tag tag (Some value) h = ap Some ((bytes_eq-Decides value tag).0 h)
 
 module _ (site : SeenSite) (r : RequestParts) (other : Served) where
@@ -153,7 +154,7 @@ module _ (site : SeenSite) (r : RequestParts) (other : Served) where
       named : (b : Bool) → (not b || (site.marks.tags && is_exactly (tag_of f.bytes) r.conditions.if_range)) ≡ true
           → b ≡ true → (site.marks.tags ≡ true) × (r.conditions.if_range ≡ Some (tag_of f.bytes))
       named true h e = (and_first _ _ h, is_tag (tag_of f.bytes) r.conditions.if_range (and_second _ _ h))
-      named false h e = absurd (cc e)
+      named false h e = absurd (false≢true e)
 
   -- by the verdict
   judged : (get : Bool) (place size : ℕ) (f : File) (a b d : Bool) → is_unmodified site.marks r.conditions f ≡ d → slice_get site.files place ≡ Some f
@@ -184,7 +185,7 @@ file_beside : (site : SeenSite) (r : RequestParts) (get : Bool) (place : ℕ) (f
     → Beside site r (served_by (verdict_of site r file) place (served_range place (size_at site place) (range_for get (size_at site place) (range_of_file site r file))))
     (served_by (verdict_of site (without_range r) file) place
     (served_range place (size_at site place) (range_for get (size_at site place) (range_of_file site (without_range r) file))))
-file_beside site r get place None none within = absurd (cc (none, slice_get-get_or site.files place no_file within))
+file_beside site r get place None none within = absurd (none-some (get_or site.files place no_file) (sym none ∙ slice_get-get_or site.files place no_file within))
 file_beside site r get place (Some f) there within =
     judged site r _ get place (size_at site place) f (has_marks site.marks) (fails_match site.marks r.conditions f) (is_unmodified site.marks r.conditions f) refl
     there (whole_of site get r place f)

@@ -1,5 +1,5 @@
 use Rattle.file_table.proofs.RootLemmas.{parts_read}
-use Rattle.file_table.proofs.loading.load.Goals as goal
+use Rattle.file_table.proofs.loading.load_by.Goals as goal
 
 pub site_of-requires-clause-parts : goal.site_of-requires-clause-parts
 site_of-requires-clause-parts g c =
