@@ -1,0 +1,13 @@
+pub mod AloneLemmas
+pub mod DidLemmas
+pub mod DownLemmas
+pub mod FrameLemmas
+pub mod HeldLemmas
+pub mod LettingLemmas
+pub mod LingeringLemmas
+pub mod MadeLemmas
+pub mod NewLemmas
+pub mod RestLemmas
+pub mod RoundLemmas
+pub mod StopLemmas
+pub mod TimeLemmas

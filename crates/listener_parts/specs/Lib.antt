@@ -1,0 +1,5 @@
+pub mod Closing
+pub mod Did
+pub mod Letting
+pub mod Rounds
+pub mod Taking
