@@ -11,8 +11,10 @@ pub mod ChildLemmas
 pub mod ChildSound
 pub mod CountLemmas
 pub mod EditionLemmas
+pub mod EndLaw
 pub mod FairLemmas
 pub mod FoldLemmas
+pub mod FrameLaw
 pub mod FreshLaw
 pub mod GenerationLaw
 pub mod HandLaw

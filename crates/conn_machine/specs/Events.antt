@@ -49,6 +49,22 @@ abbrev pub is_tick : Event → Bool
 is_tick (event.Tick moment) = true
 is_tick other = false
 
+-- the event is of a connection, or a child is started or let go of
+abbrev pub needs_child : Event → Bool
+needs_child (event.Accept slot) = true
+needs_child (event.Park name kind) = true
+needs_child (event.Hold name) = true
+needs_child (event.Queue name) = true
+needs_child (event.Start name) = true
+needs_child (event.Answer name ask) = true
+needs_child (event.Linger name why) = true
+needs_child (event.Close name why how) = true
+needs_child (event.Ready slot) = false
+needs_child (event.Tick moment) = false
+needs_child (event.StartChild child) = true
+needs_child (event.Command c) = false
+needs_child (event.Retire child) = true
+
 -- a command `graceful` was taken: a new generation begins
 abbrev pub begins_generation : Event → Bool
 begins_generation (event.Command (Graceful shape)) = true
