@@ -8,7 +8,7 @@ use Rattle.worker_group.specs.Service.{IsUp}
 use Rattle.rounds.specs.declared.ends.Rest.{Rest}
 use Rattle.listener.specs.FoldsInside.{ListensOn}
 use Rattle.listener.specs.ListenInside.{IsAtStart, IsInStep, TookAll}
-use Rattle.rounds.specs.AtRest.{IsAtRest}
+use Rattle.board_book.specs.AtRest.{IsAtRest}
 use Rattle.rounds.specs.TableInside.{StandsInTime}
 use Rattle.listener.specs.StandingInside.{IsOpenedBy, KnowsLater}
 use Rattle.listener.specs.TurnsInside.{SeenListener}

@@ -11,7 +11,7 @@ use Rattle.listener.specs.Links.{HandsOutTaken, TakesLinks, TurnsOneAway}
 use Rattle.rounds.specs.EndsInside.{HaltsAs}
 use Rattle.listener.specs.ListenInside.{HandedOut, HandsOut, IsInStep, KeepsStep}
 use Rattle.listener.specs.RoundInside.{EndsTaking}
-use Rattle.rounds.specs.ClosedDown.{IsBrokenOff}
+use Rattle.board_book.specs.ClosedDown.{IsBrokenOff}
 use Rattle.listener.proofs.FrontLemmas.{step-taken}
 
 -- ## While the server goes on

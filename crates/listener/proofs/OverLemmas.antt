@@ -15,16 +15,16 @@ use Rattle.rounds.specs.declared.ends.End.{End}
 use Rattle.rounds.specs.declared.ends.End.TheVariants as end
 use Rattle.listener.specs.declared.listen.Pause.{Pause}
 use Rattle.rounds.specs.declared.ends.Rest.{Rest}
-use Rattle.rounds.specs.ClosedDown.{HasNoLive}
+use Rattle.board_book.specs.ClosedDown.{HasNoLive}
 use Rattle.rounds.specs.EndsInside.{is_at_end}
 use Rattle.listener.specs.ListenInside.{HandsOut, HandsOutEach, HasNoneToHeed, HasReadAll, HeedsUntil, IsAtStart, IsInStep, ListensAsServed, TakesInTo, TookAll, TurnsEnd}
 use Rattle.rounds.specs.TableInside.{IsRestful}
-use Rattle.rounds.specs.Timely.{is_at_its_end}
+use Rattle.conn_machine.specs.States.{is_at_its_end}
 use Rattle.listener.specs.RoundInside.{GoesRound}
 use Rattle.rounds.specs.PartsInside.{StartsSome}
 use Rattle.listener.specs.Stops.{HasGivenAll}
 use Rattle.listener.specs.TurnsInside.{AreOver, SeenListener}
-use Rattle.rounds.specs.Moments.{moment_for}
+use Rattle.board_book.specs.Moments.{moment_for}
 use Rattle.rounds.proofs.ClosingLemmas.{GoesOnFrom}
 use Rattle.rounds.proofs.TimelyLemmas.{not-at_end}
 use Rattle.listener.proofs.CommandLemmas.{heeded-wait, heeds-asked, heeds-ended, heeds-failed, heeds-gone, heeds-none, heeds-overdue}

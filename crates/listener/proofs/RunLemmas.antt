@@ -30,9 +30,9 @@ use Rattle.listener.specs.Commands.{TellsStop}
 use Rattle.listener.specs.FirstNumbers.{opened_by}
 use Rattle.listener.specs.declared.run_numbers.RunNumbers.{RunNumbers}
 use Rattle.listener.specs.Listen.{HasClosedAll, HasFolded, IsRunFrom}
-use Rattle.rounds.specs.ClosedDown.{HasNoLive, IsClosedDown}
+use Rattle.board_book.specs.ClosedDown.{HasNoLive, IsClosedDown}
 use Rattle.listener.specs.ListenInside.{clients_known}
-use Rattle.rounds.specs.Timely.{AreTimely}
+use Rattle.board_book.specs.Timely.{AreTimely}
 use Rattle.listener.specs.Served.{all_ended, whole_book}
 
 -- ## The history

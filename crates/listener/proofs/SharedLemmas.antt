@@ -14,7 +14,7 @@ use Rattle.listener.specs.ListenInside.{AsksFor, OnlyReadsAndTakes}
 use Rattle.listener.specs.Pace.{AreSharesOf, AreSharesOfAll, Brought, IsShareOf, Share, answer_if, answers_in, lines_between, made_of, moment_by, moved, ordered, progress_at, signalled, taken, ticked, ticks_by}
 use Rattle.listener.specs.ShareInside.{HandsMany, HushesFor, ReadsFor}
 use Rattle.listener.specs.Times.{answers_of}
-use Rattle.rounds.specs.Moments.{known_slots, moment_for, ticks_to}
+use Rattle.board_book.specs.Moments.{known_slots, moment_for, ticks_to}
 use Rattle.listener.proofs.ShareLemmas.{AreBegunBy, GoesFurther, answers-more, begun-later, begun-more, first-both, progress-more, shares-more}
 use Rattle.listener.proofs.WholeLemmas.{IsShared}
 

@@ -18,7 +18,7 @@ use Rattle.listener.specs.Links.{EndsLinks, TakesLinks}
 use Rattle.listener.specs.ListenInside.{Follows, HasNoneToHeed, HasNotBegun, HasStopped, IsAtStart, IsInStep, WatchesAll, contacts, contacts_of}
 use Rattle.listener.specs.Outside.{clients_told, KeepsFront}
 use Rattle.listener.specs.Patient.{HasNothingCome}
-use Rattle.rounds.specs.Timely.{AreTimely}
+use Rattle.board_book.specs.Timely.{AreTimely}
 use Rattle.listener.specs.StartedFirst.{IsStartedFirst}
 use Rattle.listener.specs.Stops.{TakesEach}
 use Rattle.listener.specs.Tells.{AllReceive}

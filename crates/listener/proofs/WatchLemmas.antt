@@ -36,7 +36,7 @@ use Rattle.worker_group.specs.Service.{left_events}
 use Rattle.rounds.specs.ClosingInside.{IsHaltedWay, LetsGo, Departure, departure_events, lingering_give_up_events}
 use Rattle.listener.specs.RoundInside.{DoesOrders}
 use Rattle.rounds.specs.PartsInside.{GivesUp, LetsGoOfConns, LetsGoUntil, Departures, PassesTime, RetiresSome, StartsSome, gone_events, halt_events, halts_for, departures_events, signal_events, way_of}
-use Rattle.rounds.specs.Moments.{known_slots, ticks_to}
+use Rattle.board_book.specs.Moments.{known_slots, ticks_to}
 use Rattle.listener.specs.Watched.{AreClosedAtOnce, IsClosedAtOnce, accepted_names, link_watched, links_from, names_taken, names_given}
 use Rattle.rounds.proofs.AddedLemmas.{added-events, added-own, events_in}
 use Rattle.listener.proofs.FrontCallLemmas.{left_front}

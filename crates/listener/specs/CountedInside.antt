@@ -9,8 +9,8 @@ use Rattle.conn_machine.specs.States.{is_serving}
 use Rattle.board_book.specs.Book.{SeenBook}
 use Rattle.board_book.specs.Editions.{orders_in}
 use Rattle.board_book.specs.declared.faults.BoardFault.{BoardFault}
-use Rattle.rounds.specs.ClosedDown.{IsBrokenOff}
-use Rattle.rounds.specs.Moments.{moment_for}
+use Rattle.board_book.specs.ClosedDown.{IsBrokenOff}
+use Rattle.board_book.specs.Moments.{moment_for}
 use Rattle.listener.specs.Counted.{CountsRun}
 use Rattle.listener.specs.StandingInside.{owed_at}
 use Rattle.rounds.specs.declared.ends.End.{End}

@@ -14,9 +14,9 @@ use Rattle.board.specs.Board.{SeenBoard, Agrees, AreClosed, AreEnded}
 use Rattle.board.specs.ReportLine.{line_of}
 use Rattle.listener.specs.Commands.{TellsStop}
 use Rattle.listener.specs.FirstNumbers.{folded_by, opened_by}
-use Rattle.rounds.specs.Timely.{AreTimely}
+use Rattle.board_book.specs.Timely.{AreTimely}
 use Rattle.listener.specs.declared.run_numbers.RunNumbers.{RunNumbers}
-use Rattle.rounds.specs.ClosedDown.{IsClosedDown}
+use Rattle.board_book.specs.ClosedDown.{IsClosedDown}
 
 -- ## A run
 

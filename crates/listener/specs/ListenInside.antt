@@ -16,7 +16,7 @@ use Rattle.mpm_base.specs.declared.front.Woke.{Woke}
 use Rattle.command_answers.specs.Answers.{stopping_answer}
 use Rattle.listener.specs.Commands.{NoneStops, StopsAtLast, lines_read}
 use Rattle.listener.specs.Links.{HandsOutTaken, TakesLinks, TurnsOneAway}
-use Rattle.rounds.specs.ClosedDown.{HasNoLive, IsClosedDown}
+use Rattle.board_book.specs.ClosedDown.{HasNoLive, IsClosedDown}
 use Rattle.listener.specs.Outside.{clients_told, comings_told}
 use Rattle.listener.specs.Stops.{HasFailedLast, HasTakenAll, StoppedFor}
 use Rattle.listener.specs.Watched.{AreWatched, accepted_names}

@@ -18,7 +18,7 @@ use Rattle.listener.specs.Generations.{Opening, config_at, made_edition, renewed
 use Rattle.listener.specs.Listen.{HasFolded}
 use Rattle.listener.specs.Orders.{AreOrdered, edition_with, orders_with}
 use Rattle.listener.specs.Served.{all_entries, whole_book}
-use Rattle.rounds.specs.Timely.{AreTimely}
+use Rattle.board_book.specs.Timely.{AreTimely}
 use Rattle.listener.specs.Stores.{IsRenewed, RisesBy}
 use Rattle.listener.specs.declared.edition.NamedConfig.{NamedConfig}
 use Rattle.rounds.specs.declared.ends.End.{End}

@@ -23,14 +23,14 @@ ghost use Rattle.listener.specs.HeardInside.{Hears, HearsUntil, KeepsHeard, hear
 ghost use Rattle.listener.specs.OrdersInside.{KnowsComing, ServesNewest};
 ghost use Rattle.listener.specs.RoundInside.{BreaksOff, EndsTaking, FailsTaking, IsTaking, RoundEnds, TakesSome, TakesUntil};
 ghost use Rattle.rounds.specs.PartsInside.{ServesSome, StartsSome, StaysTimely};
-ghost use Rattle.rounds.specs.Timely.{is_at_its_end, is_staffed};
+ghost use Rattle.conn_machine.specs.States.{is_at_its_end, is_staffed};
 ghost use Rattle.listener.specs.Pace.{brought, taken};
 ghost use Rattle.listener.specs.ShareInside.{CutsShare, GoesOnInTime, HandsMany, HushesFor, MakesOneAtMost, MakesShare, TakesAllButOne, TakesHanded};
 ghost use Rattle.conn_machine.specs.declared.state.Going.TheVariants.{Serving};
 ghost use Rattle.listener.specs.StandingInside.{StandsBroken, StandsOn, owed_at, standing};
-ghost use Rattle.rounds.specs.Started.{BeginsWithStarts};
+ghost use Rattle.board_book.specs.Started.{BeginsWithStarts};
 ghost use Rattle.listener.specs.TurnsInside.{AreOver, HasListened, MayListen, listener_of};
-ghost use Rattle.rounds.specs.Moments.{moment_for};
+ghost use Rattle.board_book.specs.Moments.{moment_for};
 
 use crate::folding::fold_history;
 use crate::listener_state::Listener;

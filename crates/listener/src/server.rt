@@ -14,9 +14,9 @@ ghost use Rattle.listener.specs.Served.{all_ended, whole_book};
 ghost use Rattle.listener.specs.Counted.{AsksOnce, KeepsClock};
 ghost use Rattle.listener.specs.Links.{EndsLinks};
 ghost use Rattle.listener.specs.Listen.{HasClosedAll, HasFolded, IsRunFrom};
-ghost use Rattle.rounds.specs.ClosedDown.{IsClosedDown};
+ghost use Rattle.board_book.specs.ClosedDown.{IsClosedDown};
 ghost use Rattle.listener.specs.ListenInside.{Follows, IsUnopened, clients_known};
-ghost use Rattle.rounds.specs.Timely.{AreTimely};
+ghost use Rattle.board_book.specs.Timely.{AreTimely};
 ghost use Rattle.listener.specs.RunsInside.{BacksWaits};
 ghost use Rattle.listener.specs.Tells.{AllReceive};
 

@@ -23,7 +23,7 @@ use Rattle.worker_group.specs.declared.service.Exit.TheVariants as exit
 use Rattle.worker_group.specs.Service.{given_up_cause, left_events}
 use Rattle.board_turns.specs.Books.{state_of}
 use Rattle.board_turns.specs.Rests.{TurnsRestOn}
-use Rattle.board_turns.specs.Turns.{HadATurn, HadTurn, state_found}
+use Rattle.board_turns.specs.Turns.{HadATurn, HadQuietTurn, HadTurn, state_found}
 use Rattle.listener_turns.specs.Credits.{HadCreditTurn}
 use Rattle.listener_turns.specs.Looks.{LooksIdle}
 use Rattle.listener_parts.specs.Did.{AreOfConns, IsOfConns, LeavesAlone, StandsAs}
@@ -133,6 +133,13 @@ pub credit_alone : OthersLeaveTheRestToTheListener → (found : List Entry) (chi
 credit_alone law found child threads old new number t =
     subst (LeavesAlone (state_of old)) (sym (state_seen old new found t.origin t.seen))
     (others_alone law old found number t.made t.others)
+
+-- ## Folds
+
+pub quiet_alone : OthersLeaveTheRestToTheListener → (old new : View) → old.who.number ≡ 0 → HadQuietTurn new.seen old new
+    → LeavesAlone (state_of old) (state_of new)
+quiet_alone law old new number t =
+    subst (LeavesAlone (state_of old)) (sym (state_seen old new new.seen t.stays.origin refl)) (others_alone law old new.seen number t.made t.others)
 
 -- ## Children
 

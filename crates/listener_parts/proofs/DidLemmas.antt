@@ -10,8 +10,9 @@ use Rattle.conn_machine.specs.declared.event.Entry.{Entry}
 use Rattle.conn_machine.specs.declared.event.Event.{Event}
 use Rattle.conn_machine.specs.Folds.{opening_record}
 use Rattle.conn_machine.specs.Made.{HasSeen}
-use Rattle.conn_machine.specs.Runs.{entries_of, is_of_pass}
+use Rattle.conn_machine.specs.Runs.{entries_of, is_of_pass, own_events}
 use Rattle.conn_state.specs.Known.{KnownOutside}
+use Rattle.table_rule.specs.declared.view.LastLeft.{LastLeft}
 use Rattle.table_rule.specs.declared.view.Origin.{Origin}
 use Rattle.table_rule.specs.declared.view.View.{View}
 use Rattle.table_rule.specs.declared.view.Who.{Who}
@@ -19,7 +20,8 @@ use Rattle.table_rule.specs.Steps.{uncredited_view}
 use Rattle.idle_workers.specs.Found.{TakesCreditBack}
 use Rattle.board.specs.Editions.{GenerationsKeepTheirEditions, IsOfGeneration}
 use Rattle.board_turns.specs.Books.{book_of}
-use Rattle.board_turns.specs.Turns.{HadATurn, HadTurns, IsListener, own_events}
+use Rattle.board_turns.specs.Turns.{HadATurn, HadTurns, IsListener}
+use Rattle.board_turns.proofs.ThenLemmas.{kept_more}
 use Rattle.board_turns.proofs.TurnLemmas.{more_turns, no_turn, one_turn}
 use Rattle.listener_turns.specs.Credits.{HadCreditTurn}
 use Rattle.listener_turns.specs.Looks.{LooksIdle}
@@ -35,6 +37,7 @@ did_turns events has old new t row = record {
   who = t.who;
   hand = t.hand;
   row = row;
+  left = t.left;
 }
 
 pub did_turn : (events : List Event) (has : Option ConnName) (old new : View) → HadATurn events old new → new.row ≡ has → Did events has old new
@@ -72,6 +75,7 @@ did_more first second had has a b c before behind =
       who = behind.who ∙ before.who;
       hand = behind.hand ∙ before.hand;
       row = behind.row;
+      left = kept_more a b c before.left behind.left;
     }
 
 -- nothing behind a part, or before one
@@ -107,6 +111,7 @@ did_look child threads old new idle looks none =
       who = ap (λ (q : View). q.who) f.looked.0;
       hand = ap (λ (q : View). q.hand) f.looked.0;
       row = ap (λ (q : View). q.row) f.looked.0 ∙ none;
+      left = record { entries = ap (λ (q : View). q.left.entries) f.looked.0; folded = ap (λ (q : View). q.left.folded) f.looked.0 };
     }
 
 -- a credit that is given, in its turn
@@ -118,6 +123,7 @@ did_credit found child threads old new t none = record {
   who = t.who;
   hand = t.hand;
   row = none;
+  left = t.left;
 }
 
 -- what a credit that is taken back leaves of a view, or one that isn't
@@ -128,10 +134,11 @@ pub record KeepsAllBut (old new : View) : Type 0 where
   pub turn : new.turn ≡ old.turn
   pub row : new.row ≡ old.row
   pub hand : new.hand ≡ old.hand
+  pub left : new.left ≡ old.left
 
 keeps_all : (done : Bool) (k : ℕ) (v : View) → KeepsAllBut v (uncredited_view done k v)
-keeps_all true k v = record { origin = refl; who = refl; seen = refl; turn = refl; row = refl; hand = refl }
-keeps_all false k v = record { origin = refl; who = refl; seen = refl; turn = refl; row = refl; hand = refl }
+keeps_all true k v = record { origin = refl; who = refl; seen = refl; turn = refl; row = refl; hand = refl; left = refl }
+keeps_all false k v = record { origin = refl; who = refl; seen = refl; turn = refl; row = refl; hand = refl; left = refl }
 
 pub keeps_uncredited : (child threads : ℕ) (old new : View) (done : Bool) → TakesCreditBack child threads old done new → KeepsAllBut old new
 keeps_uncredited child threads old new done takes =
@@ -143,6 +150,7 @@ keeps_uncredited child threads old new done takes =
       turn = ap (λ (q : View). q.turn) takes.tried.0 ∙ keeps.turn;
       row = ap (λ (q : View). q.row) takes.tried.0 ∙ keeps.row;
       hand = ap (λ (q : View). q.hand) takes.tried.0 ∙ keeps.hand;
+      left = ap (λ (q : View). q.left) takes.tried.0 ∙ keeps.left;
     }
 
 pub did_uncredit : (child threads : ℕ) (old new : View) (done : Bool) → TakesCreditBack child threads old done new → old.row ≡ None → Did [] None old new
@@ -155,6 +163,7 @@ did_uncredit child threads old new done takes none =
       who = keeps.who;
       hand = keeps.hand;
       row = keeps.row ∙ none;
+      left = record { entries = ap (λ (l : LastLeft). l.entries) keeps.left; folded = ap (λ (l : LastLeft). l.folded) keeps.left };
     }
 
 -- ## Editions

@@ -27,7 +27,7 @@ use Rattle.table_rule.specs.declared.view.View.{View}
 use Rattle.board_turns.specs.Books.{state_of}
 use Rattle.board_turns.specs.Rests.{TurnsRestOn}
 use Rattle.board_turns.specs.Turns.{HadATurn, HadTurn, state_found}
-use Rattle.listener_parts.specs.Closing.{HasNoLive, IsClosedDown}
+use Rattle.board_book.specs.ClosedDown.{HasNoLive, IsClosedDown}
 use Rattle.listener_parts.specs.Rounds.{OpenedWithNone}
 use Rattle.listener_parts.proofs.AloneLemmas.{state_behind}
 

@@ -1,7 +1,7 @@
 pub mod AloneLemmas
 pub mod DidLemmas
 pub mod DownLemmas
-pub mod FrameLemmas
+pub mod DroppedLemmas
 pub mod HeldLemmas
 pub mod LettingLemmas
 pub mod LingeringLemmas
@@ -10,4 +10,3 @@ pub mod NewLemmas
 pub mod RestLemmas
 pub mod RoundLemmas
 pub mod StopLemmas
-pub mod TimeLemmas

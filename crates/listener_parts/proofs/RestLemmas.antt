@@ -15,7 +15,7 @@ use Rattle.table_rule.specs.Histories.{Extends}
 use Rattle.board_turns.specs.Books.{state_of}
 use Rattle.board_turns.specs.Rests.{TurnsRestOn}
 use Rattle.board_turns.specs.Turns.{HadATurn, HadTurn, state_found}
-use Rattle.listener_turns.specs.Looks.{IsAtRest}
+use Rattle.board_book.specs.AtRest.{IsAtRest}
 use Rattle.listener_turns.proofs.ListenerLemmas.{parts_four}
 use Rattle.listener_turns.proofs.LookLemmas.{rest_stays}
 use Rattle.listener_parts.specs.Rounds.{IsRestedFor, OpenedWithNone, TicksAtOnce}
@@ -37,12 +37,6 @@ still_in law found events old new opened number rest t =
 none_added : (added : List Entry) → map (λ (e : Entry). e.event) added ≡ [] → added ≡ []
 none_added [] is = refl
 none_added (e ∷ added) is = absurd (cc)
-
--- a turn in which nothing was made left what the pass had seen
-pub still_seen : QuietTablesAreTheListeners → (old new : View) → old.who.number ≡ 0 → OpenedWithNone old → IsAtRest (state_of old) → HadATurn [] old new
-    → new.seen ≡ old.seen
-still_seen law old new number opened rest (found, t) =
-    t.seen ∙ ap (λ l. found ++ l) (none_added t.added t.events_are) ∙ append-nil found ∙ still_found law found [] old new opened number rest t
 
 -- it isn't refused in the first turn
 pub ticks_not : QuietTablesAreTheListeners → TurnsRestOn → (to : ℕ) (v u w : View) → u.who.number ≡ 0 → IsRestedFor to v → u ≡ v → HadATurn [] u w

@@ -22,11 +22,13 @@ use Rattle.board_turns.specs.Turns.{HadATurn, HadTurn, state_found}
 use Rattle.idle_workers.specs.Found.{TakesCreditBack}
 use Rattle.board_book.specs.Finds.{startable}
 use Rattle.listener_turns.specs.Children.{AreStarted}
-use Rattle.listener_turns.specs.Looks.{IsAtRest, LooksIdle}
+use Rattle.listener_turns.specs.Looks.{LooksIdle}
+use Rattle.board_book.specs.AtRest.{IsAtRest}
 use Rattle.listener_turns.specs.Signals.{SignalsAll, SignalsFirst, ready_events}
 use Rattle.listener_parts.specs.Did.{AreOfConns, Did, LeavesAlone}
 use Rattle.listener_parts.specs.Letting.{IsLateWay, LetsGo, gone_events}
-use Rattle.listener_parts.specs.Rounds.{AreAsked, AreCredits, IsStill, OpenedWithNone, PassesTime, RetiresSome, Signals, SignalsSome, StartsAsked, StartsAtFirst, StartsEach, StartsSome, TicksTo, WasFoundIdle, ticks_to, time_events}
+use Rattle.listener_parts.specs.Rounds.{AreAsked, AreCredits, IsStill, OpenedWithNone, PassesTime, RetiresSome, Signals, SignalsSome, StartsAsked, StartsAtFirst, StartsEach, StartsSome, TicksTo, WasFoundIdle, time_events}
+use Rattle.board_book.specs.Moments.{ticks_to}
 use Rattle.listener_parts.proofs.AloneLemmas.{alone_same, others_alone, ready_alone, state_behind, turn_alone}
 use Rattle.listener_parts.proofs.DidLemmas.{did_as, did_more, did_no_more, did_nothing, did_turn}
 use Rattle.listener_parts.proofs.DownLemmas.{down_found}

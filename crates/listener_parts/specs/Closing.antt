@@ -1,6 +1,5 @@
 -- How the server goes down: it stops, each connection that waits is closed, and each child is let go of.
-use Rattle.std.specs.Prelude.{◌≡◌, ◌⊎◌, ℕ, true, false, List, [], ◌∷◌, ◌++◌, map, Option, None, Some, ⊤}
-use Rattle.std.specs.List.{list_any}
+use Rattle.std.specs.Prelude.{◌≡◌, ◌⊎◌, ℕ, List, [], ◌∷◌, ◌++◌, map, Option, None, Some, ⊤}
 use Rattle.mpm_base.specs.declared.conn.Cause.{Cause}
 use Rattle.mpm_base.specs.declared.conn.Cause.TheVariants as cause
 use Rattle.mpm_base.specs.declared.conn.Tail.TheVariants as tail
@@ -9,9 +8,6 @@ use Rattle.conn_machine.specs.declared.event.Event.{Event}
 use Rattle.conn_machine.specs.declared.event.Event.TheVariants as event
 use Rattle.conn_machine.specs.declared.event.Why.{Why}
 use Rattle.conn_machine.specs.declared.event.Why.TheVariants as why
-use Rattle.conn_machine.specs.declared.state.State.{State}
-use Rattle.conn_machine.specs.Children.{child_at, is_empty}
-use Rattle.conn_machine.specs.Rows.{is_live}
 use Rattle.table_rule.specs.declared.view.View.{View}
 use Rattle.worker_group.specs.declared.service.Exit.{Exit}
 use Rattle.worker_group.specs.declared.service.Exit.TheVariants as exit
@@ -43,12 +39,3 @@ pub record ClosesDown (old new : View) : Type 0 where
   pub ways : AllLeftBy IsHaltedWay gone
   pub children : List ℕ
   pub did : Did (gone_events gone ++ map event.Retire children) None old new
-
--- no connection is live
-abbrev pub HasNoLive : State → Type 0
-HasNoLive s = list_any is_live s.rows ≡ false
-
--- no connection is live, and each child is gone
-pub record IsClosedDown (s : State) : Type 0 where
-  pub live : HasNoLive s
-  pub empty : (k : ℕ) → is_empty (child_at s.children k).phase ≡ true

@@ -1,17 +1,19 @@
 -- What a part of the listener's round was, said over what pass 0 has seen.
-use Rattle.std.specs.Prelude.{◌≡◌, List, [], ◌∷◌, ◌++◌, Option, ⊤}
+use Rattle.std.specs.Prelude.{◌≡◌, List, [], ◌∷◌, ◌++◌, Option, None, ⊤}
 use Rattle.mpm_base.specs.declared.conn.ConnName.{ConnName}
 use Rattle.conn_machine.specs.declared.event.Event.{Event}
 use Rattle.conn_machine.specs.declared.state.State.{State}
 use Rattle.conn_machine.specs.Table.{next}
 use Rattle.table_rule.specs.declared.view.View.{View}
 use Rattle.table_rule.specs.Histories.{Extends}
-use Rattle.board_turns.specs.Turns.{own_events}
+use Rattle.board_turns.specs.Turns.{KeepsLeft}
+use Rattle.conn_machine.specs.Made.{HasSeen}
+use Rattle.conn_machine.specs.Runs.{own_events}
 
 -- ## What it did
 
 -- in some turns, and by steps on idle words between them, the pass made these events; before, between and behind them others may have made
--- theirs. Behind it the pass has this connection, or none
+-- theirs. Behind it the pass has this connection, or none, and nothing was folded
 pub record Did (events : List Event) (has : Option ConnName) (old new : View) : Type 0 where
   pub goes_on : Extends old.seen new.seen
   pub made : own_events old.who.number new.seen ≡ own_events old.who.number old.seen ++ events
@@ -19,6 +21,15 @@ pub record Did (events : List Event) (has : Option ConnName) (old new : View) : 
   pub who : new.who ≡ old.who
   pub hand : new.hand ≡ old.hand
   pub row : new.row ≡ has
+  pub left : KeepsLeft old new
+
+-- the pass made nothing, and has no connection; others may have made theirs. Of what is folded nothing is said
+pub record OnlySees (old new : View) : Type 0 where
+  pub others : HasSeen old.who.number old.seen new.seen
+  pub origin : new.origin ≡ old.origin
+  pub who : new.who ≡ old.who
+  pub hand : new.hand ≡ old.hand
+  pub row : new.row ≡ None
 
 -- ## What it left alone
 

@@ -1,6 +1,5 @@
 -- The further parts of a round: time passes, slots are signalled, children are started and let go of, and what the next wait is told.
-use Rattle.std.specs.Prelude.{◌≡◌, ◌≢◌, ◌<◌, ℕ, true, List, [], ◌∷◌, ◌++◌, length, map, min, nat_lt, slice_index, None, Some, if◌then◌else◌}
-use Rattle.mpm_base.specs.Moment.{greatest_moment}
+use Rattle.std.specs.Prelude.{◌≡◌, ◌≢◌, ◌<◌, ℕ, true, List, [], ◌∷◌, ◌++◌, length, map, slice_index, None, Some}
 use Rattle.conn_machine.specs.declared.event.Entry.{Entry}
 use Rattle.conn_machine.specs.declared.event.Event.{Event}
 use Rattle.conn_machine.specs.declared.event.Event.TheVariants as event
@@ -10,12 +9,14 @@ use Rattle.conn_machine.specs.Runs.{first_row}
 use Rattle.conn_machine.specs.Table.{is_allowed}
 use Rattle.table_rule.specs.declared.view.View.{View}
 use Rattle.board_book.specs.Finds.{startable}
+use Rattle.board_book.specs.Moments.{ticks_to}
 use Rattle.board_turns.specs.Books.{state_of}
 use Rattle.board_turns.specs.Turns.{HadTurn, state_found}
 use Rattle.listener_turns.specs.Children.{AreStarted}
-use Rattle.listener_turns.specs.Looks.{IsAtRest, LooksIdle}
+use Rattle.listener_turns.specs.Looks.{LooksIdle}
+use Rattle.board_book.specs.AtRest.{IsAtRest}
 use Rattle.listener_turns.specs.Signals.{ready_events}
-use Rattle.listener_parts.specs.Closing.{HasNoLive}
+use Rattle.board_book.specs.ClosedDown.{HasNoLive}
 use Rattle.listener_parts.specs.Did.{Did}
 use Rattle.listener_parts.specs.Letting.{AllLeftBy, Departure, IsLateWay, gone_events}
 
@@ -26,14 +27,6 @@ abbrev pub OpenedWithNone : View → Type 0
 OpenedWithNone v = EachHasItsOwn v.origin.state (first_row (opening_record v.origin.passes))
 
 -- ## Time
-
--- the moment to which time passes, where it is later
-abbrev pub ticks_to : ℕ → ℕ → List ℕ
-ticks_to moment to = if nat_lt moment to then to ∷ [] else []
-
--- the moment that a clock's answer gives: it ends at the greatest one
-abbrev pub moment_for : ℕ → ℕ
-moment_for answer = min answer greatest_moment
 
 -- the events by which time passes
 abbrev pub time_events : List Departure → List ℕ → List Departure → List Event

@@ -4,17 +4,21 @@ ghost use Rattle.std.specs.Prelude.{◌≡◌, ◌≢◌, ◌<◌, [], None, tru
 ghost use Rattle.board_book.specs.Finds.{next_deadline_of};
 ghost use Rattle.board_turns.specs.Books.{state_of};
 ghost use Rattle.board_turns.specs.Turns.{IsListener};
-ghost use Rattle.listener_turns.specs.Looks.{IsAtRest, IsSeenIn};
-ghost use Rattle.listener_parts.specs.Did.{Did, LeavesAlone};
+ghost use Rattle.listener_turns.specs.Folds.{HasDropped};
+ghost use Rattle.listener_turns.specs.Looks.{IsSeenIn};
+ghost use Rattle.board_book.specs.AtRest.{IsAtRest};
+ghost use Rattle.listener_parts.specs.Did.{Did, LeavesAlone, OnlySees};
 ghost use Rattle.listener_parts.specs.Rounds.{AllWereIdle, AreCredits, IsStill, OpenedWithNone, WasFoundIdle};
 
 use crate::credits::{CHILDREN, Credits};
 use board::Board;
+use board::laws::{ended_connections_join, generations_keep_their_editions};
 use board_lock::{Pass, Shared};
 use board_turns::turns_rest_on_these;
 use conn_machine::laws_between_turns::{
     others_leave_the_rest_to_the_listener, quiet_tables_are_the_listeners,
 };
+use conn_machine::laws_of_runs::folds_are_one_fold;
 use conn_state::Known;
 use listener_turns::{Look, fold, is_idle};
 use mpm_base::{Link, Moment};
@@ -129,7 +133,7 @@ fn are_idle_of<L: Link, N: Known>(
 }
 
 /// Folds the history where it may be folded. Where memory lacks for that it stays as it is, until the next round. Behind a rest nobody did
-/// anything before.
+/// anything before. What is told of the connections that folds dropped goes on over it.
 pub fn fold_history<R: Wait, L: Link, N: Known>(
     rt: &R,
     shared: &Shared<Board<L, N>>,
@@ -140,8 +144,10 @@ pub fn fold_history<R: Wait, L: Link, N: Known>(
     requires none { pass.old.seat.me.0.row ≡ None }
     ensures own { pass.new.seat.table_id ≡ pass.old.seat.table_id }
     ensures listener { IsListener pass.new.seat.me }
-    ensures did { Did [] None pass.old.seat.me.0 pass.new.seat.me.0 }
+    ensures sees { OnlySees pass.old.seat.me.0 pass.new.seat.me.0 }
     ensures credits { pass.new.seat.me.0.credits ≡ pass.old.seat.me.0.credits }
+    ensures dropped { HasDropped N.known pass.old.seat.me.0
+        → HasDropped N.known pass.new.seat.me.0 }
     ensures rest { LeavesAlone (state_of pass.old.seat.me.0) (state_of pass.new.seat.me.0) }
     ensures still { OpenedWithNone pass.old.seat.me.0
         → IsAtRest (state_of pass.old.seat.me.0)
@@ -150,5 +156,8 @@ pub fn fold_history<R: Wait, L: Link, N: Known>(
     turns_rest_on_these();
     others_leave_the_rest_to_the_listener();
     quiet_tables_are_the_listeners();
+    folds_are_one_fold();
+    ended_connections_join();
+    generations_keep_their_editions();
     let _ = fold(rt, shared, pass);
 }

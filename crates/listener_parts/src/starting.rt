@@ -6,7 +6,7 @@ ghost use Rattle.board_book.specs.Faults.{IsRefusedFor};
 ghost use Rattle.board_book.specs.Finds.{startable};
 ghost use Rattle.board_turns.specs.Books.{book_of, state_of};
 ghost use Rattle.board_turns.specs.Turns.{IsListener};
-ghost use Rattle.listener_parts.specs.Closing.{HasNoLive};
+ghost use Rattle.board_book.specs.ClosedDown.{HasNoLive};
 ghost use Rattle.listener_parts.specs.Did.{StandsAs};
 ghost use Rattle.listener_parts.specs.Rounds.{AreCredits, NoneHasCredit, OpenedWithNone, RetiresSome, StartsAtFirst, StartsEach, StartsSome};
 

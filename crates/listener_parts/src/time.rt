@@ -7,7 +7,8 @@ ghost use Rattle.board_turns.specs.Carries.{Lasts};
 ghost use Rattle.board_turns.specs.Turns.{IsListener};
 ghost use Rattle.listener_parts.specs.Did.{LeavesAlone};
 ghost use Rattle.listener_parts.specs.Letting.{IsLateWay, LetsGo, LetsGoOfConns, LetsGoUntil};
-ghost use Rattle.listener_parts.specs.Rounds.{IsRestedFor, PassesTime, Signals, SignalsSome, TicksAtOnce, TicksTo, moment_for};
+ghost use Rattle.listener_parts.specs.Rounds.{IsRestedFor, PassesTime, Signals, SignalsSome, TicksAtOnce, TicksTo};
+ghost use Rattle.board_book.specs.Moments.{moment_for};
 
 use crate::draining::drain_all;
 use crate::letting::{let_go_late, let_go_retiring};

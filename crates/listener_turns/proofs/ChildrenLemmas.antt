@@ -1,5 +1,5 @@
 -- Children that start, get their credit, or are let go of.
-use Rattle.std.proofs.Common.{◌≡◌, ℕ, zero, suc, ◌+◌, ◌<◌, ◌≤◌, Bool, true, false, not, ◌&&◌, cond, List, [], ◌∷◌, ◌++◌, length, map, count_by, nat_lt, nat_le, Option, None, Some, slice_get, refl, sym, ap, subst, ◌∙◌, arith}
+use Rattle.std.proofs.Common.{◌≡◌, ℕ, zero, suc, ◌+◌, ◌<◌, ◌≤◌, Bool, true, false, not, ◌&&◌, cond, List, [], ◌∷◌, ◌++◌, length, map, count_by, nat_lt, nat_le, Option, None, Some, slice_get, refl, sym, ap, subst, ◌∙◌, append-nil, arith}
 use Rattle.std.proofs.lemmas.Bool.{and_parts}
 use Rattle.std.proofs.lemmas.Bool.Decides.{nat_tests}
 use Rattle.std.proofs.lemmas.List.{map-append}
@@ -37,6 +37,7 @@ use Rattle.board_turns.specs.Rests.{TurnsRestOn}
 use Rattle.board_turns.specs.Turns.{HadTurn, IsListener, state_found}
 use Rattle.board_turns.proofs.FoundLemmas.{own_row, same_state}
 use Rattle.board_turns.proofs.GoesOnLemmas.{free_then, same_seen}
+use Rattle.board_turns.proofs.ThenLemmas.{left_by}
 use Rattle.listener_turns.specs.Children.{AreStarted}
 use Rattle.listener_turns.specs.Credits.{HadCreditTurn}
 use Rattle.listener_turns.specs.PartsInside.{MadeEvents}
@@ -272,5 +273,8 @@ module _ {K : Type 0} (v w x u : Me (Option K) View) (b : SeenBoard) (child thre
           who = ap (λ (q : View). q.who) gave.view ∙ ap (λ (q : View). q.who) is ∙ ap (λ (q : View). q.who) took.view;
           hand = ap (λ (q : View). q.hand) gave.view ∙ ap (λ (q : View). q.hand) is ∙ ap (λ (q : View). q.hand) took.view;
           turn = ap (λ (q : View). q.turn) gave.view;
+          left = left_by v.0 x.0 u.0 (ledger_of b) (ledger_of b) w.0.seen [] f (ap (λ (q : View). q.who.number) is ∙ ap (λ (q : View). q.who.number) took.view)
+              (ap (λ (q : View). q.left) is ∙ ap (λ (q : View). q.left) took.view) gave.is_left refl (sym (append-nil b.book.history))
+              (seen ∙ sym (append-nil w.0.seen));
         },
       )

@@ -7,7 +7,8 @@ ghost use Rattle.conn_machine.specs.Rows.{is_live};
 ghost use Rattle.conn_machine.specs.Shown.{totals_of};
 ghost use Rattle.board_turns.specs.Books.{state_of};
 ghost use Rattle.board_turns.specs.Turns.{HadATurn, IsListener};
-ghost use Rattle.listener_turns.specs.Looks.{IsAtRest, IsSeenIn, LooksIdle};
+ghost use Rattle.listener_turns.specs.Looks.{IsSeenIn, LooksIdle};
+ghost use Rattle.board_book.specs.AtRest.{IsAtRest};
 
 use board::Board;
 use board_lock::{Pass, Shared};

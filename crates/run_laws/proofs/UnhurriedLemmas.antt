@@ -9,7 +9,7 @@ use Rattle.mpm_base.specs.Front.{FrontTold, WaitTold, is_woken, moments_in, mome
 use Rattle.mpm_base.specs.declared.front.Woke.{Woke}
 use Rattle.mpm_base.specs.declared.front.Woke.TheVariants as woke
 use Rattle.conn_machine.specs.Made.{AreMade, AreMadeBehind}
-use Rattle.conn_machine.specs.Runs.{after, entries_of, is_of_pass, may_make, row_from}
+use Rattle.conn_machine.specs.Runs.{after, entries_of, is_of_pass, may_make, row_from, AllAt}
 use Rattle.conn_machine.specs.declared.event.Entry.{Entry}
 use Rattle.conn_machine.specs.declared.event.Event.{Event}
 use Rattle.conn_machine.specs.declared.event.Event.TheVariants as event
@@ -20,7 +20,6 @@ use Rattle.listener.specs.FirstNumbers.{folded_by, numbers_of, opened_by}
 use Rattle.listener.specs.Pace.{AreSharesOf, Brought, Share, answer_if, answers_in, brought, brought_in, moved, ticked}
 use Rattle.listener.specs.Patient.{ArePatient, IsPatientEvent}
 use Rattle.listener.specs.Times.{answers_of}
-use Rattle.rounds.specs.Timely.{AllAt}
 use Rattle.script_front.specs.ScriptFront.{comings_of}
 use Rattle.script_run.specs.Played.{HasPlayed}
 use Rattle.script_run.specs.declared.scripted.Scripted.{Scripted}

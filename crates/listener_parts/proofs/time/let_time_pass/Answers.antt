@@ -1,6 +1,7 @@
 use Rattle.std.proofs.Common.{◌≡◌, sym, ◌∙◌, subst, nat_lt, true, false, arith}
 use Rattle.board_turns.specs.Books.{state_of}
-use Rattle.listener_parts.specs.Rounds.{IsRestedFor, TicksAtOnce, TicksTo, moment_for}
+use Rattle.listener_parts.specs.Rounds.{IsRestedFor, TicksAtOnce, TicksTo}
+use Rattle.board_book.specs.Moments.{moment_for}
 use Rattle.listener_parts.proofs.RestLemmas.{rested_later, ticks_on}
 use Rattle.listener_parts.proofs.RoundLemmas.{alone_late, alone_moment, is_below, later_is, not_below, passes_later, passes_none, present_is}
 use Rattle.listener_parts.proofs.time.let_time_pass.Goals as goal

@@ -1,5 +1,5 @@
 use Rattle.std.proofs.Common.{◌≡◌, ℕ, ◌<◌, [], ◌∙◌, Bool, List, None, option_map, true, false, inl, inr, ap, refl, sym, subst, rules}
-use Rattle.conn_machine.specs.States.{is_halted}
+use Rattle.conn_machine.specs.States.{is_halted, is_staffed}
 use Rattle.worker_group.specs.Acts.{Acts}
 use Rattle.rounds.specs.ClosingInside.{IsLateWay}
 use Rattle.listener.specs.CountedInside.{CountsOn, CountsUntil}
@@ -7,10 +7,9 @@ use Rattle.listener.specs.HeardInside.{Hears, HearsUntil, hearing, last_if, made
 use Rattle.listener.specs.OrdersInside.{KnowsComing, ServesNewest, owed_by}
 use Rattle.listener.specs.RoundInside.{BreaksOff}
 use Rattle.rounds.specs.PartsInside.{SignalsFirst, StaysTimely, signal_events}
-use Rattle.rounds.specs.Timely.{is_staffed}
 use Rattle.listener.specs.ShareInside.{CutsShare, DoesAsked, stop_if}
 use Rattle.listener.specs.StandingInside.{StandsBroken, standing}
-use Rattle.rounds.specs.Moments.{moment_for}
+use Rattle.board_book.specs.Moments.{moment_for}
 use Rattle.listener.specs.declared.edition.LoadedEdition.{LoadedEdition}
 use Rattle.listener.specs.declared.edition.NamedConfig.{NamedConfig}
 use Rattle.listener.proofs.CommandLemmas.{all-read, heeded-takes}
