@@ -18,6 +18,7 @@ use Rattle.conn_machine.specs.declared.state.State.{State}
 use Rattle.conn_machine.specs.BetweenTurns.{QuietTablesAreTheListeners}
 use Rattle.conn_machine.specs.Children.{child_at, is_empty, is_running, is_stopping, no_child}
 use Rattle.conn_machine.specs.Folds.{opening_record}
+use Rattle.conn_machine.specs.Made.{AreMade, HasSeen}
 use Rattle.conn_machine.specs.Rows.{is_live, is_live_in, is_parked, is_unused, is_with_a_pass}
 use Rattle.conn_machine.specs.Runs.{after, entries_of}
 use Rattle.conn_machine.specs.Sound.{IsSound}
@@ -77,15 +78,21 @@ not_due s slot r parked = rw parked (and_false (is_signalled s slot))
 
 -- ## What a turn finds then
 
+-- where no connection is live, nobody but the listener adds an entry
+pub down_seen : QuietTablesAreTheListeners → (v : View) (history : List Entry) → OpenedWithNone v → v.who.number ≡ 0 → HasNoLive (state_of v)
+    → AreMade v.origin.state (opening_record v.origin.passes) history → HasSeen v.who.number v.seen history → history ≡ v.seen
+down_seen law v history opened number none made seen =
+    let s = state_of v in
+    law v.origin.state (opening_record v.origin.passes) v.seen history opened made
+    (seen.0, seen.1, subst (λ p. entries_of p seen.0 ≡ []) number seen.2)
+    (record { each = λ slot r at. unused_hand r.place (none_at s.rows slot r none at) })
+    (λ slot r at. not_due s slot r (unused_parked r.place (none_at s.rows slot r none at)))
+
 -- the turn found what the pass had seen
 pub down_found : QuietTablesAreTheListeners → (found : List Entry) (events : List Event) (old new : View) → OpenedWithNone old → old.who.number ≡ 0
     → HasNoLive (state_of old) → HadTurn found events old new → found ≡ old.seen
 down_found law found events old new opened number none t =
-    let s = state_of old in
-    law old.origin.state (opening_record old.origin.passes) old.seen found opened t.made
-    (t.others.0, t.others.1, subst (λ p. entries_of p t.others.0 ≡ []) number t.others.2)
-    (record { each = λ slot r at. unused_hand r.place (none_at s.rows slot r none at) })
-    (λ slot r at. not_due s slot r (unused_parked r.place (none_at s.rows slot r none at)))
+    down_seen law old found opened number none t.made t.others
 
 -- ## Children that are let go of
 
