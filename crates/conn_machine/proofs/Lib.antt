@@ -29,6 +29,7 @@ pub mod NameLaw
 pub mod NamedLaw
 pub mod NoteLaw
 pub mod OneFoldLemmas
+pub mod OwnKindsLaw
 pub mod OwnRows
 pub mod OwnerLaw
 pub mod PassLaw

@@ -1,6 +1,7 @@
 -- What the listener alone decides of a state, and what its own events make of it.
-use Rattle.std.specs.Prelude.{◌≡◌, ℕ, ◌+◌, List, ◌++◌, fold}
+use Rattle.std.specs.Prelude.{◌≡◌, ℕ, ◌+◌, List, ◌∷◌, ◌++◌, Some, filter, fold}
 use Rattle.mpm_base.specs.Count.{next_count}
+use Rattle.mpm_base.specs.declared.conn.ConnName.{ConnName}
 use Rattle.mpm_base.specs.declared.shape.Shape.{Shape}
 use Rattle.conn_machine.specs.declared.child.Child.{Child}
 use Rattle.conn_machine.specs.declared.event.Commanded.{Commanded}
@@ -13,9 +14,10 @@ use Rattle.conn_machine.specs.declared.state.Going.{Going}
 use Rattle.conn_machine.specs.declared.state.Going.TheVariants.{Ending, Halted}
 use Rattle.conn_machine.specs.declared.state.State.{State}
 use Rattle.conn_machine.specs.Children.{all_stopped, retired_child, started_child}
+use Rattle.conn_machine.specs.Events.{conn_needed, is_listeners}
 use Rattle.conn_machine.specs.Lists.{update}
 use Rattle.conn_machine.specs.Made.{AreMade}
-use Rattle.conn_machine.specs.Runs.{after, own_events}
+use Rattle.conn_machine.specs.Runs.{after, entries_of, own_events, taken_name}
 use Rattle.conn_machine.specs.Table.{next}
 
 -- the moment, how many connections were taken, the newest generation and its shape, how the server goes on, and its children
@@ -84,3 +86,18 @@ pub record OwnEventsTellTheFrame : Type 0 where
       → AreMade base f new
       → own_events 0 new ≡ own_events 0 old ++ events
       → frame_of (after base new) ≡ frames (frame_of (after base old)) events
+
+-- whatever others did between them, what is gathered from events of the kinds that the listener alone makes is gathered from its own; and a
+-- connection that it took has the name that its next event asks for
+pub record OwnEventsTellWhatWasTaken : Type 0 where
+  pub kinds : (base : State) (f : Folded) (history : List Entry)
+      → AreMade base f history
+      → filter (λ e. is_listeners e.event) history
+      ≡ filter (λ e. is_listeners e.event) (entries_of 0 history)
+  pub named : (base : State) (f : Folded) (history before rest : List Entry) (took next_one : Entry)
+      (slot : ℕ) (name : ConnName)
+      → AreMade base f history
+      → entries_of 0 history ≡ before ++ took ∷ next_one ∷ rest
+      → took.event ≡ event.Accept slot
+      → conn_needed next_one.event ≡ Some name
+      → taken_name took.reply ≡ Some name

@@ -2,7 +2,7 @@
 //! nothing, and stands in full in `specs/BetweenTurns.antt` or `specs/Frames.antt`. That a pass keeps its connection, and the row of it stays, is said by `laws`.
 //! Why it is so stands in docs/DECISIONS.md: 102, What a turn teaches.
 ghost use Rattle.conn_machine.specs.BetweenTurns.{StoppedServersStayStopped, OthersLeaveTheRestToTheListener, QuietTablesAreTheListeners, StartedChildrenHaveNobodysConnection, NothingIsDoneBehindTheEnd};
-ghost use Rattle.conn_machine.specs.Frames.{OwnEventsTellTheFrame};
+ghost use Rattle.conn_machine.specs.Frames.{OwnEventsTellTheFrame, OwnEventsTellWhatWasTaken};
 
 /// A server that has stopped stays so, for the same reason, whatever is done behind that.
 pub fn stopped_servers_stay_stopped()
@@ -36,4 +36,9 @@ pub fn nothing_is_done_behind_the_end()
 /// What the listener alone decides of a state follows from its own events, whatever others did between them.
 pub fn own_events_tell_the_frame()
     ensures { OwnEventsTellTheFrame }
+{}
+
+/// What the listener alone makes is told by its own events, and under which name it took a connection by its next one.
+pub fn own_events_tell_what_was_taken()
+    ensures { OwnEventsTellWhatWasTaken }
 {}

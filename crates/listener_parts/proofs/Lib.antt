@@ -7,6 +7,7 @@ pub mod LettingLemmas
 pub mod LingeringLemmas
 pub mod MadeLemmas
 pub mod NewLemmas
+pub mod OrderLemmas
 pub mod RestLemmas
 pub mod RoundLemmas
 pub mod StopLemmas

@@ -2,7 +2,7 @@
 //! but the links of connections that it holds.
 //!
 //! A round lets time pass, signals slots, lets go of connections that retire, are late or linger, lets go of children, starts children
-//! and takes connections, and finds what the next wait is told; behind the last one the server goes down. Each part takes some turns, and
+//! and takes connections, does orders, and finds what the next wait is told; behind the last one the server goes down. Each part takes some turns, and
 //! between two of them others may act. So it says which events its pass made, in order (`specs/Did.antt`), and of the state what
 //! the listener alone decides, as it stands behind all that the pass has seen. What is to be done is found in the turn that does it; links
 //! are called between two turns. Where a part has to repeat a turn until there is nothing left for it, no measure of the table bounds that,
@@ -13,6 +13,7 @@ mod closing;
 mod credits;
 mod draining;
 mod letting;
+mod ordering;
 mod rest;
 mod starting;
 mod taking;
@@ -22,6 +23,7 @@ pub use closing::{close_down, close_waiting, stop};
 pub use credits::{Credits, credit_all, take_all_credits_back, take_credit_back};
 pub use draining::drain_all;
 pub use letting::{let_go_late, let_go_retiring};
+pub use ordering::order;
 pub use rest::{Rest, fold_history, rest_of};
 pub use starting::{Workers, retire_all, retire_rest, start_first, start_further};
 pub use taking::{accept_one, settle, take};
