@@ -16,6 +16,7 @@ use Rattle.conn_machine.specs.declared.kept.Ledger.{Ledger}
 use Rattle.conn_machine.specs.declared.row.Row.{Row}
 use Rattle.conn_machine.specs.declared.state.State.{State}
 use Rattle.conn_machine.specs.Folds.{opening_record}
+use Rattle.conn_machine.specs.Made.{AreMade}
 use Rattle.conn_machine.specs.Rows.{is_queued, is_working, live_row, lives_and}
 use Rattle.conn_machine.specs.Runs.{after, has_after, row_of}
 use Rattle.conn_machine.specs.Sound.{IsSound}
@@ -47,6 +48,7 @@ use Rattle.board_turns.specs.Turns.{IsListener, KeepsLeft, StaysAs}
 use Rattle.board_turns.specs.Rests.{TurnsRestOn}
 use Rattle.board_turns.proofs.FoundLemmas.{left_of, own_row, same_live, same_state}
 use Rattle.board_turns.proofs.GoesOnLemmas.{free_then, same_seen, seen_then}
+use Rattle.board_turns.proofs.MadeLemmas.{made_adds}
 
 -- ## Of each turn
 
@@ -94,12 +96,29 @@ left_kept v w u found left added took gave record_is more seen =
     left_by v.0 w.0 u.0 found left w.0.seen added took.is_found (ap (λ (q : View). q.who.number) took.view) (ap (λ (q : View). q.left) took.view) gave.is_left
     record_is more seen
 
+-- each entry that the pass has seen then was made by its pass
+pub made_then : {K : Type 0} (v w u : Me (Option K) View) (found left : Ledger) → TookTurn v w found → GaveBack w u left
+    → AreMade u.0.origin.state (opening_record u.0.origin.passes) u.0.seen
+made_then v w u found left took gave =
+    let took_in : w.0.origin ≡ v.0.origin = ap (λ (q : View). q.origin) took.view in
+    let gave_in : u.0.origin ≡ w.0.origin = ap (λ (q : View). q.origin) gave.view in
+    subst (λ (o : Origin). AreMade o.state (opening_record o.passes) u.0.seen) (sym gave_in)
+    (made_adds w.0.who.number w.0.origin.state (opening_record w.0.origin.passes) w.0.seen u.0.seen
+    (subst (λ (o : Origin). AreMade o.state (opening_record o.passes) w.0.seen) (sym took_in) took.is_found.made) gave.adds)
+
 -- pass 0 stays pass 0
+pub listens_then : {K : Type 0} (v w u : Me (Option K) View) (found left : Ledger) → TookTurn v w found → GaveBack w u left → v.0.who.number ≡ 0 → IsListener u
+listens_then v w u found left took gave number =
+    let stays = stays_as v w u found left took gave in
+    record {
+      turnless = free_then w u left gave;
+      number = ap (λ (p : Who). p.number) stays.who ∙ number;
+      made = made_then v w u found left took gave;
+      row_is = stays.row ∙ ap (λ p. row_of p u.0.seen) number;
+    }
+
 pub listener_then : {K : Type 0} (v w u : Me (Option K) View) (found left : Ledger) → TookTurn v w found → GaveBack w u left → IsListener v → IsListener u
-listener_then v w u found left took gave is = record {
-  turnless = free_then w u left gave;
-  number = ap (λ (p : Who). p.number) (stays_as v w u found left took gave).who ∙ is.number;
-}
+listener_then v w u found left took gave is = listens_then v w u found left took gave is.number
 
 -- ## Of a turn in which nothing was done
 

@@ -74,7 +74,9 @@ pub record HadTurns (events : List Event) (old new : View) : Type 0 where
 
 -- ## Who has one
 
--- pass 0, which has no turn
+-- pass 0, which has no turn: each entry that it has seen was made by its pass as it might be, and it has the connection that its own left it
 pub record IsListener {S : Type 0} (me : Me S View) : Type 0 where
   pub turnless : HasNoTurn me
   pub number : me.0.who.number ≡ 0
+  pub made : AreMade me.0.origin.state (opening_record me.0.origin.passes) me.0.seen
+  pub row_is : me.0.row ≡ row_of 0 me.0.seen

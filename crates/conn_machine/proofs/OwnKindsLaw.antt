@@ -111,45 +111,54 @@ has_it had name has =
     same a b slot life = ap (λ (s : ℕ). Some (record { slot = s; life = a.life })) slot ∙ ap (λ (l : ℕ). Some (record { slot = b.slot; life = l })) (sym life)
 
 module _ (base : State) (f : Folded) (took next_one : Entry) (rest : List Entry) (name : ConnName) (needs : conn_needed next_one.event ≡ Some name) where
+  -- the entry behind which it stands, or one that goes on
+  behind_cons : (before : List Entry) (e : Entry) (history : List Entry) (b : Bool) → (e.pass == 0) ≡ b → row_from f 0 before ≡ taken_name took.reply
+      → IsNextOf e.pass base f before e → entries_of 0 (e ∷ history) ≡ next_one ∷ rest
+      → (row_from f 0 (before ++ e ∷ []) ≡ taken_name took.reply → entries_of 0 history ≡ next_one ∷ rest → taken_name took.reply ≡ Some name)
+      → taken_name took.reply ≡ Some name
+  behind_cons before e history true is row made own on =
+      let here : e ∷ entries_of 0 history ≡ next_one ∷ rest = sym (own_first e history is) ∙ own in
+      let one : e ≡ next_one = first_of_lists e (entries_of 0 history) next_one rest here in
+      let zero_is : e.pass ≡ 0 = eqb-true e.pass 0 is in
+      let role : may_make e.pass (row_from f 0 before) e.event ≡ true =
+      subst (λ (p : ℕ). may_make e.pass (row_from f p before) e.event ≡ true) zero_is made.role in
+      let asks : conn_needed e.event ≡ Some name = ap (λ (x : Entry). conn_needed x.event) one ∙ needs in
+      sym row ∙ has_it (row_from f 0 before) name (needs_it e.pass (row_from f 0 before) e.event name asks role)
+  behind_cons before e history false is row made own on = on (row_other f 0 before e (not_zero e is) ∙ row) (sym (other_first e history is) ∙ own)
+
   -- behind the entry that took it, while others go on
   behind_took : (before history : List Entry) → row_from f 0 before ≡ taken_name took.reply → AreMadeBehind base f before history
       → entries_of 0 history ≡ next_one ∷ rest → taken_name took.reply ≡ Some name
   behind_took before [] row made own = absurd (cc)
-  behind_took before (e ∷ history) row made own = by (e.pass == 0) refl
-    where
-      by : (b : Bool) → (e.pass == 0) ≡ b → taken_name took.reply ≡ Some name
-      by true is =
-          let here : e ∷ entries_of 0 history ≡ next_one ∷ rest = sym (own_first e history is) ∙ own in
-          let one : e ≡ next_one = first_of_lists e (entries_of 0 history) next_one rest here in
-          let zero_is : e.pass ≡ 0 = eqb-true e.pass 0 is in
-          let role : may_make e.pass (row_from f 0 before) e.event ≡ true =
-          subst (λ (p : ℕ). may_make e.pass (row_from f p before) e.event ≡ true) zero_is made.0.role in
-          let asks : conn_needed e.event ≡ Some name = ap (λ (x : Entry). conn_needed x.event) one ∙ needs in
-          sym row ∙ has_it (row_from f 0 before) name (needs_it e.pass (row_from f 0 before) e.event name asks role)
-      by false is =
-          behind_took (before ++ e ∷ []) history (row_other f 0 before e (not_zero e is) ∙ row) made.1 (sym (other_first e history is) ∙ own)
+  behind_took before (e ∷ history) row made own =
+      behind_cons before e history (e.pass == 0) refl row made.0 own
+      (λ later own'. behind_took (before ++ e ∷ []) history later made.1 own')
 
-  -- the entry itself, wherever it stands
+  -- the entry itself, or one before it
+  took_cons : (slot : ℕ) → took.event ≡ event.Accept slot → (before : List Entry) (e : Entry) (history : List Entry) (b : Bool) → (e.pass == 0) ≡ b
+      → AreMadeBehind base f (before ++ e ∷ []) history → (front : List Entry) → entries_of 0 (e ∷ history) ≡ front ++ took ∷ next_one ∷ rest
+      → ((front' : List Entry) → entries_of 0 history ≡ front' ++ took ∷ next_one ∷ rest → taken_name took.reply ≡ Some name)
+      → taken_name took.reply ≡ Some name
+  took_cons slot accepts before e history false is made front own on = on front (sym (other_first e history is) ∙ own)
+  took_cons slot accepts before e history true is made (x ∷ front) own on =
+      on front (rest_of_lists e (entries_of 0 history) x (front ++ took ∷ next_one ∷ rest) (sym (own_first e history is) ∙ own))
+  took_cons slot accepts before e history true is made [] own on =
+      let here : e ∷ entries_of 0 history ≡ took ∷ next_one ∷ rest = sym (own_first e history is) ∙ own in
+      let one : e ≡ took = first_of_lists e (entries_of 0 history) took (next_one ∷ rest) here in
+      let zero_is : e.pass ≡ 0 = eqb-true e.pass 0 is in
+      let row : row_from f 0 (before ++ e ∷ []) ≡ taken_name took.reply =
+      row_own f 0 before e zero_is ∙ ap (λ (x : Entry). has_after (row_from f 0 before) x.event x.reply) one
+      ∙ ap (λ (d : Event). has_after (row_from f 0 before) d took.reply) accepts in
+      behind_took (before ++ e ∷ []) history row made (rest_of_lists e (entries_of 0 history) took (next_one ∷ rest) here)
+
+  -- wherever it stands
   took_at : (slot : ℕ) → took.event ≡ event.Accept slot → (before history : List Entry) → AreMadeBehind base f before history → (front : List Entry)
       → entries_of 0 history ≡ front ++ took ∷ next_one ∷ rest → taken_name took.reply ≡ Some name
   took_at slot accepts before [] made [] own = absurd (cc)
   took_at slot accepts before [] made (x ∷ front) own = absurd (cc)
-  took_at slot accepts before (e ∷ history) made front own = by (e.pass == 0) refl front own
-    where
-      by : (b : Bool) → (e.pass == 0) ≡ b → (front : List Entry) → entries_of 0 (e ∷ history) ≡ front ++ took ∷ next_one ∷ rest → taken_name took.reply ≡ Some name
-      by false is front own =
-          took_at slot accepts (before ++ e ∷ []) history made.1 front (sym (other_first e history is) ∙ own)
-      by true is (x ∷ front) own =
-          took_at slot accepts (before ++ e ∷ []) history made.1 front
-          (rest_of_lists e (entries_of 0 history) x (front ++ took ∷ next_one ∷ rest) (sym (own_first e history is) ∙ own))
-      by true is [] own =
-          let here : e ∷ entries_of 0 history ≡ took ∷ next_one ∷ rest = sym (own_first e history is) ∙ own in
-          let one : e ≡ took = first_of_lists e (entries_of 0 history) took (next_one ∷ rest) here in
-          let zero_is : e.pass ≡ 0 = eqb-true e.pass 0 is in
-          let row : row_from f 0 (before ++ e ∷ []) ≡ taken_name took.reply =
-          row_own f 0 before e zero_is ∙ ap (λ (x : Entry). has_after (row_from f 0 before) x.event x.reply) one
-          ∙ ap (λ (d : Event). has_after (row_from f 0 before) d took.reply) accepts in
-          behind_took (before ++ e ∷ []) history row made.1 (rest_of_lists e (entries_of 0 history) took (next_one ∷ rest) here)
+  took_at slot accepts before (e ∷ history) made front own =
+      took_cons slot accepts before e history (e.pass == 0) refl made.1 front own
+      (λ front' own'. took_at slot accepts (before ++ e ∷ []) history made.1 front' own')
 
 pub named_by_next : (base : State) (f : Folded) (history before rest : List Entry) (took next_one : Entry) (slot : ℕ) (name : ConnName) → AreMade base f history
     → entries_of 0 history ≡ before ++ took ∷ next_one ∷ rest → took.event ≡ event.Accept slot → conn_needed next_one.event ≡ Some name

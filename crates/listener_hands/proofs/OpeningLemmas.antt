@@ -11,8 +11,9 @@ use Rattle.conn_machine.specs.declared.row.Row.{Row}
 use Rattle.conn_machine.specs.Folds.{fold_of, opening_record}
 use Rattle.conn_machine.specs.HistoryLaws.{FoldsAreOneFold}
 use Rattle.conn_machine.specs.MachineLaws.{EachPassHasItsOwnConnection}
-use Rattle.conn_machine.specs.Made.{IsOpened}
+use Rattle.conn_machine.specs.Made.{AreMade, IsOpened}
 use Rattle.conn_machine.specs.Rows.{is_live}
+use Rattle.conn_machine.specs.Runs.{row_of}
 use Rattle.conn_machine.specs.States.{opening_state, unused_row}
 use Rattle.conn_state.specs.Known.{KnownOutside}
 use Rattle.table_rule.specs.declared.view.Origin.{Origin}
@@ -59,6 +60,8 @@ module _ {S : Type 0} (origin : Origin) (me : Me S View) (is : me ≡ (fresh_vie
   first_listens = record {
     turnless = record { hand = ap (λ (m : Me S View). m.1) is; turn = ap (λ (q : View). q.turn) view };
     number = ap (λ (q : View). q.who.number) view;
+    made = subst (λ (q : View). AreMade q.origin.state (opening_record q.origin.passes) q.seen) (sym view) tt;
+    row_is = ap (λ (q : View). q.row) view ∙ ap (λ (q : View). row_of 0 q.seen) (sym view);
   }
 
   pub first_opens : OpensAt origin me.0

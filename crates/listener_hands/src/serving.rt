@@ -1,5 +1,5 @@
 //! The listener serves what it pushed itself, where no worker has a thread.
-ghost use Rattle.std.specs.Prelude.{◌≡◌, ◌<◌, vec_len};
+ghost use Rattle.std.specs.Prelude.{◌≡◌, ◌≤◌, vec_len};
 ghost use Rattle.recycle_perch.specs.Looking.{AreOf};
 
 use crate::lines::Line;
@@ -53,6 +53,7 @@ pub struct WorksHere<'a, 'b, M: Room, L: Link, N: Known, B: Bell, G: Gate> {
     pub looks: Looks,
     pub lines: Vec<Line<'a, M, L, N>>,
     ghost looks_of: { AreOf hands.now.perch.now.places looks },
+    ghost few: { vec_len lines ≤ 32 },
 }
 
 impl<M: Room, L: Link, N: Known, B: Bell, G: Gate> Workers for WorksHere<'_, '_, M, L, N, B, G> {

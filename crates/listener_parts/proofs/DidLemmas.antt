@@ -9,8 +9,8 @@ use Rattle.file_table.specs.Site.{SeenSite}
 use Rattle.conn_machine.specs.declared.event.Entry.{Entry}
 use Rattle.conn_machine.specs.declared.event.Event.{Event}
 use Rattle.conn_machine.specs.Folds.{opening_record}
-use Rattle.conn_machine.specs.Made.{HasSeen}
-use Rattle.conn_machine.specs.Runs.{entries_of, is_of_pass, own_events}
+use Rattle.conn_machine.specs.Made.{AreMade, HasSeen}
+use Rattle.conn_machine.specs.Runs.{entries_of, is_of_pass, own_events, row_of}
 use Rattle.conn_state.specs.Known.{KnownOutside}
 use Rattle.table_rule.specs.declared.view.LastLeft.{LastLeft}
 use Rattle.table_rule.specs.declared.view.Origin.{Origin}
@@ -186,4 +186,8 @@ listener_uncredited child threads old new done hand takes is =
     record {
       turnless = record { hand = hand ∙ is.turnless.hand; turn = keeps.turn ∙ is.turnless.turn };
       number = ap (λ (w : Who). w.number) keeps.who ∙ is.number;
+      made =
+          subst (λ (o : Origin). AreMade o.state (opening_record o.passes) new.0.seen) (sym keeps.origin)
+          (subst (AreMade old.0.origin.state (opening_record old.0.origin.passes)) (sym keeps.seen) is.made);
+      row_is = keeps.row ∙ is.row_is ∙ ap (row_of 0) (sym keeps.seen);
     }

@@ -11,3 +11,4 @@ pub mod OrderLemmas
 pub mod RestLemmas
 pub mod RoundLemmas
 pub mod StopLemmas
+pub mod TimesLemmas

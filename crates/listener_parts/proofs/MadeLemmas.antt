@@ -10,26 +10,8 @@ use Rattle.conn_machine.specs.Runs.{AreEntriesOf, IsNextOf}
 use Rattle.table_rule.specs.declared.view.Origin.{Origin}
 use Rattle.table_rule.specs.declared.view.View.{View}
 use Rattle.board_turns.specs.Turns.{HadATurn}
+use Rattle.board_turns.proofs.MadeLemmas.{entries_made, made_join}
 use Rattle.listener_turns.specs.Looks.{LooksIdle}
-
--- ## Histories
-
--- what a pass may add behind a history is made behind it
-entries_made : (p : ℕ) (base : State) (f : Folded) (history added : List Entry) → AreEntriesOf p base f history added → AreMadeBehind base f history added
-entries_made p base f history [] are = tt
-entries_made p base f history (e ∷ added) are = (
-  subst (λ (q : ℕ). IsNextOf q base f history e) (sym are.0.pass) are.0,
-  entries_made p base f (history ++ e ∷ []) added are.1,
-)
-
--- and both are made as one
-pub made_join : (base : State) (f : Folded) (before xs ys : List Entry) → AreMadeBehind base f before xs → AreMadeBehind base f (before ++ xs) ys
-    → AreMadeBehind base f before (xs ++ ys)
-made_join base f before [] ys first second = subst (λ (l : List Entry). AreMadeBehind base f l ys) (append-nil before) second
-made_join base f before (x ∷ xs) ys first second = (
-  first.0,
-  made_join base f (before ++ x ∷ []) xs ys first.1 (subst (λ (l : List Entry). AreMadeBehind base f l ys) (sym (append_assoc before (x ∷ []) xs)) second),
-)
 
 -- ## Behind a turn
 

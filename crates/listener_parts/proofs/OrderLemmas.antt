@@ -129,11 +129,20 @@ count_one : (order : Commanded) (x : Entry) (b : Bool) → is_order (event.Comma
 count_one order x true here is n = rw (is, here) refl
 count_one order x false here is n = rw (is, here) (omega arith)
 
+count_cons : (p : Entry → Bool) (x : Entry) (xs ys : List Entry) (b : Bool) → p x ≡ b → count_by p (xs ++ ys) ≡ count_by p xs + count_by p ys
+    → count_by p (x ∷ (xs ++ ys)) ≡ count_by p (x ∷ xs) + count_by p ys
+count_cons p x xs ys true is rest = rw is (omega (arith, rest))
+count_cons p x xs ys false is rest = rw is rest
+
+count_both : (p : Entry → Bool) (xs ys : List Entry) → count_by p (xs ++ ys) ≡ count_by p xs + count_by p ys
+count_both p [] ys = omega arith
+count_both p (x ∷ xs) ys = count_cons p x xs ys (p x) refl (count_both p xs ys)
+
 orders_more : (order : Commanded) (history : List Entry) (x : Entry) → x.event ≡ event.Command order → (first : ℕ)
     → first + count_events is_order (history ++ x ∷ []) ≡ orders_behind order (first + count_events is_order history)
 orders_more order history x is first =
     let both : count_events is_order (history ++ x ∷ []) ≡ count_events is_order history + count_events is_order (x ∷ []) =
-    count_by-append (λ (e : Entry). is_order e.event) history (x ∷ []) in
+    count_both (λ (e : Entry). is_order e.event) history (x ∷ []) in
     let one = count_one order x (is_order (event.Command order)) refl is (first + count_events is_order history) in
     let sum : first + count_events is_order (history ++ x ∷ []) ≡ first + count_events is_order history + count_events is_order (x ∷ []) = omega (arith, both) in
     sum ∙ one

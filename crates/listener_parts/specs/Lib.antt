@@ -4,3 +4,4 @@ pub mod Letting
 pub mod Orders
 pub mod Rounds
 pub mod Taking
+pub mod Times

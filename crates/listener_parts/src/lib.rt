@@ -7,11 +7,13 @@
 //! the listener alone decides, as it stands behind all that the pass has seen. What is to be done is found in the turn that does it; links
 //! are called between two turns. Where a part has to repeat a turn until there is nothing left for it, no measure of the table bounds that,
 //! since others may bring further connections: it goes on as long as there are some.
+//! What follows of the whole history from what pass 0 did is said by `laws`.
 #![tactic(auto)]
 
 mod closing;
 mod credits;
 mod draining;
+pub mod laws;
 mod letting;
 mod ordering;
 mod rest;

@@ -17,11 +17,14 @@ use Rattle.conn_machine.specs.declared.state.State.{State}
 use Rattle.conn_machine.specs.Children.{child_at, is_empty, is_stopping, retired_child, running_count, started_child}
 use Rattle.conn_machine.specs.Lists.{update}
 use Rattle.conn_machine.specs.Rows.{is_live_in}
+use Rattle.conn_machine.specs.Folds.{opening_record}
+use Rattle.conn_machine.specs.Made.{AreMade}
 use Rattle.conn_machine.specs.Runs.{after, row_of}
 use Rattle.conn_machine.specs.Sound.{IsSound}
 use Rattle.conn_machine.specs.States.{is_serving}
 use Rattle.conn_machine.specs.Table.{child_passes, is_allowed, may_retire, next}
 use Rattle.table_rule.specs.declared.view.Past.{Past}
+use Rattle.table_rule.specs.declared.view.Origin.{Origin}
 use Rattle.table_rule.specs.declared.view.View.{View}
 use Rattle.table_rule.specs.Histories.{threads_of}
 use Rattle.table_rule.specs.Pasts.{MakesSteps}
@@ -239,10 +242,17 @@ module _ {K : Type 0} (v w x u : Me (Option K) View) (b : SeenBoard) (child thre
       same_seen x u (ledger_of b) has gave.ends ∙ ap (λ (q : View). q.seen) is
 
   pub credited_listener : IsListener v → IsListener u
-  credited_listener listener = record {
-    turnless = free_then x u (ledger_of b) gave;
-    number = ap (λ (q : View). q.who.number) gave.view ∙ ap (λ (q : View). q.who.number) is ∙ ap (λ (q : View). q.who.number) took.view ∙ listener.number;
-  }
+  credited_listener listener =
+      let number : x.0.who.number ≡ 0 = ap (λ (q : View). q.who.number) is ∙ ap (λ (q : View). q.who.number) took.view ∙ listener.number in
+      let origin : u.0.origin ≡ v.0.origin =
+      ap (λ (q : View). q.origin) gave.view ∙ ap (λ (q : View). q.origin) is ∙ ap (λ (q : View). q.origin) took.view in
+      record {
+        turnless = free_then x u (ledger_of b) gave;
+        number = ap (λ (q : View). q.who.number) gave.view ∙ number;
+        made = subst (λ (o : Origin). AreMade o.state (opening_record o.passes) u.0.seen) (sym origin)
+            (subst (AreMade v.0.origin.state (opening_record v.0.origin.passes)) (sym seen) took.is_found.made);
+        row_is = ap (λ (q : View). q.row) gave.view ∙ ap (λ p. row_of p u.0.seen) number;
+      }
 
   pub credited_row : TurnsRestOn → u.0.row ≡ v.0.row
   credited_row rests =

@@ -14,6 +14,7 @@ use Rattle.conn_machine.specs.Made.{AreMade, HasSeen}
 use Rattle.conn_machine.specs.Passes.{EachHasItsOwn}
 use Rattle.conn_machine.specs.Rows.{is_live, is_parked, is_unused, is_with_a_pass}
 use Rattle.conn_machine.specs.Runs.{entries_of, first_row}
+use Rattle.table_rule.specs.declared.view.Origin.{Origin}
 use Rattle.table_rule.specs.declared.view.View.{View}
 use Rattle.table_rule.specs.Ledgers.{IsSplit}
 use Rattle.board_lock.specs.Passes.{GaveBack, TookTurn}
@@ -25,7 +26,7 @@ use Rattle.worker_group.proofs.ServeLemmas.{alive}
 use Rattle.worker_group.proofs.StartLemmas.{lives}
 use Rattle.board_turns.specs.Books.{state_of}
 use Rattle.board_turns.specs.Rests.{TurnsRestOn}
-use Rattle.board_turns.specs.Turns.{HadTurn}
+use Rattle.board_turns.specs.Turns.{IsListener}
 use Rattle.listener_turns.specs.Looks.{LooksIdle}
 use Rattle.board_book.specs.AtRest.{IsAtRest}
 
@@ -137,3 +138,23 @@ looks_idle law child threads count old new number looked = record {
   answer = refl;
   still = λ own rest. rest_stays law old new.seen own number looked.made looked.seen rest;
 }
+
+-- pass 0 stays pass 0 by a look at an idle word
+pub idle_listener : {S : Type 0} (child count : ℕ) (old new : Me S View) → TurnsRestOn → new.1 ≡ old.1 → FoundIdle child old.0 count new.0 → IsListener old → IsListener new
+idle_listener child count old new rests hand found is =
+    let origin : new.0.origin ≡ old.0.origin = ap (λ (q : View). q.origin) found.looked.0 in
+    let first = opening_record old.0.origin.passes in
+    let others : HasSeen 0 old.0.seen new.0.seen =
+    (found.seen.0, found.seen.1, subst (λ (p : ℕ). entries_of p found.seen.0 ≡ []) is.number found.seen.2) in
+    record {
+      turnless = record {
+          hand = hand ∙ is.turnless.hand;
+          turn = ap (λ (q : View). q.turn) found.looked.0 ∙ is.turnless.turn;
+        };
+      number = ap (λ (q : View). q.who.number) found.looked.0 ∙ is.number;
+      made = subst (λ (o : Origin). AreMade o.state (opening_record o.passes) new.0.seen) (sym origin) found.made;
+      row_is =
+          ap (λ (q : View). q.row) found.looked.0 ∙ is.row_is
+          ∙ sym (rests.opens old.0.origin.passes 0 old.0.seen) ∙ sym (rests.stays first 0 old.0.seen new.0.seen others)
+          ∙ rests.opens old.0.origin.passes 0 new.0.seen;
+    }

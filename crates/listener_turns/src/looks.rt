@@ -151,6 +151,7 @@ pub fn is_idle<L: Link, N: Known>(
     ensures credits { pass.new.seat.me.0.credits ≡ pass.old.seat.me.0.credits }
     ensures looks { LooksIdle child threads pass.old.seat.me.0 result pass.new.seat.me.0 }
 {
+    turns_rest_on_these();
     quiet_tables_are_the_listeners();
     idle(shared, pass, child) == threads
 }
