@@ -315,8 +315,7 @@ queue_permitted v w b child name rests took state permit due in_time =
     ap (λ (o : Origin). after o.state w.0.seen) origin ∙ same_state v w b rests took state in
     let has : w.0.hand.permit ≡ Some child = ap (λ (q : View). q.hand.permit) took.view ∙ ap (λ (h : Hand). h.permit) permit.hand in
     let before : nat_lt b.book.state.moment due.row.deadline ≡ true =
-    sym (test-at b.book.state.rows name due.row (λ (r : Row). nat_lt b.book.state.moment r.deadline) due.found) ∙ in_time in
-    (
+    sym (test-at b.book.state.rows name due.row (λ (r : Row). nat_lt b.book.state.moment r.deadline) due.found) ∙ in_time in (
       due.row,
       ap (λ (s : State). live_row s.rows name) same ∙ due.found,
       has ∙ ap Some (sym due.of_child),

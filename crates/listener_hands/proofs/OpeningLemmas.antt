@@ -116,9 +116,9 @@ fresh_carrier {S} origin count i k me is sum =
     let number : me.0.who.number ≡ suc k = ap (λ (m : Me S View). m.0.who.number) is in
     record {
       free = record {
-          free = subst IsFree (sym is) record { hand = refl; idle = record { turn = refl; hand = refl; row = refl } };
-          number = λ z. absurd (cc (number, z));
-        };
+        free = subst IsFree (sym is) record { hand = refl; idle = record { turn = refl; hand = refl; row = refl } };
+        number = λ z. absurd (cc (number, z));
+      };
       number = omega (arith, number, sum);
     }
 

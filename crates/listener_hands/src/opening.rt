@@ -2,6 +2,7 @@
 ghost use Rattle.std.specs.Prelude.{◌≡◌, ◌+◌, ◌≤◌, ℕ, IfOk, Some, true, slice_get, vec_len};
 ghost use Rattle.mpm_base.specs.Shape.{is_in_bounds};
 ghost use Rattle.board_book.specs.ClosedDown.{HasNoLive};
+ghost use Rattle.conn_machine.specs.Sound.{IsSound};
 ghost use Rattle.board_turns.specs.Books.{state_of};
 ghost use Rattle.board_turns.specs.Turns.{IsListener};
 ghost use Rattle.listener_parts.specs.Rounds.{OpenedWithNone};
@@ -10,7 +11,7 @@ ghost use Rattle.listener_hands.specs.Opened.{IsNumberedBelow, OpensAt, opening_
 
 use board::Board;
 use board_lock::{Carrier, Pass, Shared};
-use conn_machine::laws::each_pass_has_its_own_connection;
+use conn_machine::laws::{each_pass_has_its_own_connection, events_keep_states_sound};
 use conn_machine::laws_of_runs::folds_are_one_fold;
 use conn_state::Known;
 use mpm_base::{Link, NoMemory, Shape};
@@ -44,6 +45,7 @@ pub fn open<L: Link, N: Known>(
         (λ o. OpensAt (opening_origin slots children passes shape) o.pass.seat.me.0) }
     ensures opened { IfOk result (λ o. OpenedWithNone o.pass.seat.me.0) }
     ensures none { IfOk result (λ o. HasNoLive (state_of o.pass.seat.me.0)) }
+    ensures sound { IfOk result (λ o. IsSound o.pass.seat.me.0.origin.state) }
     ensures dropped { IfOk result (λ o. HasDropped N.known o.pass.seat.me.0) }
     ensures count { IfOk result (λ o. vec_len o.carriers + 1 ≡ passes) }
     ensures theirs { IfOk result
@@ -56,12 +58,15 @@ pub fn open<L: Link, N: Known>(
         → IsNumberedBelow (vec_len o.carriers) i c.seat.me) }
 {
     each_pass_has_its_own_connection();
+    events_keep_states_sound();
     folds_are_one_fold();
     let board = Board::make(alloc, slots, children, passes, shape)?;
     match Shared::make(alloc, board, passes) {
         Ok((shared, mut all)) => {
-            let pass = all.remove(0);
             all.reverse();
+            let Some(pass) = all.pop() else {
+                unreachable!()
+            };
             Ok(Opened {
                 shared,
                 pass,

@@ -8,6 +8,7 @@ use Rattle.conn_machine.specs.declared.event.Commanded.TheVariants.{Graceful, Gr
 use Rattle.conn_machine.specs.declared.event.Entry.{Entry}
 use Rattle.conn_machine.specs.declared.event.Event.{Event}
 use Rattle.conn_machine.specs.declared.event.Event.TheVariants as event
+use Rattle.conn_machine.specs.declared.event.Reply.{Reply}
 use Rattle.conn_machine.specs.declared.folded.Folded.{Folded}
 use Rattle.conn_machine.specs.declared.state.State.{State}
 use Rattle.conn_machine.specs.BetweenTurns.{OthersLeaveTheRestToTheListener}
@@ -94,33 +95,32 @@ one_entry [] e is = absurd (cc)
 one_entry (x ∷ []) e is = (x, refl, cc)
 one_entry (x ∷ y ∷ added) e is = absurd (cc)
 
-module _ (rests : TurnsRestOn) (found : List Entry) (e : Event) (old new : View) (number : old.who.number ≡ 0) (t : HadTurn found (e ∷ []) old new) where
-  entry : Entry
-  entry = (one_entry t.added e t.events_are).0
+same_entry : (x y : Entry) → x.pass ≡ y.pass → x.ordinal ≡ y.ordinal → x.event ≡ y.event → x.reply ≡ y.reply → x ≡ y
+same_entry x y p o d r =
+    ap (λ (n : ℕ). record x { pass = n }) p ∙ ap (λ (n : ℕ). record x { pass = y.pass; ordinal = n }) o
+    ∙ ap (λ (h : Event). record x { pass = y.pass; ordinal = y.ordinal; event = h }) d
+    ∙ ap (λ (a : Reply). record { pass = y.pass; ordinal = y.ordinal; event = y.event; reply = a }) r
 
-  whole : SeenBook
-  whole = whole_book old.origin found
+-- the entry of the turn is the one that the pass makes of the event in the book that the turn found
+entry_is : (found : List Entry) (e : Event) (old new : View) → old.who.number ≡ 0 → (t : HadTurn found (e ∷ []) old new)
+    → t.added ≡ entry_of 0 e (whole_book old.origin found) ∷ []
+entry_is found e old new number t =
+    let one = one_entry t.added e t.events_are in
+    let made = (subst (AreEntriesOf old.who.number old.origin.state (opening_record old.origin.passes) found) one.1 t.entries).0 in
+    let b = whole_book old.origin found in
+    let same : one.0 ≡ entry_of 0 one.0.event b =
+    same_entry one.0 (entry_of 0 one.0.event b) (made.pass ∙ number)
+    (made.ordinal ∙ ap (λ (p : ℕ). slice_index (opening_record old.origin.passes).ordinals p + length (entries_of p found)) number) refl made.replied in
+    one.1 ∙ ap (λ (x : Entry). x ∷ []) (same ∙ ap (λ (h : Event). entry_of 0 h b) one.2)
 
-  unfolding (entry, whole)
-  entry_is : entry ≡ entry_of 0 e whole
-  entry_is =
-      let one = one_entry t.added e t.events_are in
-      let made = (subst (AreEntriesOf old.who.number old.origin.state (opening_record old.origin.passes) found) one.1 t.entries).0 in
-      rw (sym one.2) (same_entry one.0 (entry_of 0 one.0.event (whole_book old.origin found)) (made.pass ∙ number)
-      (made.ordinal ∙ ap (λ (p : ℕ). slice_index (opening_record old.origin.passes).ordinals p + length (entries_of p found)) number) refl made.replied)
-    where
-      same_entry : (x y : Entry) → x.pass ≡ y.pass → x.ordinal ≡ y.ordinal → x.event ≡ y.event → x.reply ≡ y.reply → x ≡ y
-      same_entry x y p o d r = rw (p, o, d, r) refl
-
-  unfolding (entry, whole)
-  book_then : book_of new ≡ book_with_entry 0 e whole
-  book_then =
-      let one = one_entry t.added e t.events_are in
-      let seen : new.seen ≡ found ++ entry_of 0 e (whole_book old.origin found) ∷ [] =
-      t.seen ∙ ap (λ l. found ++ l) (one.1 ∙ ap (λ (x : Entry). x ∷ []) entry_is) in
-      ap (λ (o : Origin). whole_book o new.seen) t.stays.origin ∙ ap (whole_book old.origin) seen
-      ∙ ap (λ (s : State). record { base = old.origin.state; folded = opening_record old.origin.passes; history = found ++ entry_of 0 e (whole_book old.origin found) ∷ []; state = s; passes = old.origin.passes })
-      (rests.step old.origin.state found (entry_of 0 e (whole_book old.origin found)))
+-- so the book behind it is the one with that entry
+book_then : TurnsRestOn → (found : List Entry) (e : Event) (old new : View) → old.who.number ≡ 0 → HadTurn found (e ∷ []) old new
+    → book_of new ≡ book_with_entry 0 e (whole_book old.origin found)
+book_then rests found e old new number t =
+    let x = entry_of 0 e (whole_book old.origin found) in
+    let seen : new.seen ≡ found ++ x ∷ [] = t.seen ∙ ap (λ l. found ++ l) (entry_is found e old new number t) in
+    ap (λ (o : Origin). whole_book o new.seen) t.stays.origin ∙ ap (whole_book old.origin) seen
+    ∙ ap (λ (s : State). record (whole_book old.origin (found ++ x ∷ [])) { state = s }) (rests.step old.origin.state found x)
 
 -- ## An order
 
@@ -153,7 +153,7 @@ edition_by law rests others kinds (Graceful shape) found old new number t =
     let newest : (state_found old found).newest ≡ (state_of old).newest = (others_alone others old found number t.made t.others).stands.newest in
     let count : orders_in (whole_book old.origin found) ≡ orders_in (book_of old) = orders_found kinds old found number t.made t.others in
     let here : edition_of (book_with_entry 0 (event.Command (Graceful shape)) (whole_book old.origin found)) ((state_found old found).newest + 1)
-        ≡ Some (orders_in (whole_book old.origin found) + 1) =
+    ≡ Some (orders_in (whole_book old.origin found) + 1) =
     law.newest (whole_book old.origin found) 0 shape (rests.begun old.origin.state old.origin.passes) refl in
     ap (λ (n : ℕ). edition_of (book_of new) (n + 1)) (sym newest)
     ∙ ap (λ (b : SeenBook). edition_of b ((state_found old found).newest + 1)) (book_then rests found (event.Command (Graceful shape)) old new number t)
@@ -181,8 +181,8 @@ does_order law rests others frame kinds order found old new number row t =
       edition = edition_by law rests others kinds order found old new number t;
     }
 
-pub order_done : {E : Type 0} → GenerationsKeepTheirEditions → TurnsRestOn → OthersLeaveTheRestToTheListener → OwnEventsTellTheFrame → OwnEventsTellWhatWasTaken
-    → (order : Commanded) (old new : View) (r : Result Unit E) → old.who.number ≡ 0 → new.row ≡ None
+pub order_done : {T E : Type 0} → GenerationsKeepTheirEditions → TurnsRestOn → OthersLeaveTheRestToTheListener → OwnEventsTellTheFrame → OwnEventsTellWhatWasTaken
+    → (order : Commanded) (old new : View) (r : Result T E) → old.who.number ≡ 0 → new.row ≡ None
     → OnOk r (HadATurn (event.Command order ∷ []) old new) → OnOk r (DoesOrder order old new)
 order_done law rests others frame kinds order old new (Ok x) number row turn = does_order law rests others frame kinds order turn.0 old new number row turn.1
 order_done law rests others frame kinds order old new (Err e) number row turn = tt

@@ -123,15 +123,13 @@ module _ (rests : TurnsRestOn) (sounds : EventsKeepStatesSound) (law : NothingIs
       → IsTimely (after base before) e.event × AllAt IsTimely (next (after base before) e.event) history
   timely_cons before e history true is sound made is_next queued own on =
       let all : AreTimelyFrom (frame_of (after base before)) (e.event ∷ own_events 0 history) =
-      subst (AreTimelyFrom (frame_of (after base before))) (own_first e history is) own in
-      (
+      subst (AreTimelyFrom (frame_of (after base before))) (own_first e history is) own in (
         own_timely law (after base before) e.event sound is_next.is_allowed queued all.0,
         on (subst (λ (g : Frame). AreTimelyFrom g (own_events 0 history)) (sym (frame.step (after base before) e.event)) all.1),
       )
   timely_cons before e history false is sound made is_next queued own on =
       let all : AreTimelyFrom (frame_of (after base before)) (own_events 0 history) =
-      subst (AreTimelyFrom (frame_of (after base before))) (other_first e history is) own in
-      (
+      subst (AreTimelyFrom (frame_of (after base before))) (other_first e history is) own in (
         other_timely law (after base before) e.pass (row_from f e.pass before) e.event sound is is_next.is_allowed is_next.role queued,
         on (subst (λ (g : Frame). AreTimelyFrom g (own_events 0 history)) (sym (frame_other before e made is)) all),
       )

@@ -1,17 +1,22 @@
 -- That a table stays one.
-use Rattle.std.proofs.Common.{◌≡◌, ℕ, List, [], ◌++◌, None, Option, sym, ap, subst, ◌∙◌}
+use Rattle.std.proofs.Common.{◌≡◌, ℕ, List, [], ◌++◌, None, Option, append-nil, sym, ap, subst, ◌∙◌}
 use Rattle.atomic_table.specs.Table.{Me}
 use Rattle.conn_machine.specs.declared.event.Event.{Event}
 use Rattle.conn_machine.specs.declared.state.Going.{Going}
 use Rattle.conn_machine.specs.Folds.{opening_record}
 use Rattle.conn_machine.specs.Passes.{EachHasItsOwn}
+use Rattle.conn_machine.specs.HistoryLaws.{MadeHistoriesAreRuns}
+use Rattle.conn_machine.specs.MachineLaws.{EventsKeepStatesSound}
 use Rattle.conn_machine.specs.Runs.{first_row}
+use Rattle.conn_machine.specs.Sound.{IsSound}
 use Rattle.conn_state.specs.Known.{KnownOutside}
 use Rattle.table_rule.specs.declared.view.Origin.{Origin}
 use Rattle.table_rule.specs.declared.view.View.{View}
 use Rattle.board.specs.BoardLaws.{EndedConnectionsJoin}
 use Rattle.board.specs.Editions.{GenerationsKeepTheirEditions}
-use Rattle.board_turns.specs.Books.{state_of}
+use Rattle.board_book.specs.Book.{row_in}
+use Rattle.board_turns.specs.Books.{book_of, state_of}
+use Rattle.board_turns.specs.Rests.{TurnsRestOn}
 use Rattle.board_turns.specs.Turns.{IsListener}
 use Rattle.listener_turns.specs.Folds.{HasDropped}
 use Rattle.listener_parts.specs.Did.{Did, LeavesAlone, StandsAs}
@@ -39,6 +44,7 @@ table_on editions ends known events old new credits credits' moment moment' newe
       none = did.row;
       credited = credited;
       opened = opened_on old.0 new.0 did.origin t.opened;
+      sound = subst (λ (o : Origin). IsSound o.state) (sym did.origin) t.sound;
       dropped = dropped_on editions ends known events None old.0 new.0 did t.dropped;
       moment_is = moment_is;
       newest_is = newest_is;
@@ -52,3 +58,16 @@ pub table_stands : {S : Type 0} → GenerationsKeepTheirEditions → EndedConnec
 table_stands editions ends known events old new credits credits' moment newest going t listener did credited stands =
     table_on editions ends known events old new credits credits' moment moment newest newest going going t listener did credited
     (t.moment_is ∙ sym stands.moment) (t.newest_is ∙ sym stands.newest) (t.going_is ∙ sym stands.going)
+
+-- ## What a table shows
+
+pub shown_sound : {S : Type 0} → EventsKeepStatesSound → MadeHistoriesAreRuns → (known : Option KnownOutside) (me : Me S View) (credits : List ℕ) (moment newest : ℕ)
+    (going : Going) → IsTable known me credits moment newest going → IsSound (state_of me.0)
+shown_sound sounds runs known me credits moment newest going t =
+    let s = me.0.origin.state in
+    sounds.run s me.0.seen t.sound (runs.run s (opening_record me.0.origin.passes) me.0.seen t.listener.made) me.0.seen [] (sym (append-nil me.0.seen))
+
+pub shown_row : {S : Type 0} → TurnsRestOn → (known : Option KnownOutside) (me : Me S View) (credits : List ℕ) (moment newest : ℕ) (going : Going)
+    → IsTable known me credits moment newest going → row_in 0 (book_of me.0) ≡ None
+shown_row rests known me credits moment newest going t =
+    rests.opens me.0.origin.passes 0 me.0.seen ∙ sym t.listener.row_is ∙ t.none

@@ -2,6 +2,7 @@
 use Rattle.std.specs.Prelude.{◌≡◌, ℕ, List, None, Option}
 use Rattle.atomic_table.specs.Table.{Me}
 use Rattle.conn_machine.specs.declared.state.Going.{Going}
+use Rattle.conn_machine.specs.Sound.{IsSound}
 use Rattle.conn_state.specs.Known.{KnownOutside}
 use Rattle.table_rule.specs.declared.view.View.{View}
 use Rattle.board_book.specs.Book.{SeenBook}
@@ -19,7 +20,7 @@ pub record SeenTable : Type 0 where
 abbrev pub table_of : View → SeenTable
 table_of v = record { view = v; book = book_of v }
 
--- pass 0 has no turn and no connection; the credits are those that it gave; no pass had a connection as the server opened; what its folds
+-- pass 0 has no turn and no connection; the credits are those that it gave; no pass had a connection as the server opened, in a sound state; what its folds
 -- dropped is known; and what it keeps of the state is what it alone changes
 pub record IsTable {S : Type 0} (known : Option KnownOutside) (me : Me S View) (credits : List ℕ)
     (moment newest : ℕ) (going : Going) : Type 0 where
@@ -27,6 +28,7 @@ pub record IsTable {S : Type 0} (known : Option KnownOutside) (me : Me S View) (
   pub none : me.0.row ≡ None
   pub credited : AreCredits credits me.0
   pub opened : OpenedWithNone me.0
+  pub sound : IsSound me.0.origin.state
   pub dropped : HasDropped known me.0
   pub moment_is : moment ≡ (state_of me.0).moment
   pub newest_is : newest ≡ (state_of me.0).newest

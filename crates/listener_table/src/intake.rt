@@ -58,7 +58,12 @@ impl<'a, M: Room, L: Link, N: Known, B: Bell, G: Gate> Table<'a, M, L, N, B, G> 
     {
         ended_connections_join();
         generations_keep_their_editions();
-        match order(rt, self.hands.shared, &mut self.pass, Commanded::Graceful(shape)) {
+        match order(
+            rt,
+            self.hands.shared,
+            &mut self.pass,
+            Commanded::Graceful(shape),
+        ) {
             Ok(()) => {
                 self.newest += 1;
                 Ok(())
@@ -76,7 +81,12 @@ impl<'a, M: Room, L: Link, N: Known, B: Bell, G: Gate> Table<'a, M, L, N, B, G> 
     {
         ended_connections_join();
         generations_keep_their_editions();
-        order(rt, self.hands.shared, &mut self.pass, Commanded::Refused(reason))
+        order(
+            rt,
+            self.hands.shared,
+            &mut self.pass,
+            Commanded::Refused(reason),
+        )
     }
 
     /// Takes no further connection, and lets those that are open go on until the moment, where there is one.
@@ -90,7 +100,12 @@ impl<'a, M: Room, L: Link, N: Known, B: Bell, G: Gate> Table<'a, M, L, N, B, G> 
     {
         ended_connections_join();
         generations_keep_their_editions();
-        match order(rt, self.hands.shared, &mut self.pass, Commanded::GracefulStop(until)) {
+        match order(
+            rt,
+            self.hands.shared,
+            &mut self.pass,
+            Commanded::GracefulStop(until),
+        ) {
             Ok(()) => {
                 self.going = Going::Ending(until);
                 Ok(())
@@ -183,12 +198,7 @@ impl<'a, M: Room, L: Link, N: Known, B: Bell, G: Gate> Table<'a, M, L, N, B, G> 
             &mut self.works.lines,
             &self.credits,
         );
-        serve_here(
-            rt,
-            self.hands,
-            &mut self.works.looks,
-            &mut self.works.lines,
-        );
+        serve_here(rt, self.hands, &mut self.works.looks, &mut self.works.lines);
     }
 
     /// Folds the history, where it may be folded.

@@ -2,14 +2,20 @@
 ghost use Rattle.std.specs.Prelude.{◌≡◌, ℕ, None, length, slice_index};
 ghost use Rattle.board_turns.specs.Books.{state_of};
 ghost use Rattle.board_turns.specs.Turns.{IsListener};
+ghost use Rattle.conn_machine.specs.Made.{AreMade};
+ghost use Rattle.conn_machine.specs.Sound.{IsSound};
 ghost use Rattle.conn_machine.specs.declared.state.Going.TheVariants.{Serving};
+ghost use Rattle.board_book.specs.Book.{row_in};
 ghost use Rattle.listener_parts.specs.Rounds.{OpenedWithNone};
 ghost use Rattle.listener_table.specs.Table.{table_of};
 ghost use Rattle.listener_turns.specs.Folds.{HasDropped};
 
 use board::Board;
 use board_lock::{Pass, Room};
+use board_turns::turns_rest_on_these;
 use conn_machine::Going;
+use conn_machine::laws::events_keep_states_sound;
+use conn_machine::laws_of_runs::made_histories_are_runs;
 use conn_state::Known;
 use listener_hands::WorksHere;
 use listener_parts::Credits;
@@ -56,6 +62,7 @@ impl<'a, M: Room, L: Link, N: Known, B: Bell, G: Gate> Table<'a, M, L, N, B, G> 
         requires credits { (child : ℕ) → slice_index pass.seat.me.0.credits child ≡ 0 }
         requires full { length pass.seat.me.0.credits ≡ 32 }
         requires opened { OpenedWithNone pass.seat.me.0 }
+        requires sound { IsSound pass.seat.me.0.origin.state }
         requires dropped { HasDropped N.known pass.seat.me.0 }
         ensures { result ≡ table_of pass.seat.me.0 }
     {
@@ -68,5 +75,18 @@ impl<'a, M: Room, L: Link, N: Known, B: Bell, G: Gate> Table<'a, M, L, N, B, G> 
             newest: 0,
             going: Going::Serving,
         }
+    }
+
+    /// What holds of each table: each entry that pass 0 has seen was made by its pass as it might be, from a sound state on, so the state behind
+    /// them is sound; and it has no connection. Does nothing.
+    pub fn show(&self)
+        ensures made { AreMade self.now.book.base self.now.book.folded self.now.book.history }
+        ensures opened { IsSound self.now.book.base }
+        ensures sound { IsSound self.now.book.state }
+        ensures row { row_in 0 self.now.book ≡ None }
+    {
+        turns_rest_on_these();
+        events_keep_states_sound();
+        made_histories_are_runs();
     }
 }

@@ -104,9 +104,9 @@ folds_nothing v w u b took gave number early =
     let split : IsSplit w.0.origin u.0.left (ledger_of b) u.0.seen = (gave.is_left.own (ap (λ (q : View). q.who.number) took.view ∙ number)).0 in
     record {
       early = record {
-          kept = b.book.history;
-          seen = split.whole_is;
-          early = ap (λ (f : Folded). may_fold f b.book.history) (sym split.record_is) ∙ early;
-        };
+        kept = b.book.history;
+        seen = split.whole_is;
+        early = ap (λ (f : Folded). may_fold f b.book.history) (sym split.record_is) ∙ early;
+      };
       left = kept_none v w u b took gave;
     }

@@ -148,9 +148,9 @@ idle_listener child count old new rests hand found is =
     (found.seen.0, found.seen.1, subst (λ (p : ℕ). entries_of p found.seen.0 ≡ []) is.number found.seen.2) in
     record {
       turnless = record {
-          hand = hand ∙ is.turnless.hand;
-          turn = ap (λ (q : View). q.turn) found.looked.0 ∙ is.turnless.turn;
-        };
+        hand = hand ∙ is.turnless.hand;
+        turn = ap (λ (q : View). q.turn) found.looked.0 ∙ is.turnless.turn;
+      };
       number = ap (λ (q : View). q.who.number) found.looked.0 ∙ is.number;
       made = subst (λ (o : Origin). AreMade o.state (opening_record o.passes) new.0.seen) (sym origin) found.made;
       row_is =
