@@ -3,6 +3,7 @@ pub mod DidLemmas
 pub mod DownLemmas
 pub mod DroppedLemmas
 pub mod HeldLemmas
+pub mod KeepsTimeLemmas
 pub mod LettingLemmas
 pub mod LingeringLemmas
 pub mod MadeLemmas

@@ -15,6 +15,8 @@ use Rattle.conn_machine.specs.Runs.{AllAt, own_events}
 use Rattle.conn_machine.specs.Sound.{IsSound}
 use Rattle.conn_machine.specs.States.{is_halted, is_over, is_serving}
 use Rattle.table_rule.specs.Histories.{IsQueuedInTime}
+use Rattle.table_rule.specs.declared.view.View.{View}
+use Rattle.board_book.specs.Moments.{ticks_to}
 use Rattle.board_book.specs.Timely.{AreTimely}
 
 -- the lowest child that is gone, while the server takes connections and fewer children run than should
@@ -57,3 +59,21 @@ OwnEventsTellTheTime =
     → AllAt IsQueuedInTime base history
     → AreTimelyFrom (frame_of base) (own_events 0 history)
     → AreTimely base history
+
+-- it was time for each of the listener's own events that the pass has seen, by what it alone decides
+abbrev pub IsInTime : View → Type 0
+IsInTime v = AreTimelyFrom (frame_of v.origin.state) (own_events 0 v.seen)
+
+-- where it was before, so it was for each one since
+abbrev pub KeepsTime : View → View → Type 0
+KeepsTime old new = IsInTime old → IsInTime new
+
+-- time may pass to the moment, or it is no later one: the time of a graceful stop isn't over, or nothing passes; and no such stop is at its end
+pub record MayPassTo (to : ℕ) (f : Frame) : Type 0 where
+  pub within : is_over f.moment f.going ≡ true → ticks_to f.moment to ≡ []
+  pub before : is_ended_at f ≡ false
+
+-- slots may be signalled: the time of a graceful stop isn't over, and no such stop is at its end
+pub record MaySignal (f : Frame) : Type 0 where
+  pub within : is_over f.moment f.going ≡ false
+  pub before : is_ended_at f ≡ false
