@@ -1,7 +1,8 @@
 -- What a pass finds of the board when it takes the turn.
-use Rattle.std.proofs.Common.{◌≡◌, ◌==◌, ℕ, zero, suc, ◌<◌, Bool, true, false, ◌&&◌, not, List, [], ◌∷◌, Option, None, Some, IfSome, nat_le, nat_lt, slice_get, length, refl, sym, ap, subst, ◌∙◌, arith}
+use Rattle.std.proofs.Common.{◌≡◌, ◌==◌, ℕ, zero, suc, ◌<◌, Bool, true, false, ◌&&◌, not, List, [], ◌∷◌, Option, None, Some, IfSome, inl, nat_le, nat_lt, slice_get, length, refl, sym, ap, subst, ◌∙◌, arith}
 use Rattle.std.proofs.lemmas.Bool.{and_parts}
 use Rattle.std.proofs.lemmas.Bool.Decides.{nat_tests}
+use Rattle.std.specs.Prelude.{IfNone}
 use Rattle.atomic_table.specs.Table.{Me}
 use Rattle.mpm_base.specs.declared.conn.ConnName.{ConnName}
 use Rattle.mpm_base.specs.declared.conn.Cause.{Cause}
@@ -46,6 +47,7 @@ use Rattle.worker_group.proofs.ServeLemmas.{alive, test-at}
 use Rattle.worker_group.proofs.StartLemmas.{lives}
 use Rattle.board_turns.specs.Books.{book_of, state_of, whole_book}
 use Rattle.board_turns.specs.Carries.{Carries, HasPermitOnly, Lasts, MayGo}
+use Rattle.board_turns.specs.Pairing.{HasNoneToHand}
 use Rattle.board_turns.specs.Rests.{TurnsRestOn}
 
 -- ## The board
@@ -304,6 +306,21 @@ due_is_in_time s child name none due =
     let not_yet : nat_le is.row.deadline s.moment ≡ false = sym (ap (λ (b : Bool). b && nat_le is.row.deadline s.moment) two.1) ∙ late in
     let before : nat_lt s.moment is.row.deadline ≡ true = grind (arith, nat_tests, not_yet) in
     test-at s.rows name is.row (λ (r : Row). nat_lt s.moment r.deadline) is.found ∙ before
+
+-- what is found then, where none is late, or none is found
+pub due_some : (s : State) (child : ℕ) (r : Option ConnName) → FindsRow (is_due_of child s) s r
+    → IfSome r (λ name. FindsRow (is_due_of child s) s (Some name))
+due_some s child None found = tt
+due_some s child (Some name) found = found
+
+pub due_times : (s : State) (child : ℕ) (r : Option ConnName) → FindsRow (is_late s) s None → FindsRow (is_due_of child s) s r
+    → IfSome r (λ name. IsQueuedInTime s (event.Queue name))
+due_times s child None none found = tt
+due_times s child (Some name) none found = due_is_in_time s child name none found
+
+pub due_none : (s : State) (child : ℕ) (r : Option ConnName) → FindsRow (is_due_of child s) s r → IfNone r (HasNoneToHand child s)
+due_none s child None found = inl found
+due_none s child (Some name) found = tt
 
 -- and its pass may queue it
 pub queue_permitted : {K : Type 0} (v w : Me (Option K) View) (b : SeenBoard) (child : ℕ) (name : ConnName) → TurnsRestOn → TookTurn v w (ledger_of b)

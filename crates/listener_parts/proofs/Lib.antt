@@ -11,5 +11,6 @@ pub mod NewLemmas
 pub mod OrderLemmas
 pub mod RestLemmas
 pub mod RoundLemmas
+pub mod StartTimeLemmas
 pub mod StopLemmas
 pub mod TimesLemmas

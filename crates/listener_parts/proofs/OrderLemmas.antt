@@ -68,7 +68,7 @@ orders_same law base f a b made made' same =
     orders_kinds a ∙ ap (count_events is_order) (law.kinds base f a made ∙ ap own_kinds same ∙ sym (law.kinds base f b made')) ∙ sym (orders_kinds b)
 
 -- the first of a history was made so too
-made_front : (base : State) (f : Folded) (before a b : List Entry) → AreMadeBehind base f before (a ++ b) → AreMadeBehind base f before a
+pub made_front : (base : State) (f : Folded) (before a b : List Entry) → AreMadeBehind base f before (a ++ b) → AreMadeBehind base f before a
 made_front base f before [] b made = tt
 made_front base f before (e ∷ a) b made = (made.0, made_front base f (before ++ e ∷ []) a b made.1)
 
@@ -102,7 +102,7 @@ same_entry x y p o d r =
     ∙ ap (λ (a : Reply). record { pass = y.pass; ordinal = y.ordinal; event = y.event; reply = a }) r
 
 -- the entry of the turn is the one that the pass makes of the event in the book that the turn found
-entry_is : (found : List Entry) (e : Event) (old new : View) → old.who.number ≡ 0 → (t : HadTurn found (e ∷ []) old new)
+pub entry_is : (found : List Entry) (e : Event) (old new : View) → old.who.number ≡ 0 → (t : HadTurn found (e ∷ []) old new)
     → t.added ≡ entry_of 0 e (whole_book old.origin found) ∷ []
 entry_is found e old new number t =
     let one = one_entry t.added e t.events_are in
