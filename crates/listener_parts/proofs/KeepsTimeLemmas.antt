@@ -33,18 +33,21 @@ timely_more f [] b first second = second
 timely_more f (e ∷ a) b first second = (first.0, timely_more (frame_next f e) a b first.1 second)
 
 -- behind what the pass has seen, where the events that it made since are in time there
-pub keeps_time : OwnEventsTellTheFrame → (events : List Event) (has : Option ConnName) (old new : View) → old.who.number ≡ 0
-    → AreMade old.origin.state (opening_record old.origin.passes) old.seen → Did events has old new → AreTimelyFrom (frame_of (state_of old)) events
-    → KeepsTime old new
-keeps_time law events has old new number made did timely before =
+pub keeps_own : OwnEventsTellTheFrame → (events : List Event) (old new : View) → AreMade old.origin.state (opening_record old.origin.passes) old.seen
+    → own_events 0 new.seen ≡ own_events 0 old.seen ++ events → new.origin ≡ old.origin → AreTimelyFrom (frame_of (state_of old)) events → KeepsTime old new
+keeps_own law events old new made own origin timely before =
     let first = frame_of old.origin.state in
-    let own : own_events 0 new.seen ≡ own_events 0 old.seen ++ events =
-    subst (λ (p : ℕ). own_events p new.seen ≡ own_events p old.seen ++ events) number did.made in
     let here : frame_of (state_of old) ≡ frames first (own_events 0 old.seen) =
     law.frame old.origin.state (opening_record old.origin.passes) old.seen made in
     let more : AreTimelyFrom first (own_events 0 old.seen ++ events) =
     timely_more first (own_events 0 old.seen) events before (subst (λ (g : Frame). AreTimelyFrom g events) here timely) in
-    subst (λ (o : Origin). AreTimelyFrom (frame_of o.state) (own_events 0 new.seen)) (sym did.origin) (subst (AreTimelyFrom first) (sym own) more)
+    subst (λ (o : Origin). AreTimelyFrom (frame_of o.state) (own_events 0 new.seen)) (sym origin) (subst (AreTimelyFrom first) (sym own) more)
+
+pub keeps_time : OwnEventsTellTheFrame → (events : List Event) (has : Option ConnName) (old new : View) → old.who.number ≡ 0
+    → AreMade old.origin.state (opening_record old.origin.passes) old.seen → Did events has old new → AreTimelyFrom (frame_of (state_of old)) events
+    → KeepsTime old new
+keeps_time law events has old new number made did timely =
+    keeps_own law events old new made (subst (λ (p : ℕ). own_events p new.seen ≡ own_events p old.seen ++ events) number did.made) did.origin timely
 
 -- ## Events that need a child, and start none
 

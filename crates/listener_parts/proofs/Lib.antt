@@ -9,6 +9,7 @@ pub mod LingeringLemmas
 pub mod MadeLemmas
 pub mod NewLemmas
 pub mod OrderLemmas
+pub mod PartTimeLemmas
 pub mod RestLemmas
 pub mod RoundLemmas
 pub mod StartTimeLemmas

@@ -7,6 +7,8 @@ ghost use Rattle.conn_machine.specs.declared.event.Commanded.TheVariants.{Stop};
 ghost use Rattle.conn_machine.specs.declared.event.Event.TheVariants as event;
 ghost use Rattle.conn_machine.specs.declared.state.Going.TheVariants.{Halted};
 ghost use Rattle.listener_parts.specs.Closing.{ClosesDown, IsOwnReason, halts_for};
+ghost use Rattle.listener_parts.specs.Times.{KeepsTime, is_ended_at};
+ghost use Rattle.conn_machine.specs.Frames.{frame_of};
 ghost use Rattle.listener_parts.specs.Did.{Did, LeavesAlone, StandsAs};
 ghost use Rattle.listener_hands.specs.Closed.{ClosesAs};
 
@@ -14,6 +16,7 @@ use crate::table::Table;
 use board::Board;
 use board::laws::{ended_connections_join, generations_keep_their_editions};
 use board_lock::Room;
+use conn_machine::laws_between_turns::own_events_tell_the_frame;
 use conn_machine::{Going, Why};
 use conn_state::Known;
 use listener_hands::close;
@@ -35,7 +38,10 @@ impl<'a, M: Room, L: Link, N: Known, B: Bell, G: Gate> Table<'a, M, L, N, B, G> 
         ensures may { IsOwnReason why
             → is_allowed self.old.book.state (event.Command (Stop why)) ≡ true
             → result ≡ true }
+        ensures timely { is_ended_at (frame_of self.old.book.state) ≡ false
+            → KeepsTime self.old.view self.new.view }
     {
+        own_events_tell_the_frame();
         ended_connections_join();
         generations_keep_their_editions();
         let stopped = stop(rt, self.hands.shared, &mut self.pass, why);
@@ -51,7 +57,9 @@ impl<'a, M: Room, L: Link, N: Known, B: Bell, G: Gate> Table<'a, M, L, N, B, G> 
         ensures down { ClosesDown self.old.view self.new.view }
         ensures rest { StandsAs self.old.book.state self.new.book.state }
         ensures closed { IsClosedDown self.new.book.state }
+        ensures timely { KeepsTime self.old.view self.new.view }
     {
+        own_events_tell_the_frame();
         ended_connections_join();
         generations_keep_their_editions();
         close_down(

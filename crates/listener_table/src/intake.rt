@@ -1,5 +1,5 @@
 //! Orders, connections that are taken and handed over, what the next wait is told, and folds.
-ghost use Rattle.std.specs.Prelude.{◌≡◌, ◌<◌, [], None, true, IfErr, IfSome, OnOk};
+ghost use Rattle.std.specs.Prelude.{◌≡◌, ◌<◌, [], None, false, true, IfErr, IfSome, OnOk};
 ghost use Rattle.board_book.specs.AtRest.{IsAtRest};
 ghost use Rattle.board_book.specs.Faults.{IsRefusedFor};
 ghost use Rattle.board_book.specs.Finds.{next_deadline_of};
@@ -14,12 +14,15 @@ ghost use Rattle.listener_turns.specs.Looks.{IsSeenIn};
 ghost use Rattle.listener_parts.specs.Did.{Did, LeavesAlone, OnlySees};
 ghost use Rattle.listener_parts.specs.Orders.{DoesNoOrder, DoesOrder};
 ghost use Rattle.listener_parts.specs.Rounds.{IsStill};
+ghost use Rattle.listener_parts.specs.Times.{KeepsTime, is_ended_at};
+ghost use Rattle.conn_machine.specs.Frames.{frame_of};
 ghost use Rattle.listener_parts.specs.Taking.{FailsTaking, ServesNewest, TakesLink};
 
 use crate::table::Table;
 use board::BoardFault;
 use board::laws::{ended_connections_join, generations_keep_their_editions};
 use board_lock::Room;
+use conn_machine::laws_between_turns::own_events_tell_the_frame;
 use conn_machine::{BoxedShape, Commanded, Going, Refusal, Totals};
 use conn_state::Known;
 use file_table::Site;
@@ -55,7 +58,9 @@ impl<'a, M: Room, L: Link, N: Known, B: Bell, G: Gate> Table<'a, M, L, N, B, G> 
             (DoesOrder (commanded.Graceful shape) self.old.view self.new.view) }
         ensures err { IfErr result (λ _. DoesNoOrder self.old.view self.new.view) }
         ensures why { IfErr result (λ fault. IsRefusedFor fault self.new.book) }
+        ensures timely { KeepsTime self.old.view self.new.view }
     {
+        own_events_tell_the_frame();
         ended_connections_join();
         generations_keep_their_editions();
         match order(
@@ -78,7 +83,10 @@ impl<'a, M: Room, L: Link, N: Known, B: Bell, G: Gate> Table<'a, M, L, N, B, G> 
             (DoesOrder (commanded.Refused reason) self.old.view self.new.view) }
         ensures err { IfErr result (λ _. DoesNoOrder self.old.view self.new.view) }
         ensures why { IfErr result (λ fault. IsRefusedFor fault self.new.book) }
+        ensures timely { is_ended_at (frame_of self.old.book.state) ≡ false
+            → KeepsTime self.old.view self.new.view }
     {
+        own_events_tell_the_frame();
         ended_connections_join();
         generations_keep_their_editions();
         order(
@@ -97,7 +105,9 @@ impl<'a, M: Room, L: Link, N: Known, B: Bell, G: Gate> Table<'a, M, L, N, B, G> 
             (DoesOrder (commanded.GracefulStop until) self.old.view self.new.view) }
         ensures err { IfErr result (λ _. DoesNoOrder self.old.view self.new.view) }
         ensures why { IfErr result (λ fault. IsRefusedFor fault self.new.book) }
+        ensures timely { KeepsTime self.old.view self.new.view }
     {
+        own_events_tell_the_frame();
         ended_connections_join();
         generations_keep_their_editions();
         match order(
@@ -119,7 +129,9 @@ impl<'a, M: Room, L: Link, N: Known, B: Bell, G: Gate> Table<'a, M, L, N, B, G> 
         ensures did { Did [] None self.old.view self.new.view }
         ensures rest { LeavesAlone self.old.book.state self.new.book.state }
         ensures totals { result ≡ totals_of self.new.book.state }
+        ensures timely { KeepsTime self.old.view self.new.view }
     {
+        own_events_tell_the_frame();
         ended_connections_join();
         generations_keep_their_editions();
         totals(rt, self.hands.shared, &mut self.pass)
@@ -130,7 +142,9 @@ impl<'a, M: Room, L: Link, N: Known, B: Bell, G: Gate> Table<'a, M, L, N, B, G> 
         ensures did { Did [] None self.old.view self.new.view }
         ensures rest { LeavesAlone self.old.book.state self.new.book.state }
         ensures seen { IsSeenIn self.new.book.state result }
+        ensures timely { KeepsTime self.old.view self.new.view }
     {
+        own_events_tell_the_frame();
         ended_connections_join();
         generations_keep_their_editions();
         take_look(rt, self.hands.shared, &mut self.pass)
@@ -159,7 +173,9 @@ impl<'a, M: Room, L: Link, N: Known, B: Bell, G: Gate> Table<'a, M, L, N, B, G> 
             self.old.view self.new.view) }
         ensures rest { LeavesAlone (record self.old.book.state
             { accepted = self.new.book.state.accepted }) self.new.book.state }
+        ensures timely { KeepsTime self.old.view self.new.view }
     {
+        own_events_tell_the_frame();
         ended_connections_join();
         generations_keep_their_editions();
         take(
@@ -181,7 +197,9 @@ impl<'a, M: Room, L: Link, N: Known, B: Bell, G: Gate> Table<'a, M, L, N, B, G> 
         ensures rest { LeavesAlone self.old.book.state self.new.book.state }
         ensures until { result.until ≡ next_deadline_of self.old.book.state }
         ensures quiet { result.quiet ≡ true → IsStill self.old.view self.new.view }
+        ensures timely { KeepsTime self.old.view self.new.view }
     {
+        own_events_tell_the_frame();
         ended_connections_join();
         generations_keep_their_editions();
         rest_of(self.hands.shared, &mut self.pass, &self.credits, look)
@@ -206,7 +224,9 @@ impl<'a, M: Room, L: Link, N: Known, B: Bell, G: Gate> Table<'a, M, L, N, B, G> 
         ensures sees { OnlySees self.old.view self.new.view }
         ensures rest { LeavesAlone self.old.book.state self.new.book.state }
         ensures still { IsAtRest self.old.book.state → self.new.view.seen ≡ self.old.view.seen }
+        ensures timely { KeepsTime self.old.view self.new.view }
     {
+        own_events_tell_the_frame();
         ended_connections_join();
         generations_keep_their_editions();
         fold_history(rt, self.hands.shared, &mut self.pass);

@@ -4,15 +4,21 @@ ghost use Rattle.board_book.specs.Faults.{IsRefusedFor};
 ghost use Rattle.board_book.specs.Finds.{startable};
 ghost use Rattle.board_book.specs.Moments.{moment_for};
 ghost use Rattle.board_turns.specs.Carries.{Lasts};
+ghost use Rattle.conn_machine.specs.Frames.{frame_of};
 ghost use Rattle.conn_machine.specs.States.{is_serving, is_staffed};
 ghost use Rattle.listener_parts.specs.Did.{Did, LeavesAlone, StandsAs};
 ghost use Rattle.listener_parts.specs.Letting.{LetsGo, LetsGoOfConns, LetsGoUntil, IsLateWay};
+ghost use Rattle.listener_parts.specs.Times.{KeepsTime, MayPassTo, MaySignal};
 ghost use Rattle.listener_parts.specs.Rounds.{IsRestedFor, PassesTime, RetiresSome, Signals, SignalsSome, StartsAtFirst, StartsEach, TicksAtOnce};
 
 use crate::table::Table;
 use board::BoardFault;
 use board::laws::{ended_connections_join, generations_keep_their_editions};
 use board_lock::Room;
+use board_turns::turns_rest_on_these;
+use conn_machine::laws_between_turns::{
+    others_leave_the_rest_to_the_listener, own_events_tell_the_frame,
+};
 use conn_state::Known;
 use listener_parts::{
     let_go_of_conns, let_time_pass, retire_all, signal, start_first, start_further,
@@ -43,7 +49,10 @@ impl<'a, M: Room, L: Link, N: Known, B: Bell, G: Gate> Table<'a, M, L, N, B, G> 
         ensures rest { LeavesAlone (record self.old.book.state
             { moment = self.new.book.state.moment }) self.new.book.state }
         ensures stays { OnErr result (LeavesAlone self.old.book.state self.new.book.state) }
+        ensures timely { MayPassTo (moment_for moment) (frame_of self.old.book.state)
+            → KeepsTime self.old.view self.new.view }
     {
+        own_events_tell_the_frame();
         ended_connections_join();
         generations_keep_their_editions();
         let present = self.moment;
@@ -62,7 +71,10 @@ impl<'a, M: Room, L: Link, N: Known, B: Bell, G: Gate> Table<'a, M, L, N, B, G> 
         ensures some { OnErr result (SignalsSome slots.now self.old.view self.new.view) }
         ensures why { IfErr result (λ fault. IsRefusedFor fault self.new.book) }
         ensures rest { LeavesAlone self.old.book.state self.new.book.state }
+        ensures timely { MaySignal (frame_of self.old.book.state)
+            → KeepsTime self.old.view self.new.view }
     {
+        own_events_tell_the_frame();
         ended_connections_join();
         generations_keep_their_editions();
         signal(rt, self.hands.shared, &mut self.pass, slots)
@@ -78,7 +90,9 @@ impl<'a, M: Room, L: Link, N: Known, B: Bell, G: Gate> Table<'a, M, L, N, B, G> 
         ensures until { IfErr result (λ fault. LetsGoUntil fault self.old.view self.new.view) }
         ensures rest { LeavesAlone self.old.book.state self.new.book.state }
         ensures lasts { IfErr result (λ fault. Lasts fault self.new.book.state) }
+        ensures timely { KeepsTime self.old.view self.new.view }
     {
+        own_events_tell_the_frame();
         ended_connections_join();
         generations_keep_their_editions();
         let_go_of_conns(rt, self.hands.shared, &mut self.pass, all_signalled)
@@ -88,7 +102,9 @@ impl<'a, M: Room, L: Link, N: Known, B: Bell, G: Gate> Table<'a, M, L, N, B, G> 
     pub fn retire_all<R: Wait>(&mut self, rt: &R)
         ensures retires { RetiresSome self.old.view self.new.view }
         ensures rest { StandsAs self.old.book.state self.new.book.state }
+        ensures timely { KeepsTime self.old.view self.new.view }
     {
+        own_events_tell_the_frame();
         ended_connections_join();
         generations_keep_their_editions();
         retire_all(
@@ -110,7 +126,9 @@ impl<'a, M: Room, L: Link, N: Known, B: Bell, G: Gate> Table<'a, M, L, N, B, G> 
         ensures staffed { result ≡ false
             → is_serving self.new.book.state.going ≡ false
             → is_staffed self.new.book.state ≡ true }
+        ensures timely { KeepsTime self.old.view self.new.view }
     {
+        own_events_tell_the_frame();
         ended_connections_join();
         generations_keep_their_editions();
         let look = take_look(rt, self.hands.shared, &mut self.pass);
@@ -123,7 +141,10 @@ impl<'a, M: Room, L: Link, N: Known, B: Bell, G: Gate> Table<'a, M, L, N, B, G> 
         ensures rest { StandsAs self.old.book.state self.new.book.state }
         ensures all { OnOk result (startable self.new.book.state ≡ None) }
         ensures why { IfErr result (λ fault. IsRefusedFor fault self.new.book) }
+        ensures timely { KeepsTime self.old.view self.new.view }
     {
+        own_events_tell_the_frame();
+        others_leave_the_rest_to_the_listener();
         ended_connections_join();
         generations_keep_their_editions();
         start_first(rt, self.hands.shared, &mut self.pass, &mut self.credits)
@@ -135,7 +156,11 @@ impl<'a, M: Room, L: Link, N: Known, B: Bell, G: Gate> Table<'a, M, L, N, B, G> 
         ensures rest { StandsAs self.old.book.state self.new.book.state }
         ensures all { OnOk result (startable self.new.book.state ≡ None) }
         ensures why { IfErr result (λ fault. IsRefusedFor fault self.new.book) }
+        ensures timely { KeepsTime self.old.view self.new.view }
     {
+        turns_rest_on_these();
+        own_events_tell_the_frame();
+        others_leave_the_rest_to_the_listener();
         ended_connections_join();
         generations_keep_their_editions();
         start_further(rt, self.hands.shared, &mut self.pass, &mut self.credits)
