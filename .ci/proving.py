@@ -27,7 +27,7 @@ BUILT = "out/rlib"
 MARK = f"{BUILT}/sources"
 # The most processors of which a proof still gains, and so many lines of the sources give one work.
 MOST_JOBS = 4
-LINES_OF_JOB = 700
+LINES_OF_JOB = 500
 # What each further job of a proof takes of memory.
 FURTHER_JOB = 7e8
 
