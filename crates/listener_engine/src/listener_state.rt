@@ -23,6 +23,8 @@ pub struct Listener<'a, 'c, M: Room, L: Link, N: Known, B: Bell, G: Gate> {
     pub ready: Ready,
     /// What the next wait is told.
     pub rest: Rest,
+    /// It is rung where something is left to be done, so that the next wait comes back at once.
+    pub bell: &'a B,
     /// Whether what stands in the output before the report was written whole so far.
     pub written: bool,
 }
