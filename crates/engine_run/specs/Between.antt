@@ -1,24 +1,25 @@
 -- What holds of a listener between two of its turns, and what a turn leaves.
-use Rattle.std.specs.Prelude.{◌≡◌, ◌<◌, ◌≤◌, ℕ, Bool, true, List, [], ◌∷◌, ◌++◌, length, replicate, take, Option, None, Some, Result, Ok, Err, is_some, IfSome, ⊤}
+use Rattle.std.specs.Prelude.{◌≡◌, ◌<◌, ◌≤◌, ℕ, true, List, [], ◌∷◌, ◌++◌, length, replicate, take, Option, None, Some, Result, Ok, Err, is_some, IfSome, ⊤, ⊥}
 use Rattle.std.specs.List.{list_any}
 use Rattle.mpm_base.specs.Count.{greatest_count}
 use Rattle.mpm_base.specs.Front.{FrontTold, WaitTold}
+use Rattle.mpm_base.specs.declared.front.Woke.{Woke}
+use Rattle.mpm_base.specs.declared.front.Woke.TheVariants as woke
 use Rattle.conn_machine.specs.declared.state.State.{State}
 use Rattle.conn_state.specs.Known.{KnownOutside}
 use Rattle.board_book.specs.declared.faults.BoardFault.{BoardFault}
-use Rattle.board_book.specs.AtRest.{IsAtRest}
-use Rattle.board_book.specs.Finds.{next_deadline_of}
+use Rattle.board_book.specs.ClosedDown.{HasNoLive}
 use Rattle.board_book.specs.Moments.{moment_for}
 use Rattle.board_book.specs.Started.{BeginsWithStarts}
 use Rattle.board_turns.specs.Books.{book_of, state_of}
 use Rattle.worker_group.specs.Service.{IsUp}
 use Rattle.rounds.specs.declared.ends.End.{End}
+use Rattle.rounds.specs.declared.ends.End.TheVariants as end
 use Rattle.rounds.specs.TableInside.{StandsInTime}
 use Rattle.listener_parts.specs.declared.rest.Rest.{Rest}
 use Rattle.listener_parts.specs.Times.{KeepsTime}
 use Rattle.listener_round.specs.declared.run_numbers.RunNumbers.{RunNumbers}
 use Rattle.listener_round.specs.Commands.{asks_to_end}
-use Rattle.listener_round.specs.FirstNumbers.{opened_by}
 use Rattle.listener_round.specs.FrontInside.{Follows, HasNoneToHeed, HasReadAll, IsInStep, TookAll}
 use Rattle.listener_round.specs.Generations.{Opening}
 use Rattle.listener_round.specs.HeardInside.{HasHeardAll}
@@ -151,3 +152,11 @@ GoesOnFrom known rest rest' old new (Err fault) =
 -- the moment may stay behind the greatest answer of the clock, where a turn was broken off
 abbrev pub ClocksBehind : ℕ → ℕ → State → State → Type 0
 ClocksBehind old new s s' = (first : ℕ) → IsAtClock first old s → s'.moment ≤ moment_for new
+
+-- ## What a wait ends
+
+-- the turns end for this by what the wait answered: nothing more can come, and no connection is live; or the wait failed
+abbrev pub EndsBy : Woke → State → End → Type 0
+EndsBy woke.Ended s end.Ended = HasNoLive s
+EndsBy woke.Failed s end.Failed = ⊤
+EndsBy answer s other = ⊥

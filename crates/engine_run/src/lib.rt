@@ -8,6 +8,7 @@
 #![tactic(auto)]
 
 mod going_down;
+mod leaving;
 mod listen;
 mod pause;
 mod run_here;

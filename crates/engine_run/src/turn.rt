@@ -1,10 +1,11 @@
 //! One turn of the listener, and what comes before the first one.
 //! Why it is so stands in docs/DECISIONS.md: 90, Front, clock and store stand beside the listener; 140, Parts of the listener's round.
-ghost use Rattle.std.specs.Prelude.{◌≡◌, [], None, false, true, IfErr, IfOk, MatchResult, OnErr, OnOk};
+ghost use Rattle.std.specs.Prelude.{◌≡◌, [], None, Some, true, IfErr, IfOk, IfSome, MatchResult, OnErr, OnOk};
 ghost use Rattle.conn_machine.specs.States.{is_staffed};
 ghost use Rattle.conn_machine.specs.declared.state.Going.TheVariants.{Serving};
 ghost use Rattle.board_book.specs.AtRest.{IsAtRest};
-ghost use Rattle.board_book.specs.ClosedDown.{HasNoLive};
+ghost use Rattle.mpm_base.specs.Front.{is_woken, wait_failed};
+ghost use Rattle.rounds.specs.declared.ends.End.TheVariants as end;
 ghost use Rattle.worker_group.specs.Service.{RefusalLasts};
 ghost use Rattle.listener_parts.specs.Did.{Did, LeavesAlone, OnlySees, StandsAs};
 ghost use Rattle.listener_parts.specs.Rounds.{StartsAtFirst};
@@ -15,7 +16,7 @@ ghost use Rattle.listener_round.specs.StandingInside.{owed_at};
 ghost use Rattle.listener.specs.Counted.{AsksOnce};
 ghost use Rattle.listener.specs.CountedInside.{ClocksAt};
 ghost use Rattle.listener_engine.specs.Rests.{RestsAs};
-ghost use Rattle.engine_run.specs.Between.{ClocksBehind, GoesOnFrom, MayTurn};
+ghost use Rattle.engine_run.specs.Between.{ClocksBehind, EndsBy, GoesOnFrom, MayTurn};
 ghost use Rattle.engine_run.specs.Turns.{listener_of};
 
 use crate::pause::take_pause;
@@ -116,10 +117,8 @@ pub(crate) fn listen_turn<
     listener.table.show();
     let present = listener.table.moment();
     let pause = take_pause(rt, front, clock, &mut listener.ready, listener.rest, present);
-    match pause.woke {
-        Woke::Ended if !has_live(listener, rt) => return Ok(Some(End::Ended)),
-        Woke::Failed => return Ok(Some(End::Failed)),
-        _ => (),
+    if let Some(end) = end_of(listener, rt, pause.woke) {
+        return Ok(Some(end));
     }
     if let Some(end) = listener.take_in(rt, store, front, out, pause.moment)? {
         return Ok(Some(end));
@@ -128,18 +127,34 @@ pub(crate) fn listen_turn<
     Ok(None)
 }
 
-/// Whether a connection is live, as a turn finds it. Where none is, nobody but the listener adds anything behind that.
-fn has_live<R: Wait, M: Room, L: Link, N: Known, B: Bell, G: Gate>(
+/// Why the turns end by what the wait answered, where they do: a wait failed; or nothing more can come, and no connection is live, as a turn
+/// finds. Where none is, nobody but the listener adds anything behind that.
+fn end_of<R: Wait, M: Room, L: Link, N: Known, B: Bell, G: Gate>(
     listener: &mut Listener<'_, '_, M, L, N, B, G>,
     rt: &R,
-) -> bool
+    woke: Woke,
+) -> Option<End>
     ensures did { Did [] None listener.old.table.view listener.new.table.view }
     ensures alone { LeavesAlone listener.old.table.book.state listener.new.table.book.state }
-    ensures none { result ≡ false → HasNoLive listener.new.table.book.state }
     ensures timely { KeepsTime listener.old.table.view listener.new.table.view }
+    ensures woken { is_woken woke ≡ true → listener.new ≡ listener.old }
+    ensures goes_on { is_woken woke ≡ true → result ≡ None }
+    ensures ends { IfSome result (EndsBy woke listener.new.table.book.state) }
+    ensures failed { wait_failed woke ≡ true → result ≡ Some end.Failed }
     ensures others { listener.new ≡ record listener.old { table = listener.new.table } }
 {
-    listener.table.look(rt).live
+    listener.table.show();
+    match woke {
+        Woke::Woke(_) => None,
+        Woke::Failed => Some(End::Failed),
+        Woke::Ended => {
+            if listener.table.look(rt).live {
+                None
+            } else {
+                Some(End::Ended)
+            }
+        }
+    }
 }
 
 /// Hands over what is signalled, serves it where no worker has a thread, and folds the history where it may be folded. Where nothing is left
