@@ -7,7 +7,8 @@ ghost use Rattle.listener_engine.specs.Ordered.{OwnEventsTellTheOrders};
 use board::laws::generations_keep_their_editions;
 use board_turns::turns_rest_on_these;
 use conn_machine::laws_between_turns::{
-    own_events_tell_the_frame, own_events_tell_what_was_taken,
+    others_leave_the_rest_to_the_listener, own_events_tell_the_frame,
+    own_events_tell_what_was_taken,
 };
 
 /// Each command of a history was asked for, and done by its edition, where each of the listener's was, by what it alone decides; and what is
@@ -16,6 +17,7 @@ pub fn own_events_tell_the_orders()
     ensures { OwnEventsTellTheOrders }
 {
     turns_rest_on_these();
+    others_leave_the_rest_to_the_listener();
     own_events_tell_the_frame();
     own_events_tell_what_was_taken();
 }
