@@ -17,9 +17,7 @@ use board::BoardFault;
 use board::laws::generations_keep_their_editions;
 use board_lock::Room;
 use board_turns::turns_rest_on_these;
-use conn_machine::laws_between_turns::{
-    own_events_tell_the_frame, own_events_tell_what_was_taken,
-};
+use conn_machine::laws_between_turns::{own_events_tell_the_frame, own_events_tell_what_was_taken};
 use conn_state::Known;
 use listener_engine::Listener;
 use listener_engine::laws::own_events_tell_the_orders;

@@ -57,16 +57,7 @@ struct Place<'a, L: Link, N: Known> {
 ///
 /// The name says what the front tells of its clients, and what the editions of the store are, so that what connections received and what
 /// they are served by are facts of the board's type.
-pub fn run_here<
-    R: Wait,
-    D: Store,
-    L: Link,
-    F: Front<L = L>,
-    C: Clock,
-    G: Gate,
-    K: Sink,
-    N: Known,
->(
+pub fn run_here<R: Wait, D: Store, L: Link, F: Front<L = L>, C: Clock, G: Gate, K: Sink, N: Known>(
     rt: &R,
     alloc: Global,
     config: NamedConfig<'_>,

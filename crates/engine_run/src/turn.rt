@@ -24,9 +24,7 @@ use board::BoardFault;
 use board::laws::generations_keep_their_editions;
 use board_lock::Room;
 use board_turns::turns_rest_on_these;
-use conn_machine::laws_between_turns::{
-    own_events_tell_the_frame, own_events_tell_what_was_taken,
-};
+use conn_machine::laws_between_turns::{own_events_tell_the_frame, own_events_tell_what_was_taken};
 use conn_state::Known;
 use listener_engine::Listener;
 use mpm_base::{Bell, Clock, Front, Gate, Link, Sink, Store, Woke};
@@ -116,7 +114,14 @@ pub(crate) fn listen_turn<
     generations_keep_their_editions();
     listener.table.show();
     let present = listener.table.moment();
-    let pause = take_pause(rt, front, clock, &mut listener.ready, listener.rest, present);
+    let pause = take_pause(
+        rt,
+        front,
+        clock,
+        &mut listener.ready,
+        listener.rest,
+        present,
+    );
     if let Some(end) = end_of(listener, rt, pause.woke) {
         return Ok(Some(end));
     }

@@ -152,6 +152,7 @@ count_within test kind within (x ∷ xs) = by (kind x) refl (test x) refl
   where
     later : count_by test xs ≡ count_by test (filter kind xs)
     later = count_within test kind within xs
+
     by : (b : Bool) → kind x ≡ b → (c : Bool) → test x ≡ c → count_by test (x ∷ xs) ≡ count_by test (filter kind (x ∷ xs))
     by true is c counts = rw is count_step test x xs (filter kind xs) later
     by false is true counts = absurd (cc (is, within x counts))
@@ -164,6 +165,7 @@ count_mapped test (x ∷ xs) = by (test x.event) refl
   where
     later : count_by (λ e. test e.event) xs ≡ count_by test (map (λ e. e.event) xs)
     later = count_mapped test xs
+
     by : (b : Bool) → test x.event ≡ b → count_by (λ e. test e.event) (x ∷ xs) ≡ count_by test (map (λ e. e.event) (x ∷ xs))
     by true is = rw (is, later) refl
     by false is = rw (is, later) refl

@@ -2,7 +2,7 @@
 use Rattle.std.proofs.Common.{◌≡◌, ◌≢◌, ℕ, zero, suc, ◌+◌, ◌-◌, ◌<◌, ◌≤◌, Bool, true, false, not, ◌||◌, List, [], ◌∷◌, ◌++◌, length, length-append, length-reverse, get_or, reverse, map, Option, Some, None, slice_get, refl, sym, ap, subst, ◌∙◌, arith}
 use Rattle.std.proofs.lemmas.List.{get_or-reverse}
 use Rattle.std.proofs.lemmas.Option.{get_or_from_slice_get, slice_get-get_or}
-use Rattle.std.specs.Prelude.{replicate, slice_index}
+use Rattle.std.specs.Prelude.{IfSome, option_to_list, replicate, slice_index}
 use Rattle.std.specs.List.{list_any}
 use Rattle.atomic_table.specs.Table.{Me}
 use Rattle.mpm_base.specs.declared.shape.Shape.{Shape}
@@ -134,6 +134,12 @@ pub at_first : {X : Type 0} (xs ys : List X) (i : ℕ) (x : X) → slice_get xs 
 at_first [] ys i x at = absurd (cc)
 at_first (z ∷ xs) ys zero x at = at
 at_first (z ∷ xs) ys (suc i) x at = at_first xs ys i x at
+
+-- the last item is as all are, each by its place
+pub last_at : {X : Type 0} (P : ℕ → X → Type 0) (old new : List X) (o : Option X) → old ≡ new ++ option_to_list o
+    → ((i : ℕ) (x : X) → slice_get old i ≡ Some x → P i x) → IfSome o (P (length new))
+last_at P old new None e all = tt
+last_at P old new (Some x) e all = all (length new) x (ap (λ l. slice_get l (length new)) e ∙ at_between new [] x)
 
 -- an item of a list that was turned round
 at_reverse : {X : Type 0} (xs : List X) (i k : ℕ) (x : X) → slice_get (reverse xs) i ≡ Some x → i + k + 1 ≡ length xs → slice_get xs k ≡ Some x

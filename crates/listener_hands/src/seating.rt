@@ -1,5 +1,5 @@
 //! Each carrier comes to rest on the perch.
-ghost use Rattle.std.specs.Prelude.{◌≡◌, ◌≤◌, ◌<◌, ◌+◌, ℕ, IfOk, Some, slice_get, vec_capacity, vec_len};
+ghost use Rattle.std.specs.Prelude.{◌≡◌, ◌≤◌, ◌<◌, ◌+◌, ℕ, IfOk, IfSome, MatchOption, Some, slice_get, vec_capacity, vec_len};
 ghost use Rattle.recycle_perch.specs.Looking.{AllAreOf};
 ghost use Rattle.recycle_perch.specs.Resting.{IsFreeCarrier};
 ghost use Rattle.listener_hands.specs.Opened.{IsNumberedBelow};
@@ -62,9 +62,37 @@ fn seat_all<L: Link, N: Known>(
     ensures count { vec_len looks.new ≡ vec_len looks.old }
 {
     let mut left = carriers;
-    while let Some(carrier) = left.pop() {
+    let count = left.len();
+    while let Some(carrier) = next_carrier(perch, &mut left, count) {
         seat_one(perch, looks, carrier);
     }
+}
+
+/// The last of the carriers that are left, of so many.
+fn next_carrier<L: Link, N: Known>(
+    perch: &Perch<'_, Board<L, N>>,
+    left: &mut Vec<Carrier<Board<L, N>>>,
+    count: usize,
+) -> Option<Carrier<Board<L, N>>>
+    requires theirs { (i : ℕ) (c : _)
+        → slice_get left.old.items i ≡ Some c
+        → c.seat.table_id ≡ perch.now.shared.now.table.shared.table_id }
+    requires numbered { (i : ℕ) (c : _)
+        → slice_get left.old.items i ≡ Some c
+        → IsNumberedBelow count i c.seat.me }
+    ensures theirs { (i : ℕ) (c : _)
+        → slice_get left.new.items i ≡ Some c
+        → c.seat.table_id ≡ perch.now.shared.now.table.shared.table_id }
+    ensures numbered { (i : ℕ) (c : _)
+        → slice_get left.new.items i ≡ Some c
+        → IsNumberedBelow count i c.seat.me }
+    ensures own { IfSome result
+        (λ c. c.seat.table_id ≡ perch.now.shared.now.table.shared.table_id) }
+    ensures last { IfSome result (λ c. IsNumberedBelow count (vec_len left.new) c.seat.me) }
+    ensures len { MatchOption result ((vec_len left.old ≡ 0) × (vec_len left.new ≡ 0))
+        (λ _. vec_len left.new + 1 ≡ vec_len left.old) }
+{
+    left.pop()
 }
 
 /// Makes the place of the carrier, which is the next by its number, and lays it down there.

@@ -105,7 +105,7 @@ pub plain_timely : (f : Frame) (events : List Event) → ArePlain events → Are
 plain_timely f [] plain = tt
 plain_timely f (e ∷ events) plain = (plain_at f e plain.0, plain_timely (frame_next f e) events plain.1)
 
-plain_both : (a b : List Event) → ArePlain a → ArePlain b → ArePlain (a ++ b)
+pub plain_both : (a b : List Event) → ArePlain a → ArePlain b → ArePlain (a ++ b)
 plain_both [] b first second = second
 plain_both (e ∷ a) b first second = (first.0, plain_both a b first.1 second)
 

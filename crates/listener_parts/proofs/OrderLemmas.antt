@@ -1,6 +1,7 @@
 -- What an order makes of what pass 0 has seen.
-use Rattle.std.proofs.Common.{◌≡◌, ℕ, zero, suc, ◌+◌, ◌==◌, Bool, true, false, List, [], ◌∷◌, ◌++◌, map, count_by, refl, sym, ap, subst, ◌∙◌, append-nil, append_assoc, if◌then◌else◌, arith}
+use Rattle.std.proofs.Common.{◌≡◌, ℕ, zero, suc, ◌+◌, ◌==◌, Bool, true, false, List, [], ◌∷◌, ◌++◌, map, cond, zero-add, refl, sym, ap, subst, ◌∙◌, append-nil, append_assoc, if◌then◌else◌, arith}
 use Rattle.std.proofs.lemmas.List.Elements.{filter-append}
+use Rattle.std.proofs.lemmas.List.Sums.{sum_by-append, sum_by-cons}
 use Rattle.std.specs.Prelude.{filter, fold, Option, None, Some, Result, OnOk, IfErr, slice_index, length, ⊤}
 use Rattle.std.specs.declared.result.Result.TheVariants.{Ok, Err}
 use Rattle.conn_machine.specs.declared.event.Commanded.{Commanded}
@@ -52,10 +53,17 @@ not_order (event.Retire k) none = refl
 abbrev own_kinds : List Entry → List Entry
 own_kinds history = filter (λ (e : Entry). is_listeners e.event) history
 
+count_more : (e : Entry) (history : List Entry) → count_events is_order (e ∷ history) ≡ cond (is_order e.event) 1 0 + count_events is_order history
+count_more e history = sum_by-cons (λ (x : Entry). cond (is_order x.event) 1 0) e history
+
 orders_cons : (e : Entry) (history : List Entry) (kind : Bool) → is_listeners e.event ≡ kind → count_events is_order history ≡ count_events is_order (own_kinds history)
     → count_events is_order (e ∷ history) ≡ count_events is_order (own_kinds (e ∷ history))
-orders_cons e history true is rest = rw (is, rest) refl
-orders_cons e history false is rest = rw (is, not_order e.event is) rest
+orders_cons e history true is rest =
+    rw is
+    (count_more e history ∙ ap (λ (n : ℕ). cond (is_order e.event) 1 0 + n) rest ∙ sym (count_more e (own_kinds history)))
+orders_cons e history false is rest =
+    let none : cond (is_order e.event) 1 0 ≡ 0 = ap (λ (b : Bool). cond b 1 0) (not_order e.event is) in
+    rw is (count_more e history ∙ ap (λ (n : ℕ). n + count_events is_order history) none ∙ zero-add (count_events is_order history) ∙ rest)
 
 orders_kinds : (history : List Entry) → count_events is_order history ≡ count_events is_order (own_kinds history)
 orders_kinds [] = refl
@@ -129,20 +137,11 @@ count_one : (order : Commanded) (x : Entry) (b : Bool) → is_order (event.Comma
 count_one order x true here is n = rw (is, here) refl
 count_one order x false here is n = rw (is, here) (omega arith)
 
-count_cons : (p : Entry → Bool) (x : Entry) (xs ys : List Entry) (b : Bool) → p x ≡ b → count_by p (xs ++ ys) ≡ count_by p xs + count_by p ys
-    → count_by p (x ∷ (xs ++ ys)) ≡ count_by p (x ∷ xs) + count_by p ys
-count_cons p x xs ys true is rest = rw is (omega (arith, rest))
-count_cons p x xs ys false is rest = rw is rest
-
-count_both : (p : Entry → Bool) (xs ys : List Entry) → count_by p (xs ++ ys) ≡ count_by p xs + count_by p ys
-count_both p [] ys = omega arith
-count_both p (x ∷ xs) ys = count_cons p x xs ys (p x) refl (count_both p xs ys)
-
 orders_more : (order : Commanded) (history : List Entry) (x : Entry) → x.event ≡ event.Command order → (first : ℕ)
     → first + count_events is_order (history ++ x ∷ []) ≡ orders_behind order (first + count_events is_order history)
 orders_more order history x is first =
     let both : count_events is_order (history ++ x ∷ []) ≡ count_events is_order history + count_events is_order (x ∷ []) =
-    count_both (λ (e : Entry). is_order e.event) history (x ∷ []) in
+    sum_by-append (λ (e : Entry). cond (is_order e.event) 1 0) history (x ∷ []) in
     let one = count_one order x (is_order (event.Command order)) refl is (first + count_events is_order history) in
     let sum : first + count_events is_order (history ++ x ∷ []) ≡ first + count_events is_order history + count_events is_order (x ∷ []) = omega (arith, both) in
     sum ∙ one

@@ -10,11 +10,11 @@ invariant-loop-carrier g l =
     record {
       own : l.perch.shared.now.table.shared.table_id ≡ l.initial.perch.shared.now.table.shared.table_id;
       theirs : (i : ℕ) (c : _) → slice_get l.left.items i ≡ Some c → c.seat.table_id ≡ l.perch.shared.now.table.shared.table_id;
-      numbered : (i : ℕ) (c : _) → slice_get l.left.items i ≡ Some c → IsNumberedBelow (vec_len l.initial.left) i c.seat.me;
-      all : vec_len l.perch.places + vec_len l.left ≡ vec_len l.initial.left;
-      room : vec_capacity l.perch.places ≡ vec_len l.initial.left;
+      numbered : (i : ℕ) (c : _) → slice_get l.left.items i ≡ Some c → IsNumberedBelow l.count i c.seat.me;
+      all : vec_len l.perch.places + vec_len l.left ≡ l.count;
+      room : vec_capacity l.perch.places ≡ l.count;
       looks : AllAreOf l.perch.places l.looks.items;
-      count : vec_len l.looks ≡ vec_len l.initial.looks;
+      many : vec_len l.looks ≡ vec_len l.initial.looks;
       some : 1 ≤ vec_len l.looks;
     }
 

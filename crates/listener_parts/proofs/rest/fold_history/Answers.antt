@@ -21,4 +21,4 @@ returns-clause-rest g c = quiet_alone c.others_leave_the_rest_to_the_listener.en
 pub returns-clause-still : goal.returns-clause-still
 returns-clause-still g c opened rest =
     let t = c.fold.ensures.turn in
-    rest_stays c.quiet_tables_are_the_listeners.ensures _ _ opened c.requires.listener.number t.made t.others rest
+    rest_stays c.quiet_tables_are_the_listeners.ensures c.args.pass.now.seat.me.0 c.fold.new.pass.seat.me.0.seen opened c.requires.listener.number t.made t.others rest
