@@ -112,7 +112,8 @@ impl<'a, 'c, M: Room, L: Link, N: Known, B: Bell, G: Gate> Listener<'a, 'c, M, L
         ensures ends { IfOk result
             (λ ended. ComesTo ended self.new.rest (F.seen front.old) (F.seen front.new)
             self.new.table.book.state) }
-        ensures rests { IfOk result (λ ended. ended ≡ None → RestsAs self.new.rest self.new.table.view) }
+        ensures rests { IfOk result
+            (λ ended. ended ≡ None → RestsAs self.new.rest self.new.table.view) }
         ensures unheeded { OnErr result (IfSome (F.seen front.new).told HasNoneToHeed) }
         ensures follows { Follows (F.seen front.old) (F.seen front.new) }
         ensures front { TellsOn OnlyReadsAndTakes (F.seen front.old).told (F.seen front.new).told }
@@ -150,7 +151,8 @@ impl<'a, 'c, M: Room, L: Link, N: Known, B: Bell, G: Gate> Listener<'a, 'c, M, L
 
     /// Whether the time of a graceful stop is over.
     fn is_overdue(&self) -> bool
-        ensures { result ≡ is_over self.now.table.book.state.moment self.now.table.book.state.going }
+        ensures { result
+            ≡ is_over self.now.table.book.state.moment self.now.table.book.state.going }
     {
         self.table.going().is_over(self.table.moment())
     }
