@@ -2,6 +2,7 @@
 ghost use Rattle.board.specs.Editions.{GenerationsKeepTheirEditions};
 ghost use Rattle.board_turns.specs.Rests.{TurnsRestOn};
 ghost use Rattle.conn_machine.specs.Frames.{OwnEventsTellTheFrame, OwnEventsTellWhatWasTaken};
+ghost use Rattle.conn_machine.specs.HistoryLaws.{HistoriesKeepSizes};
 ghost use Rattle.listener_engine.specs.Ordered.{OwnEventsTellTheOrders};
 
 use board::laws::generations_keep_their_editions;
@@ -10,6 +11,7 @@ use conn_machine::laws_between_turns::{
     others_leave_the_rest_to_the_listener, own_events_tell_the_frame,
     own_events_tell_what_was_taken,
 };
+use conn_machine::laws_of_runs::histories_keep_sizes;
 
 /// Each command of a history was asked for, and done by its edition, where each of the listener's was, by what it alone decides; and what is
 /// counted of the kinds of events that it alone makes is counted of its own.
@@ -28,9 +30,11 @@ pub(crate) fn show_whole_histories()
     ensures frame { OwnEventsTellTheFrame }
     ensures taken { OwnEventsTellWhatWasTaken }
     ensures editions { GenerationsKeepTheirEditions }
+    ensures sizes { HistoriesKeepSizes }
 {
     turns_rest_on_these();
     own_events_tell_the_frame();
     own_events_tell_what_was_taken();
     generations_keep_their_editions();
+    histories_keep_sizes();
 }
