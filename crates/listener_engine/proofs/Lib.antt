@@ -1,2 +1,3 @@
+pub mod BroughtLemmas
 pub mod OrderLemmas
 pub mod StandingLemmas
