@@ -1,3 +1,4 @@
 pub mod BroughtLemmas
 pub mod OrderLemmas
 pub mod StandingLemmas
+pub mod TakenLemmas
