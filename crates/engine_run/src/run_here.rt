@@ -22,7 +22,7 @@ ghost use Rattle.listener.specs.RunsInside.{HasRunBy, open_lines_of};
 ghost use Rattle.listener.specs.Unused.{IsUnused};
 ghost use Rattle.listener_engine.specs.Standing.{opened_origin};
 
-use crate::leaving::show_run;
+use crate::leaving::leave;
 use crate::listen::listen;
 use board::Board;
 use board_lock::{Pass, Room, Shared};
@@ -31,7 +31,6 @@ use listener::{OpenFault, ServedRun};
 use listener_engine::Listener;
 use listener_hands::{Opened, Queues, WorksHere, make_lines, make_queues, open, seat_carriers};
 use listener_parts::Rest;
-use listener_parts::laws::own_events_tell_the_time;
 use listener_round::{LoadedEdition, NamedConfig, RunNumbers, numbers_of};
 use listener_table::Table;
 use mpm_base::{Clock, Front, Gate, Link, Ready, Sink, Store};
@@ -193,9 +192,6 @@ fn run_at<
         pass,
         mut looks,
     } = place;
-    let Ok(ready) = Ready::make(alloc) else {
-        return Err(OpenFault::NoMemory);
-    };
     let Ok(queues) = make_queues::<M, L, N>(alloc, numbers.children) else {
         return Err(OpenFault::NoMemory);
     };
@@ -209,26 +205,88 @@ fn run_at<
     let Ok(bell) = front.bell(alloc) else {
         return Err(OpenFault::NoMemory);
     };
-    if !front.bind(numbers.listen, numbers.control) {
-        return Err(OpenFault::Bind);
-    }
-    own_events_tell_the_time();
-    let written = write_all(out, text);
-    let hands = Hands {
+    let hands: Hands<'_, M, L, N, F::B, G> = Hands {
         shared,
         perch,
         bell: &bell,
         gate,
-        of: PhantomData::<M>,
+        of: PhantomData,
     };
     let works = WorksHere {
         hands: &hands,
         looks,
         lines,
     };
+    let table = Table::make(&hands, pass, works);
+    run_table(
+        rt, alloc, numbers, table, &bell, config, edition, store, front, clock, out, text,
+    )
+}
+
+/// The same with the table, of which nothing was asked yet, and the bell of the front.
+fn run_table<
+    R: Wait,
+    M: Room,
+    D: Store,
+    L: Link,
+    F: Front<L = L>,
+    C: Clock,
+    G: Gate,
+    K: Sink,
+    N: Known,
+>(
+    rt: &R,
+    alloc: Global,
+    numbers: RunNumbers,
+    table: Table<'_, M, L, N, F::B, G>,
+    bell: &F::B,
+    config: NamedConfig<'_>,
+    edition: LoadedEdition,
+    store: &mut D,
+    front: &mut F,
+    clock: &mut C,
+    out: &mut K,
+    text: &[u8],
+) -> Result<ServedRun<L>, OpenFault>
+    requires numbers { numbers ≡ opening.numbers_of config.config.now }
+    requires opens { OpensAt (opened_origin numbers) table.view }
+    requires none { HasNoLive table.book.state }
+    requires limits { edition.limits ≡ head_limits_of config.config.now }
+    requires timeout { edition.stop_ms ≡ config.config.now.current.stop_ms }
+    requires named { N.known ≡ Some
+        (known_outside (opening_by config edition (D.seen store.old) (F.seen front.old))) }
+    requires unused { IfSome (F.seen front.old).told IsUnused }
+    requires unasked { IfSome (C.told clock.old) (λ calls. calls ≡ []) }
+    ensures run { let opened = opening_by config.entry edition
+        (D.seen store.old) (F.seen front.old) in
+        IfOk result (λ s. (run : HasRunBy opened (D.seen store.new) (F.seen front.new)
+        (C.told clock.new) s.board)
+        × WritesAll (K.seen out.old) (K.seen out.new) (text.now ++ open_lines_of run) s.written) }
+    ensures follows { Follows (F.seen front.old) (F.seen front.new) }
+    ensures still { is_some (C.told clock.new) ≡ is_some (C.told clock.old) }
+    ensures clocked { IfOk result
+        (λ s. KeepsClock s.board.book.state (C.greatest clock.old) (C.greatest clock.new)) }
+    ensures unclocked { OnErr result (C.greatest clock.new ≡ C.greatest clock.old) }
+    ensures asked { AsksOnce (F.seen front.old).counts.wakes (F.seen front.new).counts.wakes
+        (C.asked clock.old) (C.asked clock.new) }
+    ensures faults { IfOk result (λ s. NeverFalls (K.seen out.old).faults (K.seen out.new).faults) }
+    ensures unopened { IfErr result
+        (IsUnopened (opening.numbers_of config.entry.config.now) (F.seen front.old)
+        (F.seen front.new)) }
+    ensures store { OnErr result (D.seen store.new ≡ D.seen store.old) }
+    ensures clock { OnErr result (C.told clock.new ≡ C.told clock.old) }
+    ensures silent { OnErr result (K.seen out.new ≡ K.seen out.old) }
+{
+    let Ok(ready) = Ready::make(alloc) else {
+        return Err(OpenFault::NoMemory);
+    };
+    if !front.bind(numbers.listen, numbers.control) {
+        return Err(OpenFault::Bind);
+    }
+    let written = write_all(out, text);
     let mut listener = Listener {
         alloc,
-        table: Table::make(&hands, pass, works),
+        table,
         config,
         edition,
         ready,
@@ -236,25 +294,9 @@ fn run_at<
             until: None,
             quiet: false,
         },
-        bell: &bell,
+        bell,
         written,
     };
     listen(&mut listener, rt, store, front, clock, out);
-    let Listener {
-        alloc: _,
-        table,
-        config: _,
-        edition: _,
-        ready: _,
-        rest: _,
-        bell: _,
-        written,
-    } = listener;
-    table.show();
-    let board = table.close(rt);
-    show_run(&board, numbers);
-    Ok(ServedRun {
-        board: board.forget(),
-        written,
-    })
+    Ok(leave(rt, listener, numbers))
 }
