@@ -1,4 +1,5 @@
 pub mod BroughtLemmas
+pub mod HearsLemmas
 pub mod OrderLemmas
 pub mod SilentLemmas
 pub mod StandingLemmas
