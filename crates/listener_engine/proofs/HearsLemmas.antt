@@ -37,7 +37,7 @@ use Rattle.listener_round.proofs.WrittenLemmas.{writes-more, writes-none}
 use Rattle.listener_engine.specs.Hearing.{Hearing, Hears, hearing}
 use Rattle.listener_engine.specs.Ordered.{OwnEventsTellTheOrders}
 use Rattle.listener_engine.specs.Own.{own_of}
-use Rattle.listener_engine.specs.Standing.{Standing, StandsOn, StandsSo, opened_origin, standing}
+use Rattle.listener_engine.specs.Standing.{Standing, StandsOn, StandsSo, standing}
 use Rattle.listener_engine.proofs.StandingLemmas.{count_more}
 use Rattle.listener_engine.proofs.TakenLemmas.{own_since}
 

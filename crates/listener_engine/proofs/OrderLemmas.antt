@@ -11,7 +11,7 @@ use Rattle.conn_machine.specs.declared.folded.Folded.{Folded}
 use Rattle.conn_machine.specs.declared.state.State.{State}
 use Rattle.conn_machine.specs.BetweenTurns.{OthersLeaveTheRestToTheListener}
 use Rattle.conn_machine.specs.Events.{count_events, is_listeners}
-use Rattle.conn_machine.specs.Frames.{Frame, OwnEventsTellTheFrame, OwnEventsTellWhatWasTaken, frame_next, frame_of}
+use Rattle.conn_machine.specs.Frames.{Frame, OwnEventsTellTheFrame, OwnEventsTellWhatWasTaken, frame_of}
 use Rattle.conn_machine.specs.Made.{AreMade, AreMadeBehind}
 use Rattle.conn_machine.specs.Passes.{OnlyServes}
 use Rattle.conn_machine.specs.Runs.{IsNextOf, after, entries_of, may_make, own_events, row_from}

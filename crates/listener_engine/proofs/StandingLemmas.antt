@@ -4,19 +4,13 @@ use Rattle.std.proofs.lemmas.List.Folds.{list_any-append}
 use Rattle.std.proofs.lemmas.List.Sums.{sum_by-append}
 use Rattle.std.specs.Prelude.{⊤}
 use Rattle.std.specs.List.{list_any}
+use Rattle.mpm_base.specs.Store.{StoreSeen}
 use Rattle.conn_machine.specs.declared.event.Event.{Event}
 use Rattle.conn_machine.specs.declared.event.Event.TheVariants as event
-use Rattle.conn_machine.specs.declared.state.State.{State}
 use Rattle.conn_machine.specs.Events.{is_order}
-use Rattle.conn_machine.specs.Folds.{opening_record}
-use Rattle.conn_machine.specs.Frames.{Frame, OwnEventsTellTheFrame, frame_next, frame_of, frames}
-use Rattle.conn_machine.specs.Made.{AreMade}
-use Rattle.conn_machine.specs.Runs.{after, own_events}
+use Rattle.conn_machine.specs.Frames.{Frame, frame_next, frame_of, frames}
 use Rattle.conn_machine.specs.States.{is_serving}
-use Rattle.table_rule.specs.declared.view.Origin.{Origin}
-use Rattle.table_rule.specs.declared.view.View.{View}
 use Rattle.board_turns.specs.Books.{state_of}
-use Rattle.listener_hands.specs.Opened.{opening_origin}
 use Rattle.listener_round.specs.declared.run_numbers.RunNumbers.{RunNumbers}
 use Rattle.listener_round.specs.Commands.{is_by_line, is_graceful_stop}
 use Rattle.listener_round.specs.FirstNumbers.{opened_by}
@@ -26,7 +20,7 @@ use Rattle.listener_round.specs.StandingInside.{HasTimeout}
 use Rattle.listener_round.specs.Stores.{RisesBy, is_store_refusal}
 use Rattle.listener_engine.specs.Ordered.{AreOrderedFrom, IsOrderedAt, edition_behind}
 use Rattle.listener_engine.specs.Own.{own_of}
-use Rattle.listener_engine.specs.Standing.{IsRenewedBy, Standing, StandsSo, opened_origin}
+use Rattle.listener_engine.specs.Standing.{Standing, StandsSo}
 
 -- ## Some events, and then some more
 
@@ -166,9 +160,9 @@ module _ (o : Opening) (n : RunNumbers) (events : List Event) (a b : Standing) (
         no_more = omega (arith, orders, s.no_more);
         store =
             record {
-              told = ap (λ st. st.told) same.store ∙ s.store.told;
+              told = ap (λ (st : StoreSeen). st.told) same.store ∙ s.store.told;
               failed =
                   subst (λ (m : ℕ). RisesBy m o.store.counts.faults b.store.counts.faults) (sym refusals)
-                  (subst (λ st. RisesBy (count_by is_store_refusal (own_of a.view)) o.store.counts.faults st.counts.faults) (sym same.store) s.store.failed);
+                  (subst (λ (st : StoreSeen). RisesBy (count_by is_store_refusal (own_of a.view)) o.store.counts.faults st.counts.faults) (sym same.store) s.store.failed);
             };
       }
