@@ -5,11 +5,16 @@ use Rattle.std.proofs.lemmas.List.Sums.{sum_by-append}
 use Rattle.std.specs.Prelude.{⊤}
 use Rattle.std.specs.List.{list_any}
 use Rattle.mpm_base.specs.Store.{StoreSeen}
+use Rattle.conn_machine.specs.declared.event.Commanded.{Commanded}
 use Rattle.conn_machine.specs.declared.event.Event.{Event}
 use Rattle.conn_machine.specs.declared.event.Event.TheVariants as event
 use Rattle.conn_machine.specs.Events.{is_order}
-use Rattle.conn_machine.specs.Frames.{Frame, frame_next, frame_of, frames}
+use Rattle.conn_machine.specs.Folds.{opening_record}
+use Rattle.conn_machine.specs.Frames.{Frame, OwnEventsTellTheFrame, frame_next, frame_of, frames}
+use Rattle.conn_machine.specs.Made.{AreMade}
 use Rattle.conn_machine.specs.States.{is_serving}
+use Rattle.table_rule.specs.declared.view.Origin.{Origin}
+use Rattle.table_rule.specs.declared.view.View.{View}
 use Rattle.board_turns.specs.Books.{state_of}
 use Rattle.listener_round.specs.declared.run_numbers.RunNumbers.{RunNumbers}
 use Rattle.listener_round.specs.Commands.{is_by_line, is_graceful_stop}
@@ -18,9 +23,9 @@ use Rattle.listener_round.specs.Generations.{Opening}
 use Rattle.listener_round.specs.Orders.{edition_with, orders_with}
 use Rattle.listener_round.specs.StandingInside.{HasTimeout}
 use Rattle.listener_round.specs.Stores.{RisesBy, is_store_refusal}
-use Rattle.listener_engine.specs.Ordered.{AreOrderedFrom, IsOrderedAt, edition_behind}
+use Rattle.listener_engine.specs.Ordered.{AreOrderedFrom, IsDoneAt, IsOrderedAt, edition_behind}
 use Rattle.listener_engine.specs.Own.{own_of}
-use Rattle.listener_engine.specs.Standing.{Standing, StandsSo}
+use Rattle.listener_engine.specs.Standing.{Standing, StandsSo, opened_origin}
 
 -- ## Some events, and then some more
 
@@ -166,3 +171,44 @@ module _ (o : Opening) (n : RunNumbers) (events : List Event) (a b : Standing) (
                   (subst (λ (st : StoreSeen). RisesBy (count_by is_store_refusal (own_of a.view)) o.store.counts.faults st.counts.faults) (sym same.store) s.store.failed);
             };
       }
+
+-- ## A command
+
+-- how many orders there are behind the events
+pub orders_counted : (orders : ℕ) (events : List Event) → orders_on orders events ≡ orders + count_by is_order events
+orders_counted orders [] = omega arith
+orders_counted orders (e ∷ events) =
+    let later : orders_on (orders_with e orders) events ≡ orders_with e orders + count_by is_order events = orders_counted (orders_with e orders) events in
+    by (is_order e) refl later
+  where
+    by : (b : Bool) → is_order e ≡ b → orders_on (orders_with e orders) events ≡ orders_with e orders + count_by is_order events
+        → orders_on (orders_with e orders) events ≡ orders + count_by is_order (e ∷ events)
+    by true is later =
+        let with_one : orders_with e orders ≡ orders + 1 = rw is refl in
+        let one_more : count_by is_order (e ∷ events) ≡ 1 + count_by is_order events = rw is refl in
+        omega (arith, later, with_one, one_more)
+    by false is later =
+        let with_none : orders_with e orders ≡ orders = rw is refl in
+        let no_more : count_by is_order (e ∷ events) ≡ count_by is_order events = rw is refl in
+        omega (arith, later, with_none, no_more)
+
+-- the frame behind all that pass 0 has seen is that of its own events
+frame_behind : OwnEventsTellTheFrame → (n : RunNumbers) (v : View) → v.origin ≡ opened_origin n → AreMade v.origin.state (opening_record v.origin.passes) v.seen
+    → frame_of (state_of v) ≡ frames (frame_of (opened_by n)) (own_of v)
+frame_behind law n v origin made =
+    law.frame v.origin.state (opening_record v.origin.passes) v.seen made
+    ∙ ap (λ (x : Origin). frames (frame_of x.state) (own_of v)) origin
+
+-- behind a command that was asked for, all commands were
+pub ordered_by : OwnEventsTellTheFrame → (o : Opening) (n : RunNumbers) (c : Commanded) (a b : View) → a.origin ≡ opened_origin n
+    → AreMade a.origin.state (opening_record a.origin.passes) a.seen → own_of b ≡ own_of a ++ event.Command c ∷ []
+    → IsDoneAt o (count_by is_order (own_of a)) (edition_behind 0 0 (own_of a)) (frame_of (state_of a)) c
+    → AreOrderedFrom o 0 0 (frame_of (opened_by n)) (own_of a) → AreOrderedFrom o 0 0 (frame_of (opened_by n)) (own_of b)
+ordered_by law o n c a b origin made own done before =
+    let first : Frame = frame_of (opened_by n) in
+    let edition : ℕ = edition_behind 0 0 (own_of a) in
+    let there : IsDoneAt o (count_by is_order (own_of a)) edition (frames first (own_of a)) c =
+    subst (λ (f : Frame). IsDoneAt o (count_by is_order (own_of a)) edition f c) (frame_behind law n a origin made) done in
+    let here : IsDoneAt o (orders_on 0 (own_of a)) edition (frames first (own_of a)) c =
+    subst (λ (k : ℕ). IsDoneAt o k edition (frames first (own_of a)) c) (sym (orders_counted 0 (own_of a))) there in
+    subst (AreOrderedFrom o 0 0 first) (sym own) (ordered_more o 0 0 first (own_of a) (event.Command c ∷ []) before (here, tt))
