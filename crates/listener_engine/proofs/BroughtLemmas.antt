@@ -101,7 +101,7 @@ moves_both : (m n : ℕ) → replicate m moved ++ replicate n moved ≡ replicat
 moves_both m n = replicate-append-replicate m n moved
 
 module _ (r : Round) where
-  timed : List Event
+  abbrev timed : List Event
   timed = time_events r.early r.ticks r.late ++ map event.Ready r.signals ++ departures_events r.departures
 
   brings_timed : brought_by timed ≡ map ticked r.ticks ++ map signalled r.signals

@@ -1,5 +1,6 @@
 -- That each command of a history was asked for, where each of the listener's was; and what is counted of its own events.
-use Rattle.std.proofs.Common.{◌≡◌, ◌==◌, ℕ, ◌+◌, Bool, true, false, List, [], ◌∷◌, ◌++◌, count_by, filter, map, Option, refl, sym, ap, subst, ◌∙◌}
+use Rattle.std.proofs.Common.{◌≡◌, ◌==◌, ℕ, ◌+◌, Bool, true, false, List, [], ◌∷◌, ◌++◌, count_by, cond, filter, map, Option, refl, sym, ap, subst, ◌∙◌, arith}
+use Rattle.std.proofs.lemmas.List.Sums.{sum_by-cons}
 use Rattle.mpm_base.specs.declared.conn.ConnName.{ConnName}
 use Rattle.conn_machine.specs.declared.event.Commanded.{Commanded}
 use Rattle.conn_machine.specs.declared.event.Commanded.TheVariants as commanded
@@ -138,37 +139,37 @@ module _ (rests : TurnsRestOn) (others : OthersLeaveTheRestToTheListener) (frame
 
 -- ## Counts
 
--- what is counted of entries is counted of those of a kind that all of them are of
+count_cons : {X : Type 0} (test : X → Bool) (x : X) (xs : List X) → count_by test (x ∷ xs) ≡ cond (test x) 1 0 + count_by test xs
+count_cons test x xs = sum_by-cons (λ y. cond (test y) 1 0) x xs
+
 count_step : (test : Entry → Bool) (x : Entry) (xs ys : List Entry) → count_by test xs ≡ count_by test ys → count_by test (x ∷ xs) ≡ count_by test (x ∷ ys)
-count_step test x xs ys same = by (test x) refl
-  where
-    by : (b : Bool) → test x ≡ b → count_by test (x ∷ xs) ≡ count_by test (x ∷ ys)
-    by true is = rw (is, same) refl
-    by false is = rw (is, same) refl
+count_step test x xs ys same = count_cons test x xs ∙ ap (λ (n : ℕ). cond (test x) 1 0 + n) same ∙ sym (count_cons test x ys)
+
+-- what is counted of entries is counted of those of a kind that all of them are of
+count_within_cons : (test kind : Entry → Bool) → ((x : Entry) → test x ≡ true → kind x ≡ true) → (x : Entry) (xs : List Entry) (b : Bool) → kind x ≡ b → (c : Bool)
+    → test x ≡ c → count_by test xs ≡ count_by test (filter kind xs) → count_by test (x ∷ xs) ≡ count_by test (filter kind (x ∷ xs))
+count_within_cons test kind within x xs true is c counts later =
+    let kept : filter kind (x ∷ xs) ≡ x ∷ filter kind xs = rw is refl in
+    count_step test x xs (filter kind xs) later ∙ ap (count_by test) (sym kept)
+count_within_cons test kind within x xs false is true counts later = absurd (cc (is, within x counts))
+count_within_cons test kind within x xs false is false counts later =
+    let left : filter kind (x ∷ xs) ≡ filter kind xs = rw is refl in
+    let none : cond (test x) 1 0 ≡ 0 = ap (λ (b : Bool). cond b 1 0) counts in
+    let less : count_by test (x ∷ xs) ≡ count_by test xs = omega (arith, count_cons test x xs, none) in
+    less ∙ later ∙ ap (count_by test) (sym left)
 
 count_within : (test kind : Entry → Bool) → ((x : Entry) → test x ≡ true → kind x ≡ true) → (xs : List Entry) → count_by test xs ≡ count_by test (filter kind xs)
 count_within test kind within [] = refl
-count_within test kind within (x ∷ xs) = by (kind x) refl (test x) refl
-  where
-    later : count_by test xs ≡ count_by test (filter kind xs)
-    later = count_within test kind within xs
-
-    by : (b : Bool) → kind x ≡ b → (c : Bool) → test x ≡ c → count_by test (x ∷ xs) ≡ count_by test (filter kind (x ∷ xs))
-    by true is c counts = rw is count_step test x xs (filter kind xs) later
-    by false is true counts = absurd (cc (is, within x counts))
-    by false is false counts = rw (is, counts) later
+count_within test kind within (x ∷ xs) =
+    count_within_cons test kind within x xs (kind x) refl (test x) refl (count_within test kind within xs)
 
 -- and of their events as of them
 count_mapped : (test : Event → Bool) (xs : List Entry) → count_by (λ e. test e.event) xs ≡ count_by test (map (λ e. e.event) xs)
 count_mapped test [] = refl
-count_mapped test (x ∷ xs) = by (test x.event) refl
-  where
-    later : count_by (λ e. test e.event) xs ≡ count_by test (map (λ e. e.event) xs)
-    later = count_mapped test xs
-
-    by : (b : Bool) → test x.event ≡ b → count_by (λ e. test e.event) (x ∷ xs) ≡ count_by test (map (λ e. e.event) (x ∷ xs))
-    by true is = rw (is, later) refl
-    by false is = rw (is, later) refl
+count_mapped test (x ∷ xs) =
+    count_cons (λ (e : Entry). test e.event) x xs
+    ∙ ap (λ (n : ℕ). cond (test x.event) 1 0 + n) (count_mapped test xs)
+    ∙ sym (count_cons test x.event (map (λ (e : Entry). e.event) xs))
 
 counted_own : OwnEventsTellWhatWasTaken → (test : Event → Bool) (base : State) (f : Folded) (history : List Entry)
     → ((e : Event) → test e ≡ true → is_listeners e ≡ true) → AreMade base f history → count_events test history ≡ count_by test (own_events 0 history)

@@ -1,7 +1,7 @@
 -- How a run stands on by what its listener does.
 use Rattle.std.proofs.Common.{◌≡◌, ℕ, ◌+◌, Bool, true, false, not, ◌||◌, List, [], ◌∷◌, ◌++◌, count_by, cond, refl, sym, ap, subst, ◌∙◌, arith}
 use Rattle.std.proofs.lemmas.List.Folds.{list_any-append}
-use Rattle.std.proofs.lemmas.List.Sums.{sum_by-append}
+use Rattle.std.proofs.lemmas.List.Sums.{sum_by-append, sum_by-cons}
 use Rattle.std.specs.Prelude.{⊤}
 use Rattle.std.specs.List.{list_any}
 use Rattle.mpm_base.specs.Store.{StoreSeen}
@@ -30,7 +30,7 @@ use Rattle.listener_engine.specs.Standing.{Standing, StandsSo, opened_origin}
 -- ## Some events, and then some more
 
 -- how many orders there are behind the events, where there were so many before
-pub orders_on : ℕ → List Event → ℕ
+abbrev pub orders_on : ℕ → List Event → ℕ
 orders_on orders [] = orders
 orders_on orders (e ∷ events) = orders_on (orders_with e orders) events
 
@@ -115,12 +115,12 @@ or_none false = refl
 -- ## A run that stands so
 
 -- what the standings have in common, but for what the listener did
-record SameBesides (a b : Standing) : Type 0 where
-  stop_ms : b.stop_ms ≡ a.stop_ms
-  store : b.store ≡ a.store
-  commands : b.front.counts.commands ≡ a.front.counts.commands
-  origin : b.view.origin ≡ a.view.origin
-  serving : is_serving (state_of b.view).going ≡ is_serving (state_of a.view).going
+pub record SameBesides (a b : Standing) : Type 0 where
+  pub stop_ms : b.stop_ms ≡ a.stop_ms
+  pub store : b.store ≡ a.store
+  pub commands : b.front.counts.commands ≡ a.front.counts.commands
+  pub origin : b.view.origin ≡ a.view.origin
+  pub serving : is_serving (state_of b.view).going ≡ is_serving (state_of a.view).going
 
 -- behind silent events it stands as before
 module _ (o : Opening) (n : RunNumbers) (events : List Event) (a b : Standing) (own : own_of b.view ≡ own_of a.view ++ events) (silent : AreSilent events) where
@@ -130,7 +130,7 @@ module _ (o : Opening) (n : RunNumbers) (events : List Event) (a b : Standing) (
       let zero_more : count_by test events ≡ 0 = silent_count test none events silent in
       ap (count_by test) own ∙ more ∙ ap (λ (m : ℕ). count_by test (own_of a.view) + m) zero_more ∙ omega arith
 
-  first_frame : Frame
+  abbrev first_frame : Frame
   first_frame = frame_of (opened_by n)
 
   pub stands_silent : SameBesides a b → StandsSo o n 0 0 a → StandsSo o n 0 0 b
@@ -174,6 +174,9 @@ module _ (o : Opening) (n : RunNumbers) (events : List Event) (a b : Standing) (
 
 -- ## A command
 
+count_cons : (e : Event) (events : List Event) → count_by is_order (e ∷ events) ≡ cond (is_order e) 1 0 + count_by is_order events
+count_cons e events = sum_by-cons (λ (x : Event). cond (is_order x) 1 0) e events
+
 -- how many orders there are behind the events
 pub orders_counted : (orders : ℕ) (events : List Event) → orders_on orders events ≡ orders + count_by is_order events
 orders_counted orders [] = omega arith
@@ -185,12 +188,12 @@ orders_counted orders (e ∷ events) =
         → orders_on (orders_with e orders) events ≡ orders + count_by is_order (e ∷ events)
     by true is later =
         let with_one : orders_with e orders ≡ orders + 1 = rw is refl in
-        let one_more : count_by is_order (e ∷ events) ≡ 1 + count_by is_order events = rw is refl in
-        omega (arith, later, with_one, one_more)
+        let counts : cond (is_order e) 1 0 ≡ 1 = ap (λ (x : Bool). cond x 1 0) is in
+        omega (arith, later, with_one, counts, count_cons e events)
     by false is later =
         let with_none : orders_with e orders ≡ orders = rw is refl in
-        let no_more : count_by is_order (e ∷ events) ≡ count_by is_order events = rw is refl in
-        omega (arith, later, with_none, no_more)
+        let counts : cond (is_order e) 1 0 ≡ 0 = ap (λ (x : Bool). cond x 1 0) is in
+        omega (arith, later, with_none, counts, count_cons e events)
 
 -- the frame behind all that pass 0 has seen is that of its own events
 frame_behind : OwnEventsTellTheFrame → (n : RunNumbers) (v : View) → v.origin ≡ opened_origin n → AreMade v.origin.state (opening_record v.origin.passes) v.seen

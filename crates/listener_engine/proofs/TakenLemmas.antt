@@ -90,16 +90,19 @@ unnamed_left (event.Command c) answer name needs = refl
 unnamed_left (event.Retire k) answer name needs = refl
 
 -- all names are given by events that the listener alone makes
+names_within_cons : (x : Entry) (xs : List Entry) (b : Bool) → is_listeners x.event ≡ b
+    → accepted_names xs ≡ accepted_names (filter (λ (e : Entry). is_listeners e.event) xs)
+    → accepted_names (x ∷ xs) ≡ accepted_names (filter (λ (e : Entry). is_listeners e.event) (x ∷ xs))
+names_within_cons x xs true is later =
+    let kept : filter (λ (e : Entry). is_listeners e.event) (x ∷ xs) ≡ x ∷ filter (λ (e : Entry). is_listeners e.event) xs = rw is refl in
+    ap (λ (names : List ConnName). names_given x.event x.reply ++ names) later ∙ ap accepted_names (sym kept)
+names_within_cons x xs false is later =
+    let left : filter (λ (e : Entry). is_listeners e.event) (x ∷ xs) ≡ filter (λ (e : Entry). is_listeners e.event) xs = rw is refl in
+    ap (λ (names : List ConnName). names ++ accepted_names xs) (unnamed x.event x.reply is) ∙ later ∙ ap accepted_names (sym left)
+
 names_within : (xs : List Entry) → accepted_names xs ≡ accepted_names (filter (λ (e : Entry). is_listeners e.event) xs)
 names_within [] = refl
-names_within (x ∷ xs) = by (is_listeners x.event) refl
-  where
-    later : accepted_names xs ≡ accepted_names (filter (λ (e : Entry). is_listeners e.event) xs)
-    later = names_within xs
-
-    by : (b : Bool) → is_listeners x.event ≡ b → accepted_names (x ∷ xs) ≡ accepted_names (filter (λ (e : Entry). is_listeners e.event) (x ∷ xs))
-    by true is = rw is (ap (λ (names : List ConnName). names_given x.event x.reply ++ names) later)
-    by false is = rw (is, unnamed x.event x.reply is) later
+names_within (x ∷ xs) = names_within_cons x xs (is_listeners x.event) refl (names_within xs)
 
 -- so they are the names of its own entries
 pub names_own : OwnEventsTellWhatWasTaken → (base : State) (f : Folded) (history : List Entry) → AreMade base f history
