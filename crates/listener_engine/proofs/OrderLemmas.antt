@@ -154,7 +154,7 @@ count_within_cons test kind within x xs true is c counts later =
 count_within_cons test kind within x xs false is true counts later = absurd (cc (is, within x counts))
 count_within_cons test kind within x xs false is false counts later =
     let left : filter kind (x ∷ xs) ≡ filter kind xs = rw is refl in
-    let none : cond (test x) 1 0 ≡ 0 = ap (λ (b : Bool). cond b 1 0) counts in
+    let none : ◌≡◌ {A = ℕ} (cond (test x) 1 0) 0 = ap (λ (b : Bool). cond b 1 0) counts in
     let less : count_by test (x ∷ xs) ≡ count_by test xs = omega (arith, count_cons test x xs, none) in
     less ∙ later ∙ ap (count_by test) (sym left)
 

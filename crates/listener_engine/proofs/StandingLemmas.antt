@@ -188,11 +188,11 @@ orders_counted orders (e ∷ events) =
         → orders_on (orders_with e orders) events ≡ orders + count_by is_order (e ∷ events)
     by true is later =
         let with_one : orders_with e orders ≡ orders + 1 = rw is refl in
-        let counts : cond (is_order e) 1 0 ≡ 1 = ap (λ (x : Bool). cond x 1 0) is in
+        let counts : ◌≡◌ {A = ℕ} (cond (is_order e) 1 0) 1 = ap (λ (x : Bool). cond x 1 0) is in
         omega (arith, later, with_one, counts, count_cons e events)
     by false is later =
         let with_none : orders_with e orders ≡ orders = rw is refl in
-        let counts : cond (is_order e) 1 0 ≡ 0 = ap (λ (x : Bool). cond x 1 0) is in
+        let counts : ◌≡◌ {A = ℕ} (cond (is_order e) 1 0) 0 = ap (λ (x : Bool). cond x 1 0) is in
         omega (arith, later, with_none, counts, count_cons e events)
 
 -- the frame behind all that pass 0 has seen is that of its own events
@@ -212,6 +212,7 @@ ordered_by law o n c a b origin made own done before =
     let edition : ℕ = edition_behind 0 0 (own_of a) in
     let there : IsDoneAt o (count_by is_order (own_of a)) edition (frames first (own_of a)) c =
     subst (λ (f : Frame). IsDoneAt o (count_by is_order (own_of a)) edition f c) (frame_behind law n a origin made) done in
+    let many : orders_on 0 (own_of a) ≡ count_by is_order (own_of a) = omega (arith, orders_counted 0 (own_of a)) in
     let here : IsDoneAt o (orders_on 0 (own_of a)) edition (frames first (own_of a)) c =
-    subst (λ (k : ℕ). IsDoneAt o k edition (frames first (own_of a)) c) (sym (orders_counted 0 (own_of a))) there in
+    subst (λ (k : ℕ). IsDoneAt o k edition (frames first (own_of a)) c) (sym many) there in
     subst (AreOrderedFrom o 0 0 first) (sym own) (ordered_more o 0 0 first (own_of a) (event.Command c ∷ []) before (here, tt))
