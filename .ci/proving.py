@@ -6,8 +6,9 @@ moves from the clone into the room and back, and the built library (`out/rlib`) 
 go on from them. The kit's stamp on each library tells of which sources it was built. The run that builds the program looks at all of them,
 and builds what isn't of the sources in its room anew: so whatever was kept, the program is that of the sources.
 
-How many processors a proof may use is said where it begins. So the crate on which most of what is left waits, one behind the other, may use
-all of them, and those beside it, of one processor each, run at a lower priority: they have what that one leaves free."""
+How many processors a proof may use is said where it begins. A crate of few functions gains nothing by more than one: each further one begins
+with all that was read. So the crate on which most of what is left waits, one behind the other, gets as many as its lines are worth and those
+beside it leave, and at least two of them; each of these gets one."""
 
 import contextlib
 import fcntl
@@ -24,10 +25,9 @@ KEPT = "out/incremental"
 BUILT = "out/rlib"
 # Beside the kit's stamp: the checksum of all sources that the library was built of. It goes where the kit builds the library anew.
 MARK = f"{BUILT}/sources"
-# What runs a command at a lower priority.
-BEHIND = ["nice", "-n", "15"] if shutil.which("nice") else []
-# The most processors of which a proof still gains.
+# The most processors of which a proof still gains, and so many lines of the sources give one work.
 MOST_JOBS = 4
+LINES_OF_JOB = 500
 # What each further job of a proof takes of memory.
 FURTHER_JOB = 7e8
 
@@ -104,7 +104,7 @@ def crates_to_oneself(top, crates):
 class Room:
     """A crate that is being proved, in a room of its own."""
 
-    def __init__(self, rooms, crate, jobs, leads):
+    def __init__(self, rooms, crate, jobs):
         self.crate, self.jobs, self.top = crate, jobs, rooms.top
         self.place = f"{rooms.place}/{crate}"
         self.folder = f"{self.place}/crates/{crate}"
@@ -118,7 +118,7 @@ class Room:
         words = ["run", "--jobs", str(jobs), "--", *rooms.words] if is_program else ["lib", "--jobs", str(jobs)]
         with open(f"{self.place}/said", "wb") as said:
             streams = {"stdin": subprocess.DEVNULL, "stdout": said, "stderr": subprocess.STDOUT}
-            self.running = subprocess.Popen([*([] if leads else BEHIND), "rt", *words], cwd=self.folder, **streams)
+            self.running = subprocess.Popen(["rt", *words], cwd=self.folder, **streams)
 
     def said(self):
         return f"== {self.crate}, with {self.jobs} jobs\n" + text_of(f"{self.place}/said").replace(self.place, self.top)
@@ -201,17 +201,23 @@ class Lanes:
             spare = self.memory - sum(self.taken(it, room.jobs) for it, room in self.running.items())
             if len(self.running) >= self.plan.lanes or self.running and self.taken(crate, 1) > spare:
                 continue
-            leads = self.ways[crate] == max(self.ways[it] for it in undone)
-            jobs = min(self.plan.lanes, MOST_JOBS) if leads else self.share(len(ready) - at)
+            jobs = min(self.useful(crate), self.share(crate, undone, len(ready) - at))
             while jobs > 1 and self.taken(crate, jobs) > spare:
                 jobs -= 1
             self.left.remove(crate)
-            self.running[crate] = Room(self.rooms, crate, jobs, leads)
+            self.running[crate] = Room(self.rooms, crate, jobs)
 
-    def share(self, ready):
-        """How many processors a crate gets beside which so many others can begin: what those that run leave."""
+    def useful(self, crate):
+        """How many processors a crate gains of."""
+        return max(1, min(MOST_JOBS, lines_of(f"{self.rooms.sources}/crates/{crate}", ".rt") // LINES_OF_JOB))
+
+    def share(self, crate, undone, ready):
+        """How many processors a crate gets beside which so many others, and itself, can begin: what those that run leave, shared out; and two
+        at least where the longest chain of what is left begins with it."""
         idle = self.plan.lanes - sum(room.jobs for room in self.running.values())
-        return max(1, min(idle, MOST_JOBS) // ready)
+        above = [self.ways[it] - (self.plan.weights[it] if it in self.running else 0) for it in undone - {crate}]
+        least = 2 if self.ways[crate] >= max(above, default=0) else 1
+        return max(least, idle - ready + 1 if least == 2 else idle // ready)
 
     def ended(self):
         return [room for room in self.running.values() if room.running.poll() is not None]
