@@ -1,4 +1,4 @@
-use Rattle.std.proofs.Common.{◌≡◌, ◌∙◌, [], length, vec_capacity, ap, rules}
+use Rattle.std.proofs.Common.{◌≡◌, ◌∙◌, [], length, vec_capacity, ap, rules, arith}
 use Rattle.conn_machine.specs.declared.folded.Folded.{Folded}
 use Rattle.board_book.specs.Book.{SeenBook}
 use Rattle.board_book.specs.BookInside.{lines_then}
@@ -7,6 +7,15 @@ use Rattle.board_book.proofs.book.Book.fold.Goals as goal
 
 pub fold_into-requires-clause-ahead : goal.fold_into-requires-clause-ahead
 fold_into-requires-clause-ahead c = rw c.as_slice.ensures.value c.self.invariant.ahead_is
+
+pub fold_into-requires-clause-places : goal.fold_into-requires-clause-places
+fold_into-requires-clause-places c = c.self.invariant.folded.places
+
+pub fold_into-requires-clause-passes : goal.fold_into-requires-clause-passes
+fold_into-requires-clause-passes c = rw c.as_slice.ensures.value c.self.invariant.few
+
+pub fold_into-requires-clause-few : goal.fold_into-requires-clause-few
+fold_into-requires-clause-few c = rw c.as_slice.ensures.value (omega (arith, c.self.invariant.countable))
 
 pub invariant_of-self : goal.invariant_of-self
 invariant_of-self c =
