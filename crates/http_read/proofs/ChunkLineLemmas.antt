@@ -4,7 +4,6 @@ use Rattle.std.specs.Prelude.{if◌then◌else◌, ◌==◌, ◌||◌, nat_lt}
 use Rattle.std.specs.Char.{is_ascii_hexdigit, digit_value}
 use Rattle.std.specs.Str.Parse.{digits_value}
 use Rattle.std.proofs.lemmas.Bool.{eqb-true, eqb-false, ltb-true, ltb-false}
-use Rattle.std.proofs.lemmas.Bool.Decides.{nat_tests}
 use Rattle.std.proofs.lemmas.List.{append-nil, take_all}
 use Rattle.std.proofs.lemmas.List.Elements.{All-push, All-nil, All-head}
 use Rattle.httparse.specs.Grammar.{AllPass, is_ows, is_extension_byte, IsExtension, print_extension, ChunkLine, print_chunk_line, chunk_size, ReadsChunkLine, HasNoChunkLine, NeverHasChunkLine}
@@ -158,13 +157,18 @@ no_other_end : (b : ℕ) (e : Option (List ℕ)) (more rest : List ℕ) → b �
 no_other_end b None more rest semicolon cr h = cr (cc)
 no_other_end b (Some text) more rest semicolon cr h = semicolon (cc)
 
+-- a space or a tab is no digit
+blank_no_digit : (c : ℕ) (is_space is_tab : Bool) → (c == 32) ≡ is_space → (c == 9) ≡ is_tab → (is_space || is_tab) ≡ true
+    → is_ascii_hexdigit c ≡ false
+blank_no_digit c true is_tab space tab ows = subst (λ x. is_ascii_hexdigit x ≡ false) (sym (eqb-true c 32 space)) refl
+blank_no_digit c false true space tab ows = subst (λ x. is_ascii_hexdigit x ≡ false) (sym (eqb-true c 9 tab)) refl
+blank_no_digit c false false space tab ows = cc
+
 pad_stops : (pad : List ℕ) (b : ℕ) (more : List ℕ) → AllPass is_ows pad → (pad ≡ [] → is_ascii_hexdigit b ≡ false)
     → Stops is_ascii_hexdigit (pad ++ (b ∷ more))
 pad_stops [] b more blank stops = stops refl
-pad_stops (c ∷ pad) b more blank stops = no_digit c (All-head (λ d. is_ows d ≡ true) c pad blank)
-  where
-    no_digit : (c : ℕ) → is_ows c ≡ true → is_ascii_hexdigit c ≡ false
-    no_digit c ows = grind (arith, nat_tests)
+pad_stops (c ∷ pad) b more blank stops =
+    blank_no_digit c (c == 32) (c == 9) refl refl (All-head (λ d. is_ows d ≡ true) c pad blank)
 
 never_behind_pad : (size : ℕ) (s : List ℕ) (b : ℕ) (t : IsSizeBefore size s []) → (t.pad ≡ [] → is_ascii_hexdigit b ≡ false)
     → is_ows b ≡ false → b ≢ 59 → b ≢ 13 → NeverHasChunkLine (s ++ b ∷ [])
