@@ -14,6 +14,44 @@ use Rattle.board_book.proofs.PassLemmas.{adds_nothing, adds_recorded, is_own, ma
 use Rattle.board_book.proofs.book.Book.record_noting.Goals.{then-saturating_add-most-via-then-saturating_add-most, then-saturating_add-most-via-else-saturating_add-most+then-is_err, then-saturating_add-most-via-else-saturating_add-most+else-is_err+then-is_err-2}
 use Rattle.board_book.proofs.book.Book.record_noting.Goals as goal
 
+pub room_with_event-room-requires-clause-few_rows : goal.room_with_event-room-requires-clause-few_rows
+room_with_event-room-requires-clause-few_rows c =
+    rw c.state-2.ensures (subst (λ (v : SeenBook). length v.state.rows ≤ 8192) c.self.view_is c.self.invariant.sized.rows)
+
+pub room_with_event-room-requires-clause-few_children : goal.room_with_event-room-requires-clause-few_children
+room_with_event-room-requires-clause-few_children c =
+    rw c.state-2.ensures (subst (λ (v : SeenBook). length v.state.children ≤ 32) c.self.view_is c.self.invariant.sized.children)
+
+pub overflow_sub-most : goal.overflow_sub-most
+overflow_sub-most c = omega (arith, c.self.invariant.countable)
+
+pub step_and_note-requires-clause-few_rows : goal.step_and_note-requires-clause-few_rows
+step_and_note-requires-clause-few_rows c = c.self.invariant.sized.rows
+
+pub step_and_note-requires-clause-few_children : goal.step_and_note-requires-clause-few_children
+step_and_note-requires-clause-few_children c = c.self.invariant.sized.children
+
+pub step_and_note-requires-clause-signals : goal.step_and_note-requires-clause-signals
+step_and_note-requires-clause-signals c = c.self.invariant.sized.signals
+
+pub orders-order-requires : goal.orders-order-requires
+orders-order-requires c = rw (c.as_slice.ensures.value, c.reserve.ensures.items) c.self.invariant.ahead_is
+
+pub append-requires-clause-who : goal.append-requires-clause-who
+append-requires-clause-who c = subst (λ (v : SeenBook). c.args.who < v.passes) (sym c.self.view_is) c.requires.who
+
+pub append-requires-clause-places : goal.append-requires-clause-places
+append-requires-clause-places c = c.self.invariant.folded.places
+
+pub append-requires-clause-within : goal.append-requires-clause-within
+append-requires-clause-within c = c.self.invariant.folded.within
+
+pub append-requires-clause-countable : goal.append-requires-clause-countable
+append-requires-clause-countable c = rw c.reserve.ensures.items (omega (arith, c.self.invariant.countable))
+
+pub append-requires-clause-ahead : goal.append-requires-clause-ahead
+append-requires-clause-ahead c = rw c.reserve.ensures.items c.self.invariant.ahead_is
+
 pub step_and_note-requires-clause-allowed : goal.step_and_note-requires-clause-allowed
 step_and_note-requires-clause-allowed c =
     let going : is_halted c.args.self.now.state.going ≡ false =
