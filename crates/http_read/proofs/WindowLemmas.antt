@@ -1,17 +1,18 @@
 -- What the first 65,537 bytes say of a head.
-use Rattle.std.proofs.Common.{◌≡◌, ℕ, ◌+◌, ◌-◌, min, inl, inr, Bool, true, false, cond, List, length, take, refl, sym, ap, ◌∙◌, subst, arith}
+use Rattle.std.proofs.Common.{◌≡◌, ℕ, ◌+◌, ◌-◌, ◌≤◌, min, inl, inr, Bool, true, false, cond, List, length, take, refl, sym, ap, ◌∙◌, subst, arith}
 use Rattle.std.proofs.lemmas.List.{take_min, take-take, length-take, length-take-le}
 use Rattle.http_read.specs.declared.request.Limits.{Limits}
 use Rattle.http_read.specs.declared.head.HeadAnswer.{HeadAnswer}
 use Rattle.http_read.specs.declared.head.HeadAnswer.TheVariants as answer
 use Rattle.http_read.specs.declared.head_reader.Extent.{Extent}
 use Rattle.http_read.specs.declared.head_reader.Extent.TheVariants as extent
+use Rattle.http_read.specs.declared.head_reader.HeadReader.{HeadReader}
 use Rattle.http_read.specs.declared.head_reader.Noted.{Noted}
 use Rattle.http_read.specs.declared.version.Version.TheVariants as version
 use Rattle.http_read.specs.HeadLines.{line_len}
 use Rattle.http_read.specs.FieldLimit.{has_long_field}
 use Rattle.http_read.specs.Versions.{names_other_major, names_later_minor}
-use Rattle.http_read.specs.LookedAt.{version_at}
+use Rattle.http_read.specs.LookedAt.{HasLookedAt, version_at}
 use Rattle.http_read.specs.Head.{head_window, EndsAt, IsTooLarge, IsRefusal, HeadIs}
 use Rattle.http_read.specs.TextsInside.{IsWithinText, ReadsBy, ReadsText}
 use Rattle.http_read.specs.ExtentsInside.{EndsIn, IsFullWindow, LooksForEnd}
@@ -102,3 +103,10 @@ version_within limits window n noted h =
 pub end_within : (limits : Limits) (bytes : List ℕ) (m n : ℕ) (noted : Noted) → LooksForEnd limits (take m bytes) (extent.Ends n noted) → IsWithinText noted.version (take n bytes)
 end_within limits bytes m n noted h =
     subst (IsWithinText noted.version) (take-take n m bytes (omega (arith, h.within, length-take m bytes))) (version_within limits (take m bytes) n noted h)
+
+-- what was looked at in the window was looked at in the bytes
+pub looked_in : (bytes : List ℕ) (m : ℕ) (r : HeadReader) → r.looked ≤ length (take m bytes) → HasLookedAt (take r.looked (take m bytes)) r → HasLookedAt (take r.looked bytes) r
+looked_in bytes m r within h = subst (λ (t : List ℕ). HasLookedAt t r) (take-take r.looked m bytes (omega (arith, within, length-take m bytes))) h
+
+pub within_bytes : (bytes : List ℕ) (m n : ℕ) → n ≤ length (take m bytes) → n ≤ length bytes
+within_bytes bytes m n within = omega (arith, within, length-take m bytes)
