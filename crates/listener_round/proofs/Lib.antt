@@ -19,6 +19,7 @@ pub mod NobodyLemmas
 pub mod OpenLemmas
 pub mod OrderStandLemmas
 pub mod PartLemmas
+pub mod PassedLemmas
 pub mod PlacedLemmas
 pub mod PlanLemmas
 pub mod RefusalLemmas
