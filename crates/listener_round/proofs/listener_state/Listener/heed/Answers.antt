@@ -427,3 +427,65 @@ returns-in_err-end-in-Ok-GracefulStop-clause-heard g c =
     c.end.new.self.written c.in-Some-next_line.line (ap asks_for_state is) (ap (λ (l : _). l.board.book) ended.same) (ap (λ (l : _). l.written) ended.same)
     (subst (λ (f : FrontSeen). Commands next.0 f (Some c.in-Some-next_line.line)) (sym ended.kept) next.2) in
     search (rules, until)
+
+-- ## What holds as it did before the last line
+
+pub returns-in_default-clause-does : goal.returns-in_default-clause-does
+returns-in_default-clause-does g c = c.loop.invariant.heeded.does
+
+pub returns-in_default-clause-until : goal.returns-in_default-clause-until
+returns-in_default-clause-until g c = tt
+
+pub returns-in_default-clause-knows : goal.returns-in_default-clause-knows
+returns-in_default-clause-knows g c = c.loop.invariant.knows
+
+pub returns-in_default-clause-serves : goal.returns-in_default-clause-serves
+returns-in_default-clause-serves g c = c.loop.invariant.serves
+
+pub returns-in_default-clause-up : goal.returns-in_default-clause-up
+returns-in_default-clause-up g c = c.loop.invariant.up
+
+pub returns-in_default-clause-moment : goal.returns-in_default-clause-moment
+returns-in_default-clause-moment g c = c.loop.invariant.heeded.moment
+
+pub returns-in_default-clause-accepted : goal.returns-in_default-clause-accepted
+returns-in_default-clause-accepted g c = c.loop.invariant.heeded.accepted
+
+pub returns-in_default-clause-unheeded : goal.returns-in_default-clause-unheeded
+returns-in_default-clause-unheeded g c = tt
+
+pub returns-in_default-clause-others : goal.returns-in_default-clause-others
+returns-in_default-clause-others g c = c.loop.invariant.others
+
+pub returns-in_default-clause-err : goal.returns-in_default-clause-err
+returns-in_default-clause-err g c = tt
+
+pub returns-in-Ok-Stop-clause-does : goal.returns-in-Ok-Stop-clause-does
+returns-in-Ok-Stop-clause-does g c = c.loop.invariant.heeded.does
+
+pub returns-in-Ok-Stop-clause-until : goal.returns-in-Ok-Stop-clause-until
+returns-in-Ok-Stop-clause-until g c = tt
+
+pub returns-in-Ok-Stop-clause-knows : goal.returns-in-Ok-Stop-clause-knows
+returns-in-Ok-Stop-clause-knows g c = c.loop.invariant.knows
+
+pub returns-in-Ok-Stop-clause-serves : goal.returns-in-Ok-Stop-clause-serves
+returns-in-Ok-Stop-clause-serves g c = c.loop.invariant.serves
+
+pub returns-in-Ok-Stop-clause-up : goal.returns-in-Ok-Stop-clause-up
+returns-in-Ok-Stop-clause-up g c = c.loop.invariant.up
+
+pub returns-in-Ok-Stop-clause-moment : goal.returns-in-Ok-Stop-clause-moment
+returns-in-Ok-Stop-clause-moment g c = c.loop.invariant.heeded.moment
+
+pub returns-in-Ok-Stop-clause-accepted : goal.returns-in-Ok-Stop-clause-accepted
+returns-in-Ok-Stop-clause-accepted g c = c.loop.invariant.heeded.accepted
+
+pub returns-in-Ok-Stop-clause-unheeded : goal.returns-in-Ok-Stop-clause-unheeded
+returns-in-Ok-Stop-clause-unheeded g c = tt
+
+pub returns-in-Ok-Stop-clause-others : goal.returns-in-Ok-Stop-clause-others
+returns-in-Ok-Stop-clause-others g c = c.loop.invariant.others
+
+pub returns-in-Ok-Stop-clause-err : goal.returns-in-Ok-Stop-clause-err
+returns-in-Ok-Stop-clause-err g c = tt
