@@ -41,18 +41,18 @@ then-is_overdue g c =
     let b = c.pass_time.new.board.book in
     record {
       round = c.in_ok-pass_time.ensures.passes;
-      broken = search rules;
+      broken = tt;
       share = makes-overdue c.args.moment slots now.told a b c.in_ok-pass_time.ensures.passes;
       hushes = hushes-still now.told;
       timely = c.pass_time.ensures.timely;
       goes_on = not-at_end b.state c.pass_time.ensures.staffed;
-      before = search rules;
+      before = tt;
       stands = stands-orderless known config c.args.self.now.edition.stop_ms store now a b (orderless-time (moment_for c.args.moment) a b c.in_ok-pass_time.ensures.passes) c.pass_time.ensures.going;
       knows = coming-orderless known a b config store.told (orderless-time (moment_for c.args.moment) a b c.in_ok-pass_time.ensures.passes) c.requires.knows;
       serves = newest-orderless c.generations_keep_their_editions.ensures known a b c.args.self.now.edition (orderless-time (moment_for c.args.moment) a b c.in_ok-pass_time.ensures.passes) c.pass_time.ensures.newest c.requires.serves;
       up = ap is_halted (c.pass_time.ensures.going) ∙ c.requires.up;
       moment = search rules;
-      stays = search rules;
+      stays = tt;
       counts = (counts-orderless now.counts now.counts a b refl (orderless-time (moment_for c.args.moment) a b c.in_ok-pass_time.ensures.passes) c.pass_time.ensures.going c.pass_time.ensures.taken);
       heard =
           hears-same known config (made_first c.args.moment slots a) (standing c.args.self.now.edition.stop_ms store now a) (standing c.args.self.now.edition.stop_ms store now b)
@@ -60,15 +60,15 @@ then-is_overdue g c =
       wakes = refl;
       step = (step-kept now.told a.state b.state (c.pass_time.ensures.taken) (c.pass_time.ensures.going) c.requires.step);
       ends = (sym c.is_overdue.ensures ∙ c.if-is_overdue.true, c.requires.heeded);
-      unheeded = search rules;
+      unheeded = tt;
       follows = follows-same now;
       front = only-takes now.told now.told (takes-same now.told);
       watched = λ past before. watched-as now.told a b (nobody-passed (moment_for c.args.moment) a b c.in_ok-pass_time.ensures.passes) c.pass_time.ensures.taken past before;
       listens = step-listens now.told b.state (step-kept now.told a.state b.state (c.pass_time.ensures.taken) (c.pass_time.ensures.going) c.requires.step);
-      links = search rules;
+      links = tt;
       ready = search rules;
       config = search rules;
-      err = search rules;
+      err = tt;
     }
 
 pub then-asked : goal.returns-then-asked
@@ -94,7 +94,7 @@ then-asked g c =
       round =
           ends-asked steps (moment_for c.args.moment) slots a b s d e c.in_ok-pass_time.ensures.passes signals c.in_ok-let_go_of_conns.ensures.gone
           c.in_ok-asked.ensures.does;
-      broken = search rules;
+      broken = tt;
       share =
           makes-asked c.args.moment slots now.told read.told a d e
           (begins (moment_for c.args.moment) slots a b s d c.in_ok-pass_time.ensures.passes signals c.in_ok-let_go_of_conns.ensures.gone)
@@ -102,7 +102,7 @@ then-asked g c =
       hushes = c.in_ok-asked.ensures.hushes;
       timely = λ first. c.heed.ensures.timely (timely first);
       goes_on = not-at_end e.state c.heed.ensures.in_time.staffed;
-      before = search rules;
+      before = tt;
       stands =
           stands-orders known config _ true c.args.self.now.edition.stop_ms store now a d (standing c.heed.new.self.edition.stop_ms renewed read e) c.if-asked.true
           orders_off (c.let_go_of_conns.ensures.rest.going ∙ c.signal_all.ensures.rest.going ∙ c.pass_time.ensures.going) timely c.in_ok-asked.ensures.stands;
@@ -110,7 +110,7 @@ then-asked g c =
       serves = c.heed.ensures.serves;
       up = c.heed.ensures.up;
       moment = c.heed.ensures.moment ∙ c.let_go_of_conns.ensures.rest.moment ∙ c.signal_all.ensures.rest.moment ∙ c.in_ok-pass_time.ensures.moment;
-      stays = search rules;
+      stays = tt;
       counts = (counts-more 1 now.counts now.counts read.counts a d e (counts-orderless now.counts now.counts a d refl orders_off (c.let_go_of_conns.ensures.rest.going ∙ c.signal_all.ensures.rest.going ∙ c.pass_time.ensures.going) (c.let_go_of_conns.ensures.rest.accepted ∙ c.signal_all.ensures.rest.accepted ∙ c.pass_time.ensures.taken))
           (subst (λ (b : Bool). CountsOn (owed_by b) now.counts read.counts d e) c.if-asked.true c.in_ok-asked.ensures.counts));
       heard =
@@ -122,17 +122,17 @@ then-asked g c =
       wakes = c.heed.ensures.wakes;
       step = c.heed.ensures.step;
       ends = (c.heed.ensures.up, (c.in_ok-asked.ensures.asked c.if-asked.true).0, (c.in_ok-asked.ensures.asked c.if-asked.true).1);
-      unheeded = search rules;
+      unheeded = tt;
       follows = c.heed.ensures.follows;
       front = only-reads now.told read.told c.heed.ensures.front;
       watched =
           λ past before. c.heed.ensures.watched past
           (watched-as now.told a d none_taken (c.let_go_of_conns.ensures.rest.accepted ∙ c.signal_all.ensures.rest.accepted ∙ c.pass_time.ensures.taken) past before);
       listens = step-listens read.told e.state c.heed.ensures.step;
-      links = search rules;
+      links = tt;
       ready = ap (λ (l : _). l.ready) c.heed.ensures.others;
       config = ap (λ (l : _). l.config) c.heed.ensures.others;
-      err = search rules;
+      err = tt;
     }
 
 pub then-is_gone : goal.returns-then-is_gone
@@ -161,7 +161,7 @@ then-is_gone g c =
       round =
           ends-gone steps (moment_for c.args.moment) slots a b s d e f c.in_ok-pass_time.ensures.passes signals c.in_ok-let_go_of_conns.ensures.gone
           c.in_ok-asked.ensures.does c.retire_all.ensures.retires;
-      broken = search rules;
+      broken = tt;
       share =
           makes-gone c.args.moment slots now.told read.told a d e f
           (begins (moment_for c.args.moment) slots a b s d c.in_ok-pass_time.ensures.passes signals c.in_ok-let_go_of_conns.ensures.gone)
@@ -169,7 +169,7 @@ then-is_gone g c =
       hushes = c.in_ok-asked.ensures.hushes;
       timely = λ first. c.retire_all.ensures.retires.timely (c.heed.ensures.timely (timely first));
       goes_on = sym c.is_gone.ensures.end ∙ c.if-is_gone.true;
-      before = search rules;
+      before = tt;
       stands =
           stands-behind known config (standing c.args.self.now.edition.stop_ms store now a) c.heed.new.self.edition.stop_ms c.heed.new.self.edition.stop_ms renewed read read e f (orderless-retires e f c.retire_all.ensures.retires) c.retire_all.ensures.going refl (same-lines read)
           (stands-orders known config _ false c.args.self.now.edition.stop_ms store now a d (standing c.heed.new.self.edition.stop_ms renewed read e) c.if-asked.false
@@ -178,7 +178,7 @@ then-is_gone g c =
       serves = newest-orderless c.generations_keep_their_editions.ensures known e f c.heed.new.self.edition (orderless-retires e f c.retire_all.ensures.retires) c.retire_all.ensures.rest.newest c.heed.ensures.serves;
       up = ap is_halted c.retire_all.ensures.going ∙ c.heed.ensures.up;
       moment = c.retire_all.ensures.rest.moment ∙ c.heed.ensures.moment ∙ c.let_go_of_conns.ensures.rest.moment ∙ c.signal_all.ensures.rest.moment ∙ c.in_ok-pass_time.ensures.moment;
-      stays = search rules;
+      stays = tt;
       counts = (counts-more 0 now.counts read.counts read.counts a e f (counts-more 0 now.counts now.counts read.counts a d e
           (counts-orderless now.counts now.counts a d refl orders_off (c.let_go_of_conns.ensures.rest.going ∙ c.signal_all.ensures.rest.going ∙ c.pass_time.ensures.going) (c.let_go_of_conns.ensures.rest.accepted ∙ c.signal_all.ensures.rest.accepted ∙ c.pass_time.ensures.taken))
           (subst (λ (b : Bool). CountsOn (owed_by b) now.counts read.counts d e) c.if-asked.false c.in_ok-asked.ensures.counts))
@@ -195,17 +195,17 @@ then-is_gone g c =
       wakes = c.heed.ensures.wakes;
       step = (step-kept read.told e.state f.state c.retire_all.ensures.rest.accepted c.retire_all.ensures.going c.heed.ensures.step);
       ends = (c.is_gone.ensures.gone.0 c.if-is_gone.true, (c.in_ok-asked.ensures.none c.if-asked.false).0);
-      unheeded = search rules;
+      unheeded = tt;
       follows = c.heed.ensures.follows;
       front = only-reads now.told read.told c.heed.ensures.front;
       watched =
           λ past before. watched-as read.told e f (nobody-retired e f c.retire_all.ensures.retires) c.retire_all.ensures.rest.accepted past
           (c.heed.ensures.watched past (watched-as now.told a d none_taken (c.let_go_of_conns.ensures.rest.accepted ∙ c.signal_all.ensures.rest.accepted ∙ c.pass_time.ensures.taken) past before));
       listens = step-listens read.told f.state (step-kept read.told e.state f.state c.retire_all.ensures.rest.accepted c.retire_all.ensures.going c.heed.ensures.step);
-      links = search rules;
+      links = tt;
       ready = ap (λ (l : _). l.ready) c.heed.ensures.others;
       config = ap (λ (l : _). l.config) c.heed.ensures.others;
-      err = search rules;
+      err = tt;
     }
 
 pub goes_on : goal.returns
@@ -235,7 +235,7 @@ goes_on g c =
     subst (λ (stops : Bool). DoesAsked (stop_if stops) now.told read.told d e) c.if-asked.false c.in_ok-asked.ensures.asks in
     record {
       round = goes-round steps (moment_for c.args.moment) slots a b s d e f h i c.in_ok-pass_time.ensures.passes signals c.in_ok-let_go_of_conns.ensures.gone c.in_ok-asked.ensures.does c.retire_all.ensures.retires c.start_children.ensures.starts c.in_ok-take_all.ensures.takes;
-      broken = search rules;
+      broken = tt;
       share =
           makes-round c.args.moment slots now.told read.told new.told a d e f h i
           (begins (moment_for c.args.moment) slots a b s d c.in_ok-pass_time.ensures.passes signals c.in_ok-let_go_of_conns.ensures.gone)
@@ -254,7 +254,7 @@ goes_on g c =
                 (staffed-same h.state i.state c.take_all.ensures.children staffed) c.heed.ensures.in_time,
             c.take_all.ensures.in_time (due-kept d.state h.state kept (soon-none d.state c.in_ok-let_go_of_conns.ensures.none_late)),
           );
-      before = search rules;
+      before = tt;
       stands =
           stands-behind known config (standing c.args.self.now.edition.stop_ms store now a) c.heed.new.self.edition.stop_ms c.take_all.new.self.edition.stop_ms renewed read new e i (orderless-more steps e h i (orderless-children steps e f h c.retire_all.ensures.retires c.start_children.ensures.starts) (orderless-takes h i c.in_ok-take_all.ensures.takes)) (c.take_all.ensures.going ∙ (c.start_children.ensures.going ∙ c.retire_all.ensures.going)) (ap (λ (e : LoadedEdition). e.stop_ms) c.take_all.ensures.edition) (lines-taken read new c.take_all.ensures.follows)
           (stands-orders known config _ false c.args.self.now.edition.stop_ms store now a d (standing c.heed.new.self.edition.stop_ms renewed read e) c.if-asked.false
@@ -270,7 +270,7 @@ goes_on g c =
       moment =
           c.take_all.ensures.moment ∙ c.start_children.ensures.rest.moment ∙ c.retire_all.ensures.rest.moment ∙ c.heed.ensures.moment
           ∙ c.let_go_of_conns.ensures.rest.moment ∙ c.signal_all.ensures.rest.moment ∙ c.in_ok-pass_time.ensures.moment;
-      stays = search rules;
+      stays = tt;
       counts = (counts-more 0 now.counts read.counts new.counts a h i (counts-more 0 now.counts read.counts read.counts a e h
           (counts-more 0 now.counts now.counts read.counts a d e (counts-orderless now.counts now.counts a d refl orders_off (c.let_go_of_conns.ensures.rest.going ∙ c.signal_all.ensures.rest.going ∙ c.pass_time.ensures.going) (c.let_go_of_conns.ensures.rest.accepted ∙ c.signal_all.ensures.rest.accepted ∙ c.pass_time.ensures.taken))
           (subst (λ (b : Bool). CountsOn (owed_by b) now.counts read.counts d e) c.if-asked.false c.in_ok-asked.ensures.counts))
@@ -294,7 +294,7 @@ goes_on g c =
         all-read read.told new.told c.take_all.ensures.front (c.in_ok-asked.ensures.none c.if-asked.false).1,
         heeded-takes read.told new.told c.take_all.ensures.front (c.in_ok-asked.ensures.none c.if-asked.false).0,
       );
-      unheeded = search rules;
+      unheeded = tt;
       follows = follows-trans now read new c.heed.ensures.follows c.take_all.ensures.follows;
       front = both-only now.told read.told new.told c.heed.ensures.front c.take_all.ensures.front;
       watched =
@@ -302,8 +302,8 @@ goes_on g c =
           (watched-as read.told e h (nobody-more e f h (nobody-retired e f c.retire_all.ensures.retires) (nobody-started f h c.start_children.ensures.starts)) (c.start_children.ensures.rest.accepted ∙ c.retire_all.ensures.rest.accepted) past
           (c.heed.ensures.watched past (watched-as now.told a d none_taken (c.let_go_of_conns.ensures.rest.accepted ∙ c.signal_all.ensures.rest.accepted ∙ c.pass_time.ensures.taken) past before)));
       listens = step-listens new.told i.state c.in_ok-take_all.ensures.step;
-      links = search rules;
+      links = tt;
       ready = c.take_all.ensures.ready ∙ ap (λ (l : _). l.ready) c.heed.ensures.others;
       config = c.take_all.ensures.config ∙ ap (λ (l : _). l.config) c.heed.ensures.others;
-      err = search rules;
+      err = tt;
     }
