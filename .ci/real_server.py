@@ -7,6 +7,7 @@ import email.utils
 import os
 import re
 import select
+import shutil
 import signal
 import socket
 import struct
@@ -45,7 +46,7 @@ FEW_DESCRIPTORS = ["sh", "-c", f'ulimit -n {FEW} && exec "$@"', "sh"]
 SCENES = []
 # Those that take long, or try a thing in each of its places. They are played before a release.
 LONG_SCENES = []
-# The names of those that can't be played here, as there is no C compiler.
+# The names of those that can't be played here, and what each of them lacks.
 LEFT_OUT = []
 
 
@@ -63,7 +64,13 @@ def long_scene(play):
 
 def where_compiled(add):
     """Adds the scene so where there is the C compiler that it needs, to have calls of the system fail."""
-    return add if compiler() else lambda play: LEFT_OUT.append(play.__name__)
+    return add if compiler() else lambda play: LEFT_OUT.append((play.__name__, "C compiler"))
+
+
+def where_there_are(*programs):
+    """Adds the scene to those that are played where there are the programs that it needs."""
+    lacking = [program for program in programs if not shutil.which(program)]
+    return (lambda play: LEFT_OUT.append((play.__name__, lacking[0]))) if lacking else scene
 
 
 class Wrong(Exception):

@@ -137,8 +137,8 @@ replies-snoc site (head ∷ items) (first ∷ notes) replies item note response 
 -- ## Responses
 
 -- a head isn't empty
-some-head : (site : SeenSite) (plan : Plan) (note : Note) (date : List ℕ) → 0 < length (head_of site plan note date)
-some-head site plan note date = omega arith
+some-head : (site : SeenSite) (plan : Plan) (note : Note) (date changed : List ℕ) → 0 < length (head_of site plan note date changed)
+some-head site plan note date changed = omega arith
 
 -- the head of a refusal isn't empty
 some-refusal : (code : Code) (date : List ℕ) → 0 < length (refusal_head code date)
@@ -147,7 +147,7 @@ some-refusal code date = omega arith
 -- the head of a reply isn't empty
 some-reply : (site : SeenSite) (item : Item) (note : Note) (reply : Reply) → IsReplyTo site item note reply → 0 < length reply.head
 some-reply site (inl request) note reply is =
-    subst (λ xs. 0 < length xs) (sym is.head) (some-head site (plan_for site request) note _)
+    subst (λ xs. 0 < length xs) (sym is.head) (some-head site (plan_for site request) note _ _)
 some-reply site (inr refusal) note reply is =
     subst (λ xs. 0 < length xs) (sym is.1.head) (some-refusal is.1.refused_by _)
 

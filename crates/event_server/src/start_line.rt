@@ -15,7 +15,7 @@ const MOST_CONNECTIONS: u32 = 8192;
 /// How many connections a server takes at its start by the configuration of that name in the store. None where the run will refuse that
 /// configuration, or where memory lacks to read it here.
 pub fn connections_by<D: Store>(alloc: Global, name: &str, store: &mut D) -> Option<u32> {
-    let text = store.read(alloc, name, MOST_CONFIG).ok()?;
+    let text = store.read_bytes(alloc, name, MOST_CONFIG).ok()?;
     let (config, _) = read_config(alloc, text.as_slice()).ok()?;
     Some(connections_of(shape_of(&config)))
 }

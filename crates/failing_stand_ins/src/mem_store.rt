@@ -1,11 +1,11 @@
 //! A store in memory some of whose calls fail.
 ghost use Rattle.std.specs.Prelude.{◌≡◌, Some, OnOk, OnErr};
-ghost use Rattle.mpm_base.specs.Store.{Renews, ListsNames, ReadsFile, after_renew, bytes_of, names_under, telling_store};
+ghost use Rattle.mpm_base.specs.Store.{Renews, ListsNames, ReadsFile, after_renew, content_of, names_under, telling_store};
 ghost use Rattle.stand_ins.specs.PlainStore.{with_edition, file_answer, names_answer, AnswersUnlessNoMemory};
 ghost use Rattle.stand_ins.specs.Calls.{next_is_listed};
 ghost use Rattle.failing_stand_ins.specs.MemStore.{new_mem_store, failed_where, mem_store_after};
 
-use mpm_base::{Names, NoMemory, Octets, Store, StoreFault};
+use mpm_base::{Content, Names, NoMemory, Store, StoreFault};
 use stand_ins::{Calls, Files, PlainStore};
 use std::alloc::Global;
 use std::marker::Model;
@@ -93,13 +93,13 @@ impl Store for MemStore {
     }
 
     /// Answers Failed where the call is listed, then Missing where the file isn't there, Large where it has
-    /// more bytes, and else its bytes or NoMemory.
-    fn read(&mut self, alloc: Global, name: &str, most: u64) -> Result<Octets, StoreFault>
+    /// more bytes, and else what it has or NoMemory.
+    fn read(&mut self, alloc: Global, name: &str, most: u64) -> Result<Content, StoreFault>
         ensures store { ReadsFile (telling_store self.old.told self.old.counts)
             (telling_store self.new.told self.new.counts) name.now most result }
         ensures answer { AnswersUnlessNoMemory result
             (failed_where (next_is_listed self.old.fails self.old.calls)
-            (file_answer (bytes_of name.now self.old.told.files) most)) }
+            (file_answer (content_of name.now self.old.told.files) most)) }
         ensures state { self.new ≡ mem_store_after result self.old }
     {
         self.made_calls = self.made_calls.saturating_add(1);

@@ -4,3 +4,4 @@ pub mod OrderLemmas
 pub mod PathLemmas
 pub mod ResourceLemmas
 pub mod RootLemmas
+pub mod TagLemmas

@@ -61,12 +61,6 @@ not_itself : (x : List ℕ) → name_goes_before x x ≡ false
 not_itself [] = refl
 not_itself (b ∷ bs) = grind (arith, nat_tests, not_itself bs)
 
--- a name is one in two parts where it begins with the front and goes on with the back
-pub made_of : (name front back : List ℕ) → bytes_eq name (front ++ back) ≡ (starts_with eqb name front && bytes_eq (drop (length front) name) back)
-made_of name [] back = refl
-made_of [] (f ∷ fs) back = refl
-made_of (n ∷ ns) (f ∷ fs) back = grind (arith, nat_tests, made_of ns fs back)
-
 -- a name begins with a front in two parts where it begins with the first and goes on with the second
 pub front_of_two : (name front back : List ℕ) → starts_with eqb name (front ++ back) ≡ (starts_with eqb name front && starts_with eqb (drop (length front) name) back)
 front_of_two name [] back = refl

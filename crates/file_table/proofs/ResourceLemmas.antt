@@ -5,7 +5,6 @@ use Rattle.std.proofs.lemmas.List.{append-nil, at_drop_more, length-take, nil_fr
 use Rattle.mpm_base.specs.declared.store.File.{File}
 use Rattle.file_table.specs.declared.found.Found.{Found}
 use Rattle.file_table.specs.declared.found.Found.TheVariants as found
-use Rattle.file_table.specs.ContentType.{extension_of}
 use Rattle.std.specs.List.{slice_split, position_or_len}
 use Rattle.std.specs.Str.{bytes_eq}
 use Rattle.percent_encoding.specs.Percent.{percent_decode}
@@ -16,19 +15,6 @@ use Rattle.file_table.specs.PathInside.{further_name}
 use Rattle.file_table.specs.Resource.{IsFoundFor, IsFoundIn, file_or, folder_path, has_files_under, place_of_file, placed_behind, resource_in, resource_of, resource_of_decoded, resource_of_folder, resource_of_name}
 use Rattle.file_table.specs.Site.{SeenFolder, SeenSite, folder_at, host_at}
 use Rattle.file_table.proofs.PathLemmas.{all_segments, further_segment}
-
--- an extension of the end of a name is that of the name
-pub extension_kept : (n : ℕ) (name extension : List ℕ) → extension_of (drop n name) ≡ Some extension → extension_of name ≡ Some extension
-extension_kept zero name extension h = h
-extension_kept (suc n) [] extension h = h
-extension_kept (suc n) (b ∷ bs) extension h = rw (extension_kept n bs extension h) refl
-
--- the extension begins behind a point where no later one stands
-pub extension_here : (name rest : List ℕ) (place : ℕ) → place < length name → get_or name place 0 ≡ 46 → extension_of (drop (place + 1) name) ≡ None
-    → rest ≡ drop (place + 1) name → extension_of name ≡ Some rest
-extension_here name rest place within point none e =
-    extension_kept place name rest
-    (at_drop_more extension_of name place 0 within ∙ ap (λ b. extension_of (b ∷ drop (place + 1) name)) point ∙ rw none (ap (λ r. Some r) (sym e)))
 
 -- a name with nothing behind it
 pub same_place : (name : List ℕ) (files : List File) (answer : Option ℕ) → answer ≡ place_of_file (name ++ []) files → place_of_file name files ≡ answer

@@ -257,7 +257,7 @@ are_hosts orders roots parts names hosts files some most few all e f =
 
 pub is_site : (order : SiteOrder) (roots : List (List ℕ)) (told : Option StoreTold) (files : List File) (parts : List Part) (site : SeenSite) → roots ≡ roots_of order.hosts
     → HasReadRoots told roots files parts
-    → site ≡ record { names = map (λ (h : HostOrder). h.names) order.hosts; hosts = map (host_of roots parts) order.hosts; status = order.status; files = files }
+    → site ≡ record { names = map (λ (h : HostOrder). h.names) order.hosts; hosts = map (host_of roots parts) order.hosts; status = order.status; marks = order.marks; types = order.types; files = files }
     → IfSome told (λ t. MayLoad order t.files (Ok site))
 is_site order roots None files parts site same h e = tt
 is_site order roots (Some t) files parts site same h e =
@@ -269,6 +269,8 @@ is_site order roots (Some t) files parts site same h e =
       files = h.are;
       hosts = ap (λ r. map (host_of r parts) order.hosts) same ∙ ap (λ p. map (host_of (roots_of order.hosts) p) order.hosts) h.parts_are;
       status = refl;
+      marks = refl;
+      types = refl;
     })
 
 pub no_site : (order : SiteOrder) (roots : List (List ℕ)) (told : Option StoreTold) (e : LoadFault) → roots ≡ roots_of order.hosts

@@ -1,4 +1,3 @@
-pub mod ContentType
 pub mod HostFiles
 pub mod Load
 pub mod LoadInside
@@ -8,3 +7,4 @@ pub mod PathInside
 pub mod Resource
 pub mod Site
 pub mod SiteInside
+pub mod Tag

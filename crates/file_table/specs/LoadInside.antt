@@ -1,5 +1,6 @@
 -- What the steps of loading a site answer.
 use Rattle.std.specs.Prelude.{◌≡◌, ℕ, ◌+◌, ◌<◌, ◌≤◌, true, List, [], ◌∷◌, ◌++◌, length, map, All, Option, None, Some, Result, Ok, Err, IfSome, ⊤}
+use Rattle.mpm_base.specs.declared.store.Content.{Content}
 use Rattle.mpm_base.specs.declared.store.File.{File}
 use Rattle.mpm_base.specs.Count.{NeverFalls}
 use Rattle.mpm_base.specs.Store.{StoreSeen, StoreTold, lies_under, names_under}
@@ -26,13 +27,13 @@ MayReadNext file name before (Err (fault.TooLarge named size)) =
     (named ≡ name) × (size ≡ size_of file) × (is_too_large before file ≡ true)
 MayReadNext file name before (Err fault.NoMemory) = ⊤
 
--- what reading at most so many of these bytes of the file of that name answers
-abbrev pub MayReadBytes : List ℕ → List ℕ → ℕ → Result (List ℕ) LoadFault → Type 0
-MayReadBytes bytes name most (Ok read) = read ≡ bytes
-MayReadBytes bytes name most (Err fault.StoreFault) = ⊤
-MayReadBytes bytes name most (Err (fault.TooMany root)) = ⊥
-MayReadBytes bytes name most (Err (fault.TooLarge named size)) = (named ≡ name) × (size ≡ length bytes) × (most < size)
-MayReadBytes bytes name most (Err fault.NoMemory) = ⊤
+-- what reading the file of that name answers, which has this, where it may have at most so many bytes
+abbrev pub MayReadContent : Content → List ℕ → ℕ → Result Content LoadFault → Type 0
+MayReadContent content name most (Ok read) = read ≡ content
+MayReadContent content name most (Err fault.StoreFault) = ⊤
+MayReadContent content name most (Err (fault.TooMany root)) = ⊥
+MayReadContent content name most (Err (fault.TooLarge named size)) = (named ≡ name) × (size ≡ length content.bytes) × (most < size)
+MayReadContent content name most (Err fault.NoMemory) = ⊤
 
 -- why the files of these names of a folder aren't read, where those before them have so many bytes: the first that is too large
 abbrev pub MayNotRead : List ℕ → List File → List (List ℕ) → ℕ → LoadFault → Type 0

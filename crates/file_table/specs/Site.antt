@@ -1,12 +1,16 @@
 -- A site: the files under the roots of its hosts, root by root, and what each host has of them. A root of several hosts stands in it once.
 -- Why it is so stands in docs/DECISIONS.md: 117, One list of files for all hosts.
-use Rattle.std.specs.Prelude.{◌≡◌, ℕ, ◌+◌, ◌<◌, ◌^◌, ◌||◌, nat_lt, All, IsUtf8, Bool, List, [], ◌∷◌, ◌++◌, length, map, take, drop, position, slice_get, Option, Some, None, if◌then◌else◌, unwrap_or, ⊤}
+use Rattle.std.specs.Prelude.{◌≡◌, ℕ, ◌+◌, ◌<◌, ◌^◌, ◌||◌, nat_lt, All, IsUtf8, Bool, false, List, [], ◌∷◌, ◌++◌, length, map, take, drop, position, slice_get, Option, Some, None, if◌then◌else◌, unwrap_or, ⊤}
 use Rattle.std.specs.List.{list_any}
 use Rattle.std.specs.List.Sorted.{IsPermutation}
 use Rattle.std.specs.Option.{option_and_then}
 use Rattle.std.specs.Str.{bytes_eq}
+use Rattle.mpm_base.specs.declared.store.Content.{Content}
 use Rattle.mpm_base.specs.declared.store.File.{File}
-use Rattle.mpm_base.specs.Store.{bytes_of, names_under}
+use Rattle.mpm_base.specs.Store.{content_of, names_under}
+use Rattle.media_types.specs.declared.types.MediaTypes.{MediaTypes}
+use Rattle.media_types.specs.MediaType.{default_types}
+use Rattle.file_table.specs.declared.marks.Marks.{Marks}
 use Rattle.file_table.specs.declared.part.Part.{Part}
 use Rattle.file_table.specs.declared.site_order.HostOrder.{HostOrder}
 use Rattle.file_table.specs.declared.site_order.SiteOrder.{SiteOrder}
@@ -17,12 +21,15 @@ pub record SeenHost : Type 0 where
   pub index : List ℕ
   pub part : Part
 
--- what contracts see of a site: the names of each host, what each host has of it, whether the status page is served, and the files, those
--- of one root behind those of another
+-- what contracts see of a site: the names of each host, what each host has of it, whether the status page is served, by which marks
+-- clients may ask whether what they have is still right, by what files get their types, and the files, those of one root behind those of
+-- another
 pub record SeenSite : Type 0 where
   pub names : List (List (List ℕ))
   pub hosts : List SeenHost
   pub status : Bool
+  pub marks : Marks
+  pub types : MediaTypes
   pub files : List File
 
 -- ## What a site is made of
@@ -33,9 +40,19 @@ pub record IsLoadable (order : SiteOrder) : Type 0 where
   pub most : length order.hosts < 2 ^ 32
   pub roots : All (λ (host : HostOrder). IsUtf8 host.root) order.hosts
 
--- one host without a name, which has these
+-- no file has a mark
+abbrev pub no_marks : Marks
+no_marks = record { tags = false; times = false }
+
+-- one host without a name, which has these, without marks and by the usual types
 abbrev pub one_host : List ℕ → List ℕ → Bool → SiteOrder
-one_host root index status = record { hosts = record { names = []; root = root; index = index } ∷ []; status = status }
+one_host root index status =
+    record {
+      hosts = record { names = []; root = root; index = index } ∷ [];
+      status = status;
+      marks = no_marks;
+      types = default_types;
+    }
 
 -- ## The files under a root
 
@@ -43,9 +60,18 @@ one_host root index status = record { hosts = record { names = []; root = root; 
 abbrev pub name_within : List ℕ → List ℕ → List ℕ
 name_within folder name = drop (length folder + 1) name
 
--- a name of these files as a file of the folder: its bytes are those of the first file of that name, and none where no file has it
+-- what a file has that isn't there
+abbrev pub no_content : Content
+no_content = record { bytes = []; second = 0 }
+
+-- a name in the folder as a file of it, which has this
+abbrev pub file_of_content : List ℕ → List ℕ → Content → File
+file_of_content folder name content =
+    record { name = name_within folder name; bytes = content.bytes; second = content.second }
+
+-- a name of these files as a file of the folder: it has what the first file of that name has, and no bytes where no file has it
 abbrev pub file_within : List ℕ → List File → List ℕ → File
-file_within folder files name = record { name = name_within folder name; bytes = unwrap_or (bytes_of name files) [] }
+file_within folder files name = file_of_content folder name (unwrap_or (content_of name files) no_content)
 
 -- the files are those under the root, in the order of their names there
 pub record AreUnder (root : List ℕ) (given files : List File) : Type 0 where
@@ -98,7 +124,7 @@ abbrev pub host_of : List (List ℕ) → List Part → HostOrder → SeenHost
 host_of roots parts host = record { index = host.index; part = part_of_root roots parts host.root }
 
 -- the site has the files under the roots of the hosts, each root once; each host has those of its own root, in the order of their names
--- there; and it serves the status page where that is ordered
+-- there; and it serves the status page, and has marks and types, as is ordered
 pub record IsSiteOf (order : SiteOrder) (given : List File) (site : SeenSite) : Type 0 where
   pub names : site.names ≡ map (λ (host : HostOrder). host.names) order.hosts
   pub lists : List (List File)
@@ -106,6 +132,8 @@ pub record IsSiteOf (order : SiteOrder) (given : List File) (site : SeenSite) : 
   pub files : site.files ≡ all_files lists
   pub hosts : site.hosts ≡ map (host_of (roots_of order.hosts) (parts_from 0 lists)) order.hosts
   pub status : site.status ≡ order.status
+  pub marks : site.marks ≡ order.marks
+  pub types : site.types ≡ order.types
 
 -- ## What a host has
 

@@ -8,11 +8,13 @@ ghost use Rattle.file_table.specs.LoadInside.{AddsRoot, HasReadRoots, MayNotRead
 ghost use Rattle.file_table.specs.Site.{IsLoadable, host_of, most_bytes_together, most_files, part_of_root, roots_of};
 ghost use Rattle.file_table.specs.SiteInside.{IsPartOf};
 
+use crate::found_once::found_once;
 use crate::load_fault::LoadFault;
 use crate::part::Part;
 use crate::reading::read_root;
 use crate::site::{Host, Site};
 use crate::site_order::{HostOrders, SiteOrder};
+use media_types::TypeTable;
 use mpm_base::{File, Names, NoMemory, Octets, Store};
 use name_hosts::{HostList, HostNames};
 use std::alloc::Global;
@@ -164,6 +166,7 @@ fn site_of(
     roots: &[&[u8]],
     parts: &[Part],
     files: Vec<File>,
+    old: Option<&Site>,
 ) -> Result<Site, NoMemory>
     requires some { 0 < length order.now.hosts }
     requires most { length order.now.hosts < 2 ^ 32 }
@@ -173,20 +176,25 @@ fn site_of(
       names = map (λ host. host.names) order.now.hosts;
       hosts = map (host_of (map (λ root. root.now) roots.now) parts.now) order.now.hosts;
       status = order.now.status;
+      marks = order.now.marks;
+      types = order.now.types;
       files = files.items;
     }) }
 {
     let names = names_of(alloc, &order.hosts)?;
     let hosts = hosts_of(alloc, &order.hosts, roots, parts)?;
-    Ok(Site::of(names, hosts, order.status, files))
+    let types = TypeTable::of(alloc, &order.types)?;
+    let found = found_once(alloc, order.marks, &types, &files, &hosts, old)?;
+    Ok(Site::of(names, hosts, order.status, order.marks, types, files, found))
 }
 
-/// The site of the files under the roots of the hosts, which are UTF-8. Each root is read once, in the order of the first host that
-/// has it. A file that is listed and then missing counts as empty. StoreFault where a call of the store failed; TooMany for the first
-/// root with whose files they are more than 65,536; TooLarge for the first file, in the order of roots and names, with more than
-/// 16,777,216 bytes or with which they are more than 67,108,864; the first root with which something is so decides; NoMemory where
-/// memory lacks.
-pub fn load<D: Store>(alloc: Global, store: &mut D, order: &SiteOrder) -> Result<Site, LoadFault>
+/// The site of the files under the roots of the hosts, where there is an old one or none.
+fn load_by<D: Store>(
+    alloc: Global,
+    store: &mut D,
+    order: &SiteOrder,
+    old: Option<&Site>,
+) -> Result<Site, LoadFault>
     requires { IsLoadable order.now }
     ensures store { LeavesStore (D.seen store.old) (D.seen store.new) result }
     ensures limits { IfOk result IsWithinLimits }
@@ -200,8 +208,37 @@ pub fn load<D: Store>(alloc: Global, store: &mut D, order: &SiteOrder) -> Result
         Ok(read) => read,
         Err(fault) => return Err(fault),
     };
-    match site_of(alloc, order, roots.as_slice(), parts.as_slice(), files) {
+    match site_of(alloc, order, roots.as_slice(), parts.as_slice(), files, old) {
         Ok(site) => Ok(site),
         Err(NoMemory) => Err(LoadFault::NoMemory),
     }
+}
+
+/// The site of the files under the roots of the hosts, which are UTF-8. Each root is read once, in the order of the first host that
+/// has it. A file that is listed and then missing counts as empty. StoreFault where a call of the store failed; TooMany for the first
+/// root with whose files they are more than 65,536; TooLarge for the first file, in the order of roots and names, with more than
+/// 16,777,216 bytes or with which they are more than 67,108,864; the first root with which something is so decides; NoMemory where
+/// memory lacks.
+pub fn load<D: Store>(alloc: Global, store: &mut D, order: &SiteOrder) -> Result<Site, LoadFault>
+    requires { IsLoadable order.now }
+    ensures store { LeavesStore (D.seen store.old) (D.seen store.new) result }
+    ensures limits { IfOk result IsWithinLimits }
+    ensures site { IfSome (D.seen store.old).told (λ t. MayLoad order.now t.files result) }
+{
+    load_by(alloc, store, order, None)
+}
+
+/// The same, where a server has an old site. What is as it was there needn't be found again: no clause sees the difference.
+pub fn load_again<D: Store>(
+    alloc: Global,
+    store: &mut D,
+    order: &SiteOrder,
+    old: &Site,
+) -> Result<Site, LoadFault>
+    requires { IsLoadable order.now }
+    ensures store { LeavesStore (D.seen store.old) (D.seen store.new) result }
+    ensures limits { IfOk result IsWithinLimits }
+    ensures site { IfSome (D.seen store.old).told (λ t. MayLoad order.now t.files result) }
+{
+    load_by(alloc, store, order, Some(old))
 }

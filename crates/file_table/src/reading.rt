@@ -3,14 +3,14 @@ ghost use Rattle.std.specs.Prelude.{ℕ, ◌≡◌, ◌+◌, ◌<◌, ◌≤◌,
 ghost use Rattle.std.specs.Cmp.Lexicographic.{slice_cmp};
 ghost use Rattle.std.specs.List.Sorted.{IsPermutation, IsSortedByKey};
 ghost use Rattle.std.specs.Ordering.{nat_cmp};
-ghost use Rattle.mpm_base.specs.Store.{bytes_of, lies_under, names_under};
+ghost use Rattle.mpm_base.specs.Store.{content_of, lies_under, names_under};
 ghost use Rattle.file_table.specs.Load.{LeavesStore};
-ghost use Rattle.file_table.specs.LoadInside.{AreCounted, IsReadBehind, MayListFiles, MayNotRead, MayNotReadRoot, MayReadBytes, MayReadNext};
-ghost use Rattle.file_table.specs.Site.{AreUnder, file_within, is_too_large, most_bytes_together, most_files, name_within};
+ghost use Rattle.file_table.specs.LoadInside.{AreCounted, IsReadBehind, MayListFiles, MayNotRead, MayNotReadRoot, MayReadContent, MayReadNext};
+ghost use Rattle.file_table.specs.Site.{AreUnder, file_within, is_too_large, most_bytes_together, most_files, name_within, no_content};
 
 use crate::load_fault::LoadFault;
 use crate::search::begins_with;
-use mpm_base::{File, Names, NoMemory, Octets, Store, StoreFault};
+use mpm_base::{Content, File, Names, NoMemory, Octets, Second, Store, StoreFault};
 use std::alloc::Global;
 
 /// The most files that a site has.
@@ -99,22 +99,26 @@ fn sorted_names<'a>(alloc: Global, names: &'a Names, root: &[u8]) -> Result<Vec<
     Ok(sorted)
 }
 
-/// The bytes of the file of that name, at most so many. A file that isn't there has none.
-fn read_bytes<D: Store>(
+/// What the file of that name has, of at most so many bytes. A file that isn't there has none.
+fn read_content<D: Store>(
     alloc: Global,
     store: &mut D,
     name: &[u8],
     most: u64,
-) -> Result<Octets, LoadFault>
+) -> Result<Content, LoadFault>
     requires { IsUtf8 name.now }
     ensures store { LeavesStore (D.seen store.old) (D.seen store.new) result }
-    ensures fits { IfOk result (λ bytes. length bytes ≤ most) }
+    ensures fits { IfOk result (λ content. length content.bytes ≤ most) }
     ensures known { IfSome (D.seen store.old).told
-        (λ t. MayReadBytes (unwrap_or (bytes_of name.now t.files) []) name.now most result) }
+        (λ t. MayReadContent (unwrap_or (content_of name.now t.files) no_content) name.now most
+        result) }
 {
     match store.read(alloc, text_of(name), most) {
-        Ok(bytes) => Ok(bytes),
-        Err(StoreFault::Missing) => Ok(Octets::make(alloc)),
+        Ok(content) => Ok(content),
+        Err(StoreFault::Missing) => Ok(Content {
+            bytes: Octets::make(alloc),
+            second: Second::of(0),
+        }),
         Err(StoreFault::Large(size)) => {
             let name = Octets::of(alloc, name)?;
             Err(LoadFault::TooLarge(name, size))
@@ -143,9 +147,13 @@ fn read_next<D: Store>(
         (λ t. MayReadNext (file_within root.now t.files name.now) name.now before result) }
 {
     let most = MOST_BYTES.min(MOST_BYTES_TOGETHER - before);
-    let bytes = read_bytes(alloc, store, name, most)?;
+    let Content { bytes, second } = read_content(alloc, store, name, most)?;
     let name = Octets::of(alloc, &name[root.len() + 1..])?;
-    Ok(File { name, bytes })
+    Ok(File {
+        name,
+        bytes,
+        second,
+    })
 }
 
 /// The files of these names, where those before them have so many bytes; and how many all have then.

@@ -4,11 +4,10 @@ ghost use Rattle.std.specs.Cmp.Lexicographic.{slice_cmp};
 ghost use Rattle.std.specs.List.Sorted.{IsPartitionPoint, IsSortedByKey};
 ghost use Rattle.std.specs.List.{starts_with};
 ghost use Rattle.std.specs.Ordering.{nat_cmp};
-ghost use Rattle.std.specs.Str.{bytes_eq};
 ghost use Rattle.file_table.specs.Order.{IsInOrder, name_goes_before};
 ghost use Rattle.file_table.specs.Resource.{has_files_under, place_of_file};
 
-use mpm_base::File;
+use mpm_base::{File, is_made_of};
 use std::cmp::Ordering;
 
 /// What has a name.
@@ -54,13 +53,6 @@ pub fn count_before<T: Named>(items: &[T], front: &[u8], back: &[u8]) -> usize
         items.now result }
 {
     items.partition_point(|item| goes_before(item.name(), front, back))
-}
-
-/// Whether the name is made of the two parts.
-fn is_made_of(name: &[u8], front: &[u8], back: &[u8]) -> bool
-    ensures { result ≡ bytes_eq name.now (front.now ++ back.now) }
-{
-    name.starts_with(front) && &name[front.len()..] == back
 }
 
 /// The place of the first file whose name is made of the two parts.

@@ -1,10 +1,16 @@
 //! The files of a site, and what each host has of them.
-ghost use Rattle.std.specs.Prelude.{◌≡◌, ◌+◌, ◌<◌, ◌≤◌, ◌^◌, ◌∷◌, length, Some, IfOk, slice_get, option_map};
+ghost use Rattle.std.specs.Prelude.{◌≡◌, ◌+◌, ◌<◌, ◌≤◌, ◌^◌, ◌∷◌, length, None, Some, IfOk, slice_get, option_map, if◌then◌else◌};
 ghost use Rattle.file_table.specs.Order.{IsInOrder};
 ghost use Rattle.file_table.specs.Site.{folder_at, host_at, most_files};
-ghost use Rattle.file_table.specs.SiteInside.{AreHosts};
+ghost use Rattle.file_table.specs.SiteInside.{AreFoundOnce, AreHosts};
+ghost use Rattle.file_table.specs.Tag.{tag_of};
+ghost use Rattle.media_types.specs.MediaType.{type_of_name};
+ghost use Rattle.mpm_base.specs.Moment.{IsSecond};
 
+use crate::found_once::{FoundOnce, Tags};
+use crate::marks::Marks;
 use crate::part::Part;
+use media_types::TypeTable;
 use mpm_base::{File, NoMemory, Octets};
 use name_hosts::HostList;
 use std::alloc::Global;
@@ -66,18 +72,22 @@ impl Host {
     }
 }
 
-/// The files under the roots of the hosts, at most 65,536.
+/// The files under the roots of the hosts, at most 65,536. Tags are found once, and the places of types.
 #[derive(Debug, Drop)]
 pub struct Site {
     names: HostList,
     hosts: Vec<Host>,
     status: bool,
+    marks: Marks,
+    types: TypeTable,
     files: Vec<File>,
+    tags: Tags,
+    places: Vec<usize>,
 }
 
 impl Model for Site {
     ghost use Rattle.file_table.specs.Site.{SeenSite};
-    ghost use Rattle.file_table.specs.SiteInside.{AreHosts};
+    ghost use Rattle.file_table.specs.SiteInside.{AreFoundOnce, AreHosts};
 
     ghost Value = { SeenSite };
 
@@ -85,24 +95,86 @@ impl Model for Site {
       names = s.names;
       hosts = s.hosts.items;
       status = s.status;
+      marks = s.marks;
+      types = s.types;
       files = s.files.items;
     } };
 
-    ghost invariant = { λ s. AreHosts s.names s.hosts.items s.files.items };
+    ghost invariant = { λ s. AreHosts s.names s.hosts.items s.files.items
+        × AreFoundOnce s.marks s.types s.files.items s.tags s.places.items };
 }
 
 impl Site {
-    /// A site of these hosts and files.
-    pub(crate) fn of(names: HostList, hosts: Vec<Host>, status: bool, files: Vec<File>) -> Site
-        requires { AreHosts names hosts.items files.items }
-        ensures { result
-            ≡ record { names = names; hosts = hosts.items; status = status; files = files.items } }
+    /// A site of these hosts and files, of which the rest was found.
+    pub(crate) fn of(
+        names: HostList,
+        hosts: Vec<Host>,
+        status: bool,
+        marks: Marks,
+        types: TypeTable,
+        files: Vec<File>,
+        found: FoundOnce,
+    ) -> Site
+        requires hosts { AreHosts names hosts.items files.items }
+        requires found { AreFoundOnce marks types files.items found.tags found.places.items }
+        ensures { result ≡ record {
+          names = names;
+          hosts = hosts.items;
+          status = status;
+          marks = marks;
+          types = types;
+          files = files.items;
+        } }
     {
+        let FoundOnce { tags, places } = found;
         Site {
             names,
             hosts,
             status,
+            marks,
+            types,
             files,
+            tags,
+            places,
+        }
+    }
+
+    /// How many hosts there are.
+    pub(crate) fn host_count(&self) -> usize
+        ensures count { result ≡ length self.now.hosts }
+        ensures most { length self.now.hosts < 2 ^ 32 }
+    {
+        self.hosts.len()
+    }
+
+    /// Which marks the files have.
+    pub fn marks(&self) -> Marks
+        ensures { result ≡ self.now.marks }
+    {
+        self.marks
+    }
+
+    /// The type of the file at the place.
+    pub(crate) fn type_of(&self, file: u32) -> &[u8]
+        requires { file < length self.now.files }
+        ensures { option_map (λ f. type_of_name self.now.types f.name)
+            (slice_get self.now.files file) ≡ Some result.now }
+    {
+        self.types.type_at(self.places[file as usize])
+    }
+
+    /// The tag of the file at the place, where files have tags.
+    pub(crate) fn tag_at(&self, file: usize) -> Option<&[u8]>
+        requires { file < length self.now.files }
+        ensures { option_map (λ tag. tag.now) result ≡ (if self.now.marks.tags
+            then option_map (λ f. tag_of f.bytes) (slice_get self.now.files file) else None) }
+    {
+        if !self.marks.tags {
+            return None;
+        }
+        match self.tags.get(file) {
+            Some(tag) => Some(tag.as_slice()),
+            None => None,
         }
     }
 
@@ -170,4 +242,31 @@ pub fn bytes(site: &Site, file: u32) -> &[u8]
     ensures { option_map (λ f. f.bytes) (slice_get site.now.files file) ≡ Some result.now }
 {
     site.files()[file as usize].bytes.as_slice()
+}
+
+/// The content type of a file of the site (RFC 9110, section 8.3). Takes no memory, and compares nothing.
+pub fn content_type(site: &Site, file: u32) -> &[u8]
+    requires { file < length site.now.files }
+    ensures { option_map (λ f. type_of_name site.now.types f.name) (slice_get site.now.files file)
+        ≡ Some result.now }
+{
+    site.type_of(file)
+}
+
+/// The entity tag of a file of the site (RFC 9110, section 8.8.3), where files have tags. Takes no memory.
+pub fn entity_tag(site: &Site, file: u32) -> Option<&[u8]>
+    requires { file < length site.now.files }
+    ensures { option_map (λ tag. tag.now) result ≡ (if site.now.marks.tags
+        then option_map (λ f. tag_of f.bytes) (slice_get site.now.files file) else None) }
+{
+    site.tag_at(file as usize)
+}
+
+/// The second in which a file of the site was changed (RFC 9110, section 8.8.2). Takes no memory.
+pub fn last_change(site: &Site, file: u32) -> u64
+    requires { file < length site.now.files }
+    ensures second { option_map (λ f. f.second) (slice_get site.now.files file) ≡ Some result }
+    ensures bound { IsSecond result }
+{
+    site.files()[file as usize].second.number()
 }

@@ -2,6 +2,8 @@
 ghost use Rattle.std.specs.Prelude.{◌≡◌, IfOk};
 ghost use Rattle.file_table.specs.Site.{IsLoadable, one_host};
 
+use crate::marks::Marks;
+use media_types::MediaTypes;
 use mpm_base::{Names, NoMemory, Octets, Sequence};
 use std::alloc::Global;
 
@@ -19,18 +21,21 @@ pub struct HostOrder {
 /// What is wanted of each host, in order.
 pub type HostOrders = Sequence<HostOrder>;
 
-/// What a site is made of: its hosts, of which the first has what is asked for by a name that none has, and whether it has the status
-/// page.
+/// What a site is made of: its hosts, of which the first has what is asked for by a name that none has, and what is of the whole site.
 #[derive(Debug, Drop)]
 pub struct SiteOrder {
     /// The hosts: one at least.
     pub hosts: HostOrders,
     /// Whether the status page is served.
     pub status: bool,
+    /// Which marks the files have.
+    pub marks: Marks,
+    /// By what they get their types.
+    pub types: MediaTypes,
 }
 
 impl SiteOrder {
-    /// One host without a name, which has the files under that folder.
+    /// One host without a name, which has the files under that folder, without marks and by the usual types.
     pub fn one_host(
         alloc: Global,
         root: &str,
@@ -48,6 +53,14 @@ impl SiteOrder {
             root,
             index,
         })?;
-        Ok(SiteOrder { hosts, status })
+        Ok(SiteOrder {
+            hosts,
+            status,
+            marks: Marks {
+                tags: false,
+                times: false,
+            },
+            types: MediaTypes::usual(alloc),
+        })
     }
 }

@@ -1,3 +1,4 @@
 pub mod HostLemmas
 pub mod TargetLemmas
 pub mod WritingLemmas
+pub mod ConditionLemmas

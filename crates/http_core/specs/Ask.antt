@@ -36,16 +36,18 @@ abbrev pub IsServedOf : SeenSite → Served → Type 0
 IsServedOf site (served.Whole part) = IsPartOf site part
 IsServedOf site (served.Part part) = IsPartOf site part
 IsServedOf site (served.Unsatisfied size) = ⊤
+IsServedOf site (served.Unmodified place) = place < length site.files
 IsServedOf site (served.Moved path) = ⊤
 IsServedOf site served.Options = ⊤
 IsServedOf site (served.Page auto) = ⊤
 IsServedOf site (served.Refused code) = ⊤
 
--- a file that is served, whole or in part, is one that the host has
+-- a file that is served, whole or in part, or that the client has as it is, is one that the host has
 abbrev pub IsServedFor : SeenSite → ℕ → Served → Type 0
 IsServedFor site host (served.Whole part) = IsFoundFor site host (resource.File part.file)
 IsServedFor site host (served.Part part) = IsFoundFor site host (resource.File part.file)
 IsServedFor site host (served.Unsatisfied size) = ⊤
+IsServedFor site host (served.Unmodified place) = IsFoundFor site host (resource.File place)
 IsServedFor site host (served.Moved path) = ⊤
 IsServedFor site host served.Options = ⊤
 IsServedFor site host (served.Page auto) = ⊤

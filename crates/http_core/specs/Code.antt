@@ -9,9 +9,11 @@ abbrev pub number_of : Code → ℕ
 number_of code.Ok = 200
 number_of code.PartialContent = 206
 number_of code.MovedPermanently = 301
+number_of code.NotModified = 304
 number_of code.BadRequest = 400
 number_of code.NotFound = 404
 number_of code.MethodNotAllowed = 405
+number_of code.PreconditionFailed = 412
 number_of code.ContentTooLarge = 413
 number_of code.UriTooLong = 414
 number_of code.RangeNotSatisfiable = 416
@@ -24,9 +26,11 @@ abbrev pub reason_of : Code → List ℕ
 reason_of code.Ok = codes "OK"
 reason_of code.PartialContent = codes "Partial Content"
 reason_of code.MovedPermanently = codes "Moved Permanently"
+reason_of code.NotModified = codes "Not Modified"
 reason_of code.BadRequest = codes "Bad Request"
 reason_of code.NotFound = codes "Not Found"
 reason_of code.MethodNotAllowed = codes "Method Not Allowed"
+reason_of code.PreconditionFailed = codes "Precondition Failed"
 reason_of code.ContentTooLarge = codes "Content Too Large"
 reason_of code.UriTooLong = codes "URI Too Long"
 reason_of code.RangeNotSatisfiable = codes "Range Not Satisfiable"

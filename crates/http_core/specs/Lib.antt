@@ -1,8 +1,12 @@
 pub mod Ask
 pub mod Code
+pub mod ConditionLaws
+pub mod Conditions
+pub mod ConditionsInside
 pub mod Range
 pub mod RangeInside
 pub mod Reply
+pub mod ReplyInside
 pub mod Served
 pub mod ServedInside
 pub mod StatusPage

@@ -29,6 +29,7 @@ abbrev pub IsPartWithin : ℕ → ℕ → Served → Type 0
 IsPartWithin file size (served.Whole part) = IsBytesOf file size part
 IsPartWithin file size (served.Part part) = IsBytesOf file size part
 IsPartWithin file size (served.Unsatisfied n) = ⊤
+IsPartWithin file size (served.Unmodified place) = ⊤
 IsPartWithin file size (served.Moved path) = ⊤
 IsPartWithin file size served.Options = ⊤
 IsPartWithin file size (served.Page auto) = ⊤

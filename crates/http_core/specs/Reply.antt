@@ -1,13 +1,16 @@
--- A response: its head (RFC 9112, section 4; RFC 9110, sections 6.6.1, 8.3, 8.6, 10.2 and 14.4) and its body.
-use Rattle.std.specs.Prelude.{◌≡◌, ℕ, ◌-◌, ◌==◌, Bool, List, [], ◌++◌, length, codes, Option, Some, None, slice_get, if◌then◌else◌}
+-- A response: its head (RFC 9112, section 4; RFC 9110, sections 6.6.1, 8.3, 8.6, 8.8, 10.2, 14.3 and 14.4) and its body.
+use Rattle.std.specs.Prelude.{◌≡◌, ℕ, ◌-◌, ◌==◌, ◌&&◌, min, Bool, true, false, List, [], ◌++◌, length, codes, Option, Some, None, slice_get, if◌then◌else◌}
 use Rattle.std.specs.Fmt.{decimal}
 use Rattle.httpdate.specs.Date.{unix_secs, date_text}
 use Rattle.httpdate.specs.declared.date.HttpDate.{HttpDate}
 use Rattle.mpm_base.specs.declared.note.Note.{Note}
 use Rattle.mpm_base.specs.declared.note.Snapshot.{Snapshot}
 use Rattle.mpm_base.specs.declared.store.File.{File}
-use Rattle.file_table.specs.ContentType.{type_of_name}
+use Rattle.media_types.specs.MediaType.{type_of_name}
 use Rattle.file_table.specs.Site.{SeenSite}
+use Rattle.file_table.specs.Tag.{tag_of}
+use Rattle.file_table.specs.declared.marks.Marks.{Marks}
+use Rattle.http_core.specs.Conditions.{has_marks}
 use Rattle.http_core.specs.Served.{code_of}
 use Rattle.http_core.specs.Code.{code_text, number_of}
 use Rattle.http_core.specs.StatusPage.{page_text, page_type}
@@ -38,6 +41,7 @@ allow_line (served.Page auto) = []
 allow_line (served.Whole part) = []
 allow_line (served.Part part) = []
 allow_line (served.Unsatisfied size) = []
+allow_line (served.Unmodified place) = []
 allow_line (served.Moved path) = []
 
 -- what to ask for instead
@@ -49,6 +53,7 @@ location_line (served.Page auto) = []
 location_line (served.Whole part) = []
 location_line (served.Part part) = []
 location_line (served.Unsatisfied size) = []
+location_line (served.Unmodified place) = []
 
 -- which bytes of how many follow; the last one is named itself
 abbrev pub range_line : Served → List ℕ
@@ -60,17 +65,65 @@ range_line (served.Refused reason) = []
 range_line (served.Page auto) = []
 range_line (served.Whole part) = []
 range_line (served.Moved path) = []
+range_line (served.Unmodified place) = []
+
+-- the file that is served, whole or in part, or that the client has as it is
+abbrev pub file_of : SeenSite → Served → Option File
+file_of site (served.Whole part) = slice_get site.files part.file
+file_of site (served.Part part) = slice_get site.files part.file
+file_of site (served.Unmodified place) = slice_get site.files place
+file_of site served.Options = None
+file_of site (served.Refused reason) = None
+file_of site (served.Page auto) = None
+file_of site (served.Unsatisfied size) = None
+file_of site (served.Moved path) = None
+
+-- the line of a file's tag (RFC 9110, section 8.8.3), where files have tags
+abbrev pub tag_line : Marks → Option File → List ℕ
+tag_line m None = []
+tag_line m (Some file) = if m.tags then head_line_of (codes "ETag: " ++ tag_of file.bytes) else []
+
+-- the second that is told as that of a file's last change, where times count: no later one than that of the response's date (section 8.8.2.1)
+abbrev pub told_second : Marks → ℕ → Option File → Option ℕ
+told_second m now None = None
+told_second m now (Some file) = if m.times then Some (min file.second now) else None
+
+-- the line says that second (section 8.8.2); there is none where none is told
+abbrev pub IsTimeLine : Option ℕ → List ℕ → Type 0
+IsTimeLine None text = text ≡ []
+IsTimeLine (Some second) text =
+    (date : HttpDate) × (unix_secs date ≡ second) × (text ≡ head_line_of (codes "Last-Modified: " ++ date_text date))
+
+-- bytes of a file are sent, the whole or a part
+abbrev pub sends_file : Served → Bool
+sends_file (served.Whole part) = true
+sends_file (served.Part part) = true
+sends_file (served.Unmodified place) = false
+sends_file served.Options = false
+sends_file (served.Refused reason) = false
+sends_file (served.Page auto) = false
+sends_file (served.Unsatisfied size) = false
+sends_file (served.Moved path) = false
+
+-- that parts of the file may be asked for (section 14.3), which is said where files have marks
+abbrev pub accepts_line : Marks → Served → List ℕ
+accepts_line m served = if has_marks m && sends_file served then head_line_of (codes "Accept-Ranges: bytes") else []
+
+-- the lines that speak of the file, whose last change is told by that line
+abbrev pub file_lines : Marks → Option File → Served → List ℕ → List ℕ
+file_lines m file served changed = tag_line m file ++ changed ++ accepts_line m served
 
 -- the type of the file at the place
-abbrev pub type_of_file : Option File → List ℕ
-type_of_file None = []
-type_of_file (Some file) = type_of_name file.name
+abbrev pub type_of_file : SeenSite → Option File → List ℕ
+type_of_file site None = []
+type_of_file site (Some file) = type_of_name site.types file.name
 
--- the content type of what is served: that of the file or of the status page, or a text; OPTIONS has none
+-- the content type of what is served: that of the file or of the status page, or a text; OPTIONS has none, nor has a file that the client has
 abbrev pub type_line : SeenSite → Served → List ℕ
 type_line site served.Options = []
-type_line site (served.Whole part) = head_line_of (codes "Content-Type: " ++ type_of_file (slice_get site.files part.file))
-type_line site (served.Part part) = head_line_of (codes "Content-Type: " ++ type_of_file (slice_get site.files part.file))
+type_line site (served.Unmodified place) = []
+type_line site (served.Whole part) = head_line_of (codes "Content-Type: " ++ type_of_file site (slice_get site.files part.file))
+type_line site (served.Part part) = head_line_of (codes "Content-Type: " ++ type_of_file site (slice_get site.files part.file))
 type_line site (served.Page auto) = head_line_of (codes "Content-Type: " ++ page_type auto)
 type_line site (served.Unsatisfied size) = head_line_of (codes "Content-Type: text/plain")
 type_line site (served.Moved path) = head_line_of (codes "Content-Type: text/plain")
@@ -85,6 +138,7 @@ abbrev pub body_of_get : Served → Option Snapshot → Body
 body_of_get (served.Whole part) page = body.File part.file part.from part.to
 body_of_get (served.Part part) page = body.File part.file part.from part.to
 body_of_get served.Options page = body.Nothing
+body_of_get (served.Unmodified place) page = body.Nothing
 body_of_get (served.Page auto) page = body.Own (page_text auto page)
 body_of_get (served.Unsatisfied size) page = body.Own (code_body code.RangeNotSatisfiable)
 body_of_get (served.Moved path) page = body.Own (code_body code.MovedPermanently)
@@ -104,11 +158,23 @@ first_lines c date = head_line_of (codes "HTTP/1.1 " ++ code_text c) ++ head_lin
 abbrev pub last_lines : ℕ → List ℕ
 last_lines size = head_line_of (codes "Content-Length: " ++ decimal size) ++ head_line_of []
 
--- the head of the response of this plan, note and date: a HEAD has the same lines as a GET (RFC 9110, section 9.3.2)
-abbrev pub head_of : SeenSite → Plan → Note → List ℕ → List ℕ
-head_of site plan note date =
+-- the lines behind the type: where the client has the file as it is there is no length (RFC 9110, sections 8.6 and 15.4.5)
+abbrev pub end_lines : Served → ℕ → List ℕ
+end_lines (served.Unmodified place) size = head_line_of []
+end_lines (served.Whole part) size = last_lines size
+end_lines (served.Part part) size = last_lines size
+end_lines served.Options size = last_lines size
+end_lines (served.Refused reason) size = last_lines size
+end_lines (served.Page auto) size = last_lines size
+end_lines (served.Unsatisfied n) size = last_lines size
+end_lines (served.Moved path) size = last_lines size
+
+-- the head of the response of this plan, note, date and line of the last change: a HEAD has the same lines as a GET (RFC 9110, section 9.3.2)
+abbrev pub head_of : SeenSite → Plan → Note → List ℕ → List ℕ → List ℕ
+head_of site plan note date changed =
     first_lines (code_of plan.served) date ++ connection_line note.last plan.minor ++ allow_line plan.served ++ location_line plan.served
-    ++ range_line plan.served ++ type_line site plan.served ++ last_lines (body_length (body_of_get plan.served note.page))
+    ++ range_line plan.served ++ file_lines site.marks (file_of site plan.served) plan.served changed ++ type_line site plan.served
+    ++ end_lines plan.served (body_length (body_of_get plan.served note.page))
 
 -- the body of the response of this plan and note; a HEAD has none
 abbrev pub reply_body : Plan → Note → Body
@@ -118,7 +184,9 @@ reply_body plan note = if plan.only_head then body.Nothing else body_of_get plan
 pub record IsReply (site : SeenSite) (plan : Plan) (note : Note) (before : List ℕ) (reply : Reply) : Type 0 where
   pub date : HttpDate
   pub second : unix_secs date ≡ note.date
-  pub head : reply.head ≡ before ++ head_of site plan note (date_text date)
+  pub changed : List ℕ
+  pub is_changed : IsTimeLine (told_second site.marks note.date (file_of site plan.served)) changed
+  pub head : reply.head ≡ before ++ head_of site plan note (date_text date) changed
   pub body : reply.body ≡ reply_body plan note
 
 -- the head of the response to a refused head

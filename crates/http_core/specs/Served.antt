@@ -7,6 +7,7 @@ use Rattle.file_table.specs.Resource.{resource_of}
 use Rattle.file_table.specs.Site.{SeenSite}
 use Rattle.file_table.specs.declared.found.Found.{Found}
 use Rattle.file_table.specs.declared.found.Found.TheVariants as resource
+use Rattle.http_core.specs.Conditions.{precondition, range_on}
 use Rattle.http_core.specs.Location.{location_of}
 use Rattle.http_core.specs.Range.{range_in_value, selection_of}
 use Rattle.http_core.specs.StatusPage.{asks_for_text, is_status_path}
@@ -14,6 +15,8 @@ use Rattle.http_core.specs.Target.{named_host, path_of}
 use Rattle.name_hosts.specs.Host.{choose}
 use Rattle.http_core.specs.declared.code.Code.{Code}
 use Rattle.http_core.specs.declared.code.Code.TheVariants as code
+use Rattle.http_core.specs.declared.conditions.Verdict.{Verdict}
+use Rattle.http_core.specs.declared.conditions.Verdict.TheVariants as verdict
 use Rattle.http_core.specs.declared.range.Range.{Range}
 use Rattle.http_core.specs.declared.range.Selection.{Selection}
 use Rattle.http_core.specs.declared.range.Selection.TheVariants as selection
@@ -77,29 +80,54 @@ abbrev pub served_range : ℕ → ℕ → Option Range → Served
 served_range place size None = served_selection place size selection.Whole
 served_range place size (Some range) = served_selection place size (selection_of size range)
 
--- the range of a request where it counts: that of a GET, for a file of some bytes
+-- the range of a request where it may count: that of a GET, for a file of some bytes
 abbrev pub range_for : Bool → ℕ → Option (List ℕ) → Option Range
 range_for get size None = None
 range_for get size (Some text) = if not get || size == 0 then None else range_in_value text
 
--- what the resource of a target serves to GET, or else to HEAD
-abbrev pub served_of : SeenSite → Bool → Option (List ℕ) → List ℕ → Found → Served
-served_of site get range target resource.BadPath = served.Refused code.BadRequest
-served_of site get range target (resource.Redirect path) = served.Moved (location_of target path)
-served_of site get range target resource.Missing = served.Refused code.NotFound
-served_of site get range target (resource.File place) = served_range place (size_at site place) (range_for get (size_at site place) range)
+-- what the conditions say of the file at the place; there is none that says anything of no file
+abbrev pub verdict_of : SeenSite → RequestParts → Option File → Verdict
+verdict_of site r None = verdict.Sends
+verdict_of site r (Some file) = precondition site.marks r.conditions file
 
--- what a target serves to GET, or else to HEAD: the status page, where its path is that and the site has the page, for which no range
--- counts; or what it names in the site, for the host
-abbrev pub served_at : SeenSite → ℕ → Bool → Option (List ℕ) → List ℕ → Served
-served_at site host get range target =
-    if site.status && is_status_path (path_of target) then served.Page (asks_for_text target)
-    else served_of site get range target (resource_of_target site host target)
+-- the Range of the request, where it counts for the file
+abbrev pub range_of_file : SeenSite → RequestParts → Option File → Option (List ℕ)
+range_of_file site r None = None
+range_of_file site r (Some file) = range_on site.marks r file
+
+-- the file at the place by that verdict: what is sent of it, or what is answered in its place
+abbrev pub served_by : Verdict → ℕ → Served → Served
+served_by verdict.Sends place sent = sent
+served_by verdict.Fails place sent = served.Refused code.PreconditionFailed
+served_by verdict.Unmodified place sent = served.Unmodified place
+
+-- what is sent of the file at the place to GET, or else to HEAD, where its conditions say nothing else
+abbrev pub sent_file : SeenSite → Bool → RequestParts → ℕ → Served
+sent_file site get r place =
+    served_range place (size_at site place) (range_for get (size_at site place) (range_of_file site r (slice_get site.files place)))
+
+-- what the file at the place serves to GET, or else to HEAD: its conditions are looked at before its Range (RFC 9110, section 13.2.2)
+abbrev pub served_file : SeenSite → Bool → RequestParts → ℕ → Served
+served_file site get r place = served_by (verdict_of site r (slice_get site.files place)) place (sent_file site get r place)
+
+-- what the resource of a target serves to GET, or else to HEAD
+abbrev pub served_of : SeenSite → Bool → RequestParts → Found → Served
+served_of site get r resource.BadPath = served.Refused code.BadRequest
+served_of site get r (resource.Redirect path) = served.Moved (location_of r.target path)
+served_of site get r resource.Missing = served.Refused code.NotFound
+served_of site get r (resource.File place) = served_file site get r place
+
+-- what a target serves to GET, or else to HEAD: the status page, where its path is that and the site has the page, for which neither a
+-- range nor a condition counts; or what it names in the site, for the host
+abbrev pub served_at : SeenSite → ℕ → Bool → RequestParts → Served
+served_at site host get r =
+    if site.status && is_status_path (path_of r.target) then served.Page (asks_for_text r.target)
+    else served_of site get r (resource_of_target site host r.target)
 
 -- what a request is served
 abbrev pub served_to : SeenSite → RequestParts → Served
 served_to site r =
-    if is_get r.method || is_head r.method then served_at site (chosen_host site r) (is_get r.method) r.range r.target
+    if is_get r.method || is_head r.method then served_at site (chosen_host site r) (is_get r.method) r
     else (if is_options r.method
     then (if bytes_eq r.target (codes "*") then served.Options else options_of (resource_of_target site (chosen_host site r) r.target))
     else (if is_disallowed r.method then served.Refused code.MethodNotAllowed else served.Refused code.NotImplemented))
@@ -109,6 +137,7 @@ abbrev pub code_of : Served → Code
 code_of (served.Whole part) = code.Ok
 code_of (served.Part part) = code.PartialContent
 code_of (served.Unsatisfied size) = code.RangeNotSatisfiable
+code_of (served.Unmodified place) = code.NotModified
 code_of (served.Moved path) = code.MovedPermanently
 code_of served.Options = code.Ok
 code_of (served.Page auto) = code.Ok
@@ -120,6 +149,7 @@ is_page (served.Page auto) = true
 is_page (served.Whole part) = false
 is_page (served.Part part) = false
 is_page (served.Unsatisfied size) = false
+is_page (served.Unmodified place) = false
 is_page (served.Moved path) = false
 is_page served.Options = false
 is_page (served.Refused reason) = false

@@ -12,12 +12,16 @@ pub enum Code {
     PartialContent,
     /// Section 15.4.2.
     MovedPermanently,
+    /// Section 15.4.5.
+    NotModified,
     /// Section 15.5.1.
     BadRequest,
     /// Section 15.5.5.
     NotFound,
     /// Section 15.5.6.
     MethodNotAllowed,
+    /// Section 15.5.13.
+    PreconditionFailed,
     /// Section 15.5.14.
     ContentTooLarge,
     /// Section 15.5.15.
@@ -41,9 +45,11 @@ impl Code {
             Code::Ok => 200,
             Code::PartialContent => 206,
             Code::MovedPermanently => 301,
+            Code::NotModified => 304,
             Code::BadRequest => 400,
             Code::NotFound => 404,
             Code::MethodNotAllowed => 405,
+            Code::PreconditionFailed => 412,
             Code::ContentTooLarge => 413,
             Code::UriTooLong => 414,
             Code::RangeNotSatisfiable => 416,
@@ -61,9 +67,11 @@ impl Code {
             Code::Ok => b"200 OK",
             Code::PartialContent => b"206 Partial Content",
             Code::MovedPermanently => b"301 Moved Permanently",
+            Code::NotModified => b"304 Not Modified",
             Code::BadRequest => b"400 Bad Request",
             Code::NotFound => b"404 Not Found",
             Code::MethodNotAllowed => b"405 Method Not Allowed",
+            Code::PreconditionFailed => b"412 Precondition Failed",
             Code::ContentTooLarge => b"413 Content Too Large",
             Code::UriTooLong => b"414 URI Too Long",
             Code::RangeNotSatisfiable => b"416 Range Not Satisfiable",

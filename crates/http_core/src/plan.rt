@@ -28,6 +28,8 @@ pub enum Served {
     Part(FilePart),
     /// A range that a file of so many bytes hasn't (section 15.5.17).
     Unsatisfied(u64),
+    /// The client has the file at that place as it is (section 15.4.5).
+    Unmodified(u32),
     /// What to ask for instead: the path of the folder, with the query (section 15.4.2).
     Moved(Octets),
     /// The methods that are served (section 9.3.7).
@@ -58,6 +60,7 @@ impl Served {
             Served::Whole(_) => Code::Ok,
             Served::Part(_) => Code::PartialContent,
             Served::Unsatisfied(_) => Code::RangeNotSatisfiable,
+            Served::Unmodified(_) => Code::NotModified,
             Served::Moved(_) => Code::MovedPermanently,
             Served::Options => Code::Ok,
             Served::Page(_) => Code::Ok,

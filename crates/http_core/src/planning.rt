@@ -7,9 +7,10 @@ ghost use Rattle.http_core.specs.ServedInside.{IsPlaceOf};
 ghost use Rattle.http_core.specs.Ask as spec;
 ghost use Rattle.http_core.specs.Ask.{IsServedFor, IsServedOf};
 ghost use Rattle.http_core.specs.RangeInside.{HasSmallBound, IsPartWithin};
-ghost use Rattle.http_core.specs.Served.{is_disallowed, is_get, is_head, is_options, chosen_host, options_of, range_for, served_range, resource_at, resource_of_target, served_at, served_of, served_to, size_at};
+ghost use Rattle.http_core.specs.Served.{is_disallowed, is_get, is_head, is_options, chosen_host, options_of, range_for, served_range, resource_at, resource_of_target, sent_file, served_at, served_file, served_of, served_to, size_at};
 
 use crate::code::Code;
+use crate::conditions::{Verdict, range_on, verdict_on};
 use crate::laws::served_files_are_of_the_chosen_host;
 use crate::location::location_of;
 use crate::plan::{FilePart, Plan, Served};
@@ -94,27 +95,41 @@ fn size_at(site: &Site, place: u32) -> u64
     bytes(site, place).len() as u64
 }
 
+/// What is sent of the file at the place to GET, or else to HEAD, where its conditions say nothing else.
+fn sent_file(site: &Site, get: bool, request: &Request, place: u32) -> Served
+    requires { place < length site.now.files }
+    ensures value { result ≡ sent_file site.now get request.now place }
+    ensures of { IsServedOf site.now result }
+{
+    let size = size_at(site, place);
+    let range = range_on(site, request, place);
+    ranged(place, size, range_for(get, size, range))
+}
+
+/// What the file at the place serves to GET, or else to HEAD.
+fn served_file(site: &Site, get: bool, request: &Request, place: u32) -> Served
+    requires { place < length site.now.files }
+    ensures value { result ≡ served_file site.now get request.now place }
+    ensures of { IsServedOf site.now result }
+{
+    match verdict_on(site, request, place) {
+        Verdict::Sends => sent_file(site, get, request, place),
+        Verdict::Fails => Served::Refused(Code::PreconditionFailed),
+        Verdict::Unmodified => Served::Unmodified(place),
+    }
+}
+
 /// What the resource of the target serves to GET, or else to HEAD.
-fn served_of(
-    site: &Site,
-    get: bool,
-    range: Option<&[u8]>,
-    target: &[u8],
-    found: Found,
-) -> Result<Served, NoMemory>
+fn served_of(site: &Site, get: bool, request: &Request, found: Found) -> Result<Served, NoMemory>
     requires { IsPlaceOf site.now found }
-    ensures value { IfOk result (λ served. served
-        ≡ served_of site.now get (option_map (λ t. t.now) range.entry) target.now found) }
+    ensures value { IfOk result (λ served. served ≡ served_of site.now get request.now found) }
     ensures of { IfOk result (IsServedOf site.now) }
 {
     match found {
         Found::BadPath => Ok(Served::Refused(Code::BadRequest)),
-        Found::Redirect(path) => Ok(Served::Moved(location_of(target, path)?)),
+        Found::Redirect(path) => Ok(Served::Moved(location_of(request.target(), path)?)),
         Found::Missing => Ok(Served::Refused(Code::NotFound)),
-        Found::File(place) => {
-            let size = size_at(site, place);
-            Ok(ranged(place, size, range_for(get, size, range)))
-        }
+        Found::File(place) => Ok(served_file(site, get, request, place)),
     }
 }
 
@@ -162,8 +177,7 @@ fn is_disallowed(method: &[u8]) -> bool
 /// What is served to a GET, or else to a HEAD.
 fn served_at(alloc: Global, site: &Site, request: &Request, get: bool) -> Result<Served, NoMemory>
     ensures value { IfOk result
-        (λ served. served ≡ served_at site.now (chosen_host site.now request.now) get
-        request.now.range request.now.target) }
+        (λ served. served ≡ served_at site.now (chosen_host site.now request.now) get request.now) }
     ensures of { IfOk result (IsServedOf site.now) }
 {
     let target = request.target();
@@ -172,7 +186,7 @@ fn served_at(alloc: Global, site: &Site, request: &Request, get: bool) -> Result
         return Ok(Served::Page(asks_for_text(target)));
     }
     let found = resource_at(alloc, site, chosen_host(site, request), path)?;
-    served_of(site, get, request.range(), target, found)
+    served_of(site, get, request, found)
 }
 
 /// What is served to OPTIONS.

@@ -1,6 +1,5 @@
 //! A response: its head, and what its body is.
 ghost use Rattle.std.specs.Prelude.{◌≡◌, true, IfOk, if◌then◌else◌};
-ghost use Rattle.httpdate.specs.Date.{unix_secs};
 ghost use Rattle.mpm_base.specs.Moment.{IsSecond};
 ghost use Rattle.http_core.specs.Ask.{IsServedOf};
 ghost use Rattle.http_core.specs.Reply as spec;
@@ -10,9 +9,8 @@ ghost use Rattle.http_core.specs.Code.{refuses_head};
 use crate::code::{Code, refusal_code};
 use crate::plan::{Plan, Served};
 use crate::status_page::page_text;
-use crate::writing::{write_head, write_refusal};
+use crate::writing::{date_at, write_head, write_refusal};
 use file_table::Site;
-use httpdate::HttpDate;
 use mpm_base::{NoMemory, Note, Octets};
 use std::alloc::Global;
 
@@ -49,17 +47,6 @@ pub struct Reply {
     pub body: Body,
 }
 
-/// The date at a second since 1970-01-01 00:00:00 UTC.
-fn date_at(second: u64) -> HttpDate
-    requires { IsSecond second }
-    ensures { unix_secs result ≡ second }
-{
-    let Ok(date) = HttpDate::from_unix_secs(second) else {
-        unreachable!()
-    };
-    date
-}
-
 /// A body that says the code.
 fn code_body(alloc: Global, code: Code) -> Result<Octets, NoMemory>
     ensures { IfOk result (λ text. text ≡ spec.code_body code) }
@@ -77,6 +64,7 @@ fn body_of_get(alloc: Global, served: &Served, note: &Note) -> Result<Body, NoMe
         Served::Whole(part) => Ok(Body::File(part.file, part.from, part.to)),
         Served::Part(part) => Ok(Body::File(part.file, part.from, part.to)),
         Served::Options => Ok(Body::Nothing),
+        Served::Unmodified(_) => Ok(Body::Nothing),
         Served::Page(auto) => Ok(Body::Own(page_text(alloc, *auto, &note.page)?)),
         _ => Ok(Body::Own(code_body(alloc, served.code())?)),
     }

@@ -1,7 +1,9 @@
 -- The values and the words of the fields of one name, field by field.
-use Rattle.std.proofs.Common.{◌≡◌, ℕ, ◌-◌, ◌<◌, Bool, true, false, cond, ◌||◌, List, [], ◌∷◌, ◌++◌, length, get_or, refl, sym, ap, ◌∙◌, subst, arith}
+use Rattle.std.proofs.Common.{◌≡◌, ℕ, ◌-◌, ◌<◌, Bool, true, false, cond, ◌||◌, List, [], ◌∷◌, ◌++◌, length, get_or, map, refl, sym, ap, ◌∙◌, subst, arith}
 use Rattle.std.specs.Char.{to_ascii_lowercase}
-use Rattle.std.proofs.lemmas.List.{append-nil, length-map}
+use Rattle.std.specs.Str.{bytes_eq}
+use Rattle.std.proofs.lemmas.List.{append-nil, length-map, map_push}
+use Rattle.std.proofs.lemmas.List.Elements.{All-push}
 use Rattle.std.proofs.lemmas.List.Folds.{list_any-append}
 use Rattle.std.proofs.lemmas.Grind.{flat_map-append}
 use Rattle.std.proofs.lemmas.Slice.Eq.{bytes_eq-Decides}
@@ -10,8 +12,8 @@ use Rattle.httparse.specs.Spans.{span_bytes, IsWithin}
 use Rattle.mpm_base.specs.LetterCase.{is_same_ignoring_case}
 use Rattle.http_read.specs.declared.request_fields.Values.{Values}
 use Rattle.http_read.specs.declared.request_fields.Values.TheVariants as values
-use Rattle.http_read.specs.FieldValues.{values_named, words_of, words_of_all, has_word, ends_in_word}
-use Rattle.http_read.specs.ValuesInside.{AreValues}
+use Rattle.http_read.specs.FieldValues.{values_named, words_of, words_of_all, has_exactly, has_word, ends_in_word}
+use Rattle.http_read.specs.ValuesInside.{AreValues, AreValuesAt}
 use Rattle.http_read.specs.WordsInside.{last_word_is}
 use Rattle.http_read.proofs.WordLemmas.{last_word-append, last_word-last}
 
@@ -69,3 +71,23 @@ pub stays_as : (head name : List ℕ) (fields : List (List ℕ × List ℕ)) (f 
 stays_as head name fields f v n m long named other are =
     subst (λ vs. AreValues head vs v)
     (sym (values_other name fields f (other_length f.0 name (is_same_ignoring_case f.0 name) refl (λ e. other (sym long ∙ e ∙ named))))) are
+
+-- a field of the name adds its value to those that stand at the spans
+pub values_at_more : (head name : List ℕ) (fields : List (List ℕ × List ℕ)) (f : List ℕ × List ℕ) (spans : List Span) (span : Span)
+    → is_same_ignoring_case f.0 name ≡ true → f.1 ≡ span_bytes head span → IsWithin (length head) span
+    → AreValuesAt head (values_named name fields) spans → AreValuesAt head (values_named name (fields ++ f ∷ [])) (spans ++ span ∷ [])
+values_at_more head name fields f spans span same is within at = record {
+  are =
+      values_more name fields f same
+      ∙ ap (λ values. values ++ f.1 ∷ []) at.are
+      ∙ ap (λ value. map (span_bytes head) spans ++ value ∷ []) is
+      ∙ sym (map_push (span_bytes head) spans span);
+  within = All-push (IsWithin (length head)) spans span at.within within;
+}
+
+-- a value more has its words behind the others
+pub exactly_push : (word : List ℕ) (values : List (List ℕ)) (value : List ℕ)
+    → has_exactly word (words_of_all (values ++ value ∷ [])) ≡ (has_exactly word (words_of_all values) || has_exactly word (words_of value))
+exactly_push word values value =
+    ap (has_exactly word) (words_push values value)
+    ∙ list_any-append (λ other. bytes_eq other word) (words_of_all values) (words_of value)

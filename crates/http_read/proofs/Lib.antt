@@ -23,3 +23,4 @@ pub mod RequestLemmas
 pub mod DecisionLemmas
 pub mod SomeAnswerLemmas
 pub mod SomeItemsLemmas
+pub mod ConditionLemmas

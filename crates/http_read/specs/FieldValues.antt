@@ -1,6 +1,7 @@
 -- The values of the fields of a head (RFC 9110, sections 5.1 to 5.6), from the list of their names and values.
-use Rattle.std.specs.Prelude.{ℕ, ◌-◌, Bool, List, [], ◌∷◌, map, length, get_or, if◌then◌else◌, ◌==◌, nat_lt, flat_map}
+use Rattle.std.specs.Prelude.{ℕ, ◌-◌, Bool, List, [], ◌∷◌, map, length, get_or, if◌then◌else◌, ◌==◌, nat_lt, flat_map, Option, Some, None}
 use Rattle.std.specs.List.{slice_split, filter, list_any}
+use Rattle.std.specs.Str.{bytes_eq}
 use Rattle.mpm_base.specs.LetterCase.{is_same_ignoring_case}
 use Rattle.httparse.specs.Grammar.{trim_ows}
 
@@ -23,3 +24,17 @@ has_word word words = list_any (λ other. is_same_ignoring_case other word) word
 -- the last of the words is this one, case ignored
 abbrev pub ends_in_word : List ℕ → List (List ℕ) → Bool
 ends_in_word word words = is_same_ignoring_case (get_or words (length words - 1) []) word
+
+-- the value of the only field of a name; several have none
+abbrev pub only_value : List (List ℕ) → Option (List ℕ)
+only_value (value ∷ []) = Some value
+only_value _ = None
+
+-- the words of all fields of a name, where one stands
+abbrev pub words_where_any : List (List ℕ) → Option (List (List ℕ))
+words_where_any [] = None
+words_where_any (value ∷ values) = Some (words_of_all (value ∷ values))
+
+-- one of the words is exactly this one, byte for byte
+abbrev pub has_exactly : List ℕ → List (List ℕ) → Bool
+has_exactly word words = list_any (λ other. bytes_eq other word) words

@@ -1,6 +1,6 @@
 -- What a head of the grammar says of its request, or the code by which it is refused.
 -- Why it is so stands in docs/DECISIONS.md: 23, What a request expects.
-use Rattle.std.specs.Prelude.{ℕ, Bool, true, false, not, ◌&&◌, ◌||◌, List, [], ◌∷◌, length, Option, Some, None, Result, Ok, Err, if◌then◌else◌, ◌==◌, nat_lt, codes}
+use Rattle.std.specs.Prelude.{ℕ, Bool, true, false, not, ◌&&◌, ◌||◌, List, [], ◌∷◌, length, Result, Ok, Err, if◌then◌else◌, ◌==◌, nat_lt, codes}
 use Rattle.std.specs.List.{list_all}
 use Rattle.std.specs.Char.{is_ascii_digit}
 use Rattle.std.specs.Str.Parse.{digits_value}
@@ -8,8 +8,8 @@ use Rattle.mpm_base.specs.LetterCase.{is_same_ignoring_case}
 use Rattle.http_read.specs.declared.request.BodyKind.{BodyKind}
 use Rattle.http_read.specs.declared.request.BodyKind.TheVariants as kind
 use Rattle.http_read.specs.Authority.{is_host_value}
-use Rattle.http_read.specs.FieldValues.{values_named, words_of_all, has_word, ends_in_word}
-use Rattle.http_read.specs.RequestParts.{RequestParts}
+use Rattle.http_read.specs.FieldValues.{values_named, words_of_all, words_where_any, only_value, has_word, ends_in_word}
+use Rattle.http_read.specs.RequestParts.{Conditions, RequestParts}
 use Rattle.http_read.specs.Sizes.{greatest_body}
 
 -- what follows an answer, unless that is a refusal already
@@ -76,10 +76,16 @@ expects_of minor body values = if minor == 0 then Ok false else expectation body
 abbrev pub asks_close : ℕ → List (List ℕ) → Bool
 asks_close minor words = has_word (codes "close") words || ((minor == 0) && not (has_word (codes "keep-alive") words))
 
--- the value of Range (RFC 9110, section 14.2) where exactly one stands and no If-Range (section 13.1.5) does
-abbrev pub range_in : List (List ℕ) → List (List ℕ) → Option (List ℕ)
-range_in (value ∷ []) [] = Some value
-range_in _ _ = None
+-- the conditions that these fields say (RFC 9110, section 13.1); none is refused for its value
+abbrev pub conditions_in : List (List ℕ × List ℕ) → Conditions
+conditions_in fields = record {
+  if_match = words_where_any (values_named (codes "if-match") fields);
+  if_none_match = words_where_any (values_named (codes "if-none-match") fields);
+  if_unmodified_since = only_value (values_named (codes "if-unmodified-since") fields);
+  if_modified_since = only_value (values_named (codes "if-modified-since") fields);
+  if_range = only_value (values_named (codes "if-range") fields);
+  ranged_if = nat_lt 0 (length (values_named (codes "if-range") fields));
+}
 
 -- what a head with this method, target, version and these fields says, or the code by which it is refused: a field line that is too long, Host, the body and Expect, in this order
 abbrev pub said_by : Bool → List ℕ → List ℕ → ℕ → List (List ℕ × List ℕ) → Result RequestParts ℕ
@@ -95,6 +101,7 @@ said_by long method target minor fields =
       host = host;
       asked_close = asks_close minor (words_of_all (values_named (codes "connection") fields));
       expects = expects;
-      range = range_in (values_named (codes "range") fields) (values_named (codes "if-range") fields);
+      range = only_value (values_named (codes "range") fields);
+      conditions = conditions_in fields;
       body = body;
     }))))

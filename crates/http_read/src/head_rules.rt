@@ -2,8 +2,8 @@
 ghost use Rattle.std.specs.Prelude.{◌≡◌, length, map, All, codes};
 ghost use Rattle.httparse.specs.Spans.{IsHeaderWithin, header_bytes};
 ghost use Rattle.http_read.specs.FieldValues.{words_of_all};
-ghost use Rattle.http_read.specs.HeadRules.{host_in, length_of, coded_body, transfer_body, sized_body, body_of, has_content, expects_of, asks_close, range_in};
-ghost use Rattle.http_read.specs.ValuesInside.{AreFound, AreValues, IsHostAt, IsRangeAt, values_in};
+ghost use Rattle.http_read.specs.HeadRules.{host_in, length_of, coded_body, transfer_body, sized_body, body_of, has_content, expects_of, asks_close};
+ghost use Rattle.http_read.specs.ValuesInside.{AreFound, AreValues, IsHostAt, values_in};
 
 use crate::authority::is_host_value;
 use crate::codes::{BAD_REQUEST, CONTENT_TOO_LARGE, EXPECTATION_FAILED, NOT_IMPLEMENTED};
@@ -140,16 +140,4 @@ pub(crate) fn asks_close(head: &[u8], minor: u8, headers: &[HeaderSpan], found: 
     }
     fields_have_word(head, headers, b"connection", b"close")
         || (minor == 0 && !fields_have_word(head, headers, b"connection", b"keep-alive"))
-}
-
-/// Where the Range stands, where one does and no If-Range.
-pub(crate) fn range_in(_head: &[u8], _headers: &[HeaderSpan], found: &Found) -> Option<Span>
-    requires { AreFound _head.now (map (header_bytes _head.now) _headers.now) found.now }
-    ensures { IsRangeAt _head.now (range_in (values_in _head.now _headers.now (codes "range"))
-        (values_in _head.now _headers.now (codes "if-range"))) result }
-{
-    match (found.range, found.if_range) {
-        (Values::One(span), Values::Absent) => Some(span),
-        _ => None,
-    }
 }

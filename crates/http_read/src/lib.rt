@@ -23,6 +23,8 @@ mod body;
 mod chunk_line;
 mod chunked;
 mod codes;
+mod condition_spans;
+mod found_conditions;
 mod head;
 mod head_reader;
 mod head_rules;

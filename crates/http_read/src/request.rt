@@ -1,8 +1,12 @@
 //! A request's head, as it was read.
 //!
-//! Its texts are places in one copy of the head, so a request takes one allocation.
-ghost use Rattle.std.specs.Prelude.{◌≡◌, IfSome, IfNone};
+//! Its texts are places in one copy of the head, so a request takes one allocation, and one more where it has tags in its conditions.
+ghost use Rattle.std.specs.Prelude.{◌≡◌, ◌++◌, option_map};
+ghost use Rattle.http_read.specs.FieldValues.{has_exactly};
+ghost use Rattle.http_read.specs.Spans.{value_at};
+ghost use Rattle.http_read.specs.SpansInside.{MayBeWithin};
 
+use crate::condition_spans::{ConditionSpans, words_have};
 use httparse::spans::Span;
 use std::marker::Model;
 
@@ -36,6 +40,7 @@ pub struct Request {
     pub(crate) target: Span,
     pub(crate) host: Span,
     pub(crate) range: Option<Span>,
+    pub(crate) conditions: ConditionSpans,
     pub(crate) minor: u8,
     pub(crate) asked_close: bool,
     pub(crate) expects: bool,
@@ -48,7 +53,7 @@ impl Model for Request {
     ghost Value = { RequestParts };
 
     ghost use Rattle.httparse.specs.Spans.{span_bytes};
-    ghost use Rattle.http_read.specs.Spans.{range_at};
+    ghost use Rattle.http_read.specs.Spans.{conditions_at, value_at};
     ghost use Rattle.http_read.specs.SpansInside.{AreWithin};
 
     ghost view = { λ r. record {
@@ -58,11 +63,12 @@ impl Model for Request {
       host = span_bytes r.head.items r.host;
       asked_close = r.asked_close;
       expects = r.expects;
-      range = range_at r.head.items r.range;
+      range = value_at r.head.items r.range;
+      conditions = conditions_at r.head.items r.conditions;
       body = r.body;
     } };
 
-    ghost invariant = { λ r. AreWithin r.head.items r.method r.target r.host r.range };
+    ghost invariant = { λ r. AreWithin r.head.items r.method r.target r.host r.range r.conditions };
 }
 
 impl Request {
@@ -108,15 +114,57 @@ impl Request {
         self.expects
     }
 
-    /// The value of the field Range (RFC 9110, section 14.2), where one stands and no If-Range does.
+    /// The value of the field Range (RFC 9110, section 14.2), where exactly one stands.
     pub fn range(&self) -> Option<&[u8]>
-        ensures some { IfSome result (λ range. self.now.range ≡ Some range.now) }
-        ensures none { IfNone result (self.now.range ≡ None) }
+        ensures { option_map (λ range. range.now) result ≡ self.now.range }
     {
-        match self.range {
-            Some(span) => Some(&self.head[span.start..span.end]),
-            None => None,
-        }
+        value_of(&self.head, self.range)
+    }
+
+    /// Whether one of the words of all fields If-Match (RFC 9110, section 13.1.1) is exactly the one that is made of the two parts. None
+    /// where no such field stands.
+    pub fn if_match_has(&self, front: &[u8], back: &[u8]) -> Option<bool>
+        ensures { result
+            ≡ option_map (has_exactly (front.now ++ back.now)) self.now.conditions.if_match }
+    {
+        words_have(&self.head, &self.conditions.if_match, front, back)
+    }
+
+    /// The same of all fields If-None-Match (section 13.1.2).
+    pub fn if_none_match_has(&self, front: &[u8], back: &[u8]) -> Option<bool>
+        ensures { result
+            ≡ option_map (has_exactly (front.now ++ back.now)) self.now.conditions.if_none_match }
+    {
+        words_have(&self.head, &self.conditions.if_none_match, front, back)
+    }
+
+    /// The value of the field If-Unmodified-Since (section 13.1.4), where exactly one stands.
+    pub fn if_unmodified_since(&self) -> Option<&[u8]>
+        ensures { option_map (λ value. value.now) result
+            ≡ self.now.conditions.if_unmodified_since }
+    {
+        value_of(&self.head, self.conditions.if_unmodified_since)
+    }
+
+    /// The value of the field If-Modified-Since (section 13.1.3), where exactly one stands.
+    pub fn if_modified_since(&self) -> Option<&[u8]>
+        ensures { option_map (λ value. value.now) result ≡ self.now.conditions.if_modified_since }
+    {
+        value_of(&self.head, self.conditions.if_modified_since)
+    }
+
+    /// The value of the field If-Range (section 13.1.5), where exactly one stands.
+    pub fn if_range(&self) -> Option<&[u8]>
+        ensures { option_map (λ value. value.now) result ≡ self.now.conditions.if_range }
+    {
+        value_of(&self.head, self.conditions.if_range)
+    }
+
+    /// Whether an If-Range stands.
+    pub fn ranged_if(&self) -> bool
+        ensures { result ≡ self.now.conditions.ranged_if }
+    {
+        self.conditions.ranged_if
     }
 
     /// What follows the head.
@@ -124,5 +172,16 @@ impl Request {
         ensures { result ≡ self.now.body }
     {
         self.body
+    }
+}
+
+/// The text at the span, where that is there.
+fn value_of(head: &[u8], span: Option<Span>) -> Option<&[u8]>
+    requires { MayBeWithin head.now span }
+    ensures { option_map (λ value. value.now) result ≡ value_at head.now span }
+{
+    match span {
+        Some(span) => Some(&head[span.start..span.end]),
+        None => None,
     }
 }

@@ -29,7 +29,6 @@ pub(crate) struct Found {
     pub expect: Values,
     pub connection: Values,
     pub range: Values,
-    pub if_range: Values,
 }
 
 /// The values of no field.
@@ -43,7 +42,6 @@ fn none_found() -> Found
         expect: Values::Absent,
         connection: Values::Absent,
         range: Values::Absent,
-        if_range: Values::Absent,
     }
 }
 
@@ -71,7 +69,6 @@ fn add_field(found: Found, head: &[u8], header: &HeaderSpan) -> Found
         4 => found.host = add_value(found.host, head, header, b"host"),
         5 => found.range = add_value(found.range, head, header, b"range"),
         6 => found.expect = add_value(found.expect, head, header, b"expect"),
-        8 => found.if_range = add_value(found.if_range, head, header, b"if-range"),
         10 => found.connection = add_value(found.connection, head, header, b"connection"),
         14 => found.lengths = add_value(found.lengths, head, header, b"content-length"),
         17 => found.codings = add_value(found.codings, head, header, b"transfer-encoding"),
@@ -81,7 +78,7 @@ fn add_field(found: Found, head: &[u8], header: &HeaderSpan) -> Found
 }
 
 /// The values after one field more.
-fn add_value(found: Values, head: &[u8], header: &HeaderSpan, name: &[u8]) -> Values
+pub(crate) fn add_value(found: Values, head: &[u8], header: &HeaderSpan, name: &[u8]) -> Values
     requires { IsHeaderWithin (length head.now) header.now }
     ensures { (fields : List (List ℕ × List ℕ))
         → AreValues head.now (values_named name.now fields) found

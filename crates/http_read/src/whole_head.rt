@@ -4,9 +4,10 @@ ghost use Rattle.httparse.specs.Spans.{IsHeaderWithin, IsWithin, header_bytes};
 ghost use Rattle.http_read.specs.TextsInside.{IsWithinText, ReadsText, TextIs, IsSaid};
 
 use crate::codes::{BAD_REQUEST, HTTP_VERSION_NOT_SUPPORTED};
+use crate::found_conditions::{conditions_in, only_value};
 use crate::head::HeadAnswer;
 use crate::head_reader::Noted;
-use crate::head_rules::{asks_close, body_of, expects_of, host_in, range_in};
+use crate::head_rules::{asks_close, body_of, expects_of, host_in};
 use crate::request::{Limits, Request};
 use crate::request_fields::find_fields;
 use crate::version::Version;
@@ -155,6 +156,9 @@ fn judge(
         Ok(expects) => expects,
         Err(code) => return HeadAnswer::Refused(code),
     };
+    let Ok(conditions) = conditions_in(alloc, head, headers) else {
+        return HeadAnswer::NoMemory;
+    };
     match Vec::from_slice(alloc, head) {
         Ok(copy) => HeadAnswer::Whole(
             Request {
@@ -162,7 +166,8 @@ fn judge(
                 method: parts.method,
                 target: parts.path,
                 host,
-                range: range_in(head, headers, &found),
+                range: only_value(found.range),
+                conditions,
                 minor: parts.version,
                 asked_close: asks_close(head, parts.version, headers, &found),
                 expects,

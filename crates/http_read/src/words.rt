@@ -1,11 +1,11 @@
 //! The words of the values of fields (RFC 9110, section 5.6).
-ghost use Rattle.std.specs.Prelude.{◌≡◌, reverse};
+ghost use Rattle.std.specs.Prelude.{◌≡◌, ◌++◌, reverse};
 ghost use Rattle.httparse.specs.Grammar.{skip_ows, trim_ows};
-ghost use Rattle.http_read.specs.FieldValues.{words_of, has_word, ends_in_word};
+ghost use Rattle.http_read.specs.FieldValues.{words_of, has_exactly, has_word, ends_in_word};
 ghost use Rattle.http_read.specs.WordsInside.{IsSplitAt, last_word_is};
 
 use httparse::is_space_or_tab;
-use mpm_base::is_same_ignoring_case;
+use mpm_base::{is_made_of, is_same_ignoring_case};
 
 fn trim_start(bytes: &[u8]) -> &[u8]
     ensures { result.now ≡ skip_ows bytes.now }
@@ -79,4 +79,20 @@ pub(crate) fn value_ends_in_word(value: &[u8], word: &[u8], before: bool) -> boo
         left = behind;
     }
     is_last
+}
+
+/// Whether one of the words of the value is exactly the one that is made of the two parts.
+pub(crate) fn value_has_exactly(value: &[u8], front: &[u8], back: &[u8]) -> bool
+    ensures { result ≡ has_exactly (front.now ++ back.now) (words_of value.now) }
+{
+    let mut left = Some(value);
+    while let Some(bytes) = left {
+        let (part, behind) = split_at_comma(bytes);
+        let found = trimmed(part);
+        if !found.is_empty() && is_made_of(found, front, back) {
+            return true;
+        }
+        left = behind;
+    }
+    false
 }

@@ -122,12 +122,45 @@ fn show_request(sheet: &mut Sheet, request: &Request) {
     sheet.text(request.host());
     sheet.print(", range ");
     sheet.text(request.range().unwrap_or(b"-"));
-    println!(sheet;
+    print!(sheet;
         ", close {}, expects {}, {:?}",
         request.asked_close(),
         request.expects(),
         request.body()
     );
+    show_conditions(sheet, request);
+    sheet.println("");
+}
+
+/// Shows the value of a condition, where it stands.
+fn show_value(sheet: &mut Sheet, name: &str, value: Option<&[u8]>) {
+    if let Some(value) = value {
+        print!(sheet; ", {name} ");
+        sheet.text(value);
+    }
+}
+
+/// Shows whether the tag `"t"` is among those of the request, where any stand.
+fn show_tags(sheet: &mut Sheet, name: &str, has: Option<bool>) {
+    if let Some(has) = has {
+        print!(sheet; ", {name} {has}");
+    }
+}
+
+/// Shows the conditions of the request, where any stand.
+fn show_conditions(sheet: &mut Sheet, request: &Request) {
+    show_tags(sheet, "match", request.if_match_has(b"\"", b"t\""));
+    show_tags(
+        sheet,
+        "none-match",
+        request.if_none_match_has(b"", b"\"t\""),
+    );
+    show_value(sheet, "unmodified", request.if_unmodified_since());
+    show_value(sheet, "modified", request.if_modified_since());
+    show_value(sheet, "if-range", request.if_range());
+    if request.ranged_if() {
+        sheet.print(", ranged if");
+    }
 }
 
 /// Shows which bytes a host may have in its midst, and the codes of the others.

@@ -7,8 +7,9 @@
 //!
 //! - `body KIND`: bodies. `gibibyte`: a kind and how the body begins. `body looks`: chunked bodies.
 //! - `heads LINE FIELD FIELDS`: heads, by these limits. `requests`: heads, and what they ask. `hosts`: no rows, for each byte in a host.
-//! - `answers SECOND LAST`: heads that are answered at the second; behind `hidden` the site hides its status page, and behind
-//!   `hosts` it has two hosts. `refusals`: codes. `continue`: no rows.
+//! - `answers SECOND LAST SITE`: heads that are answered at the second. The site hides its status page (`hidden`), has two hosts
+//!   (`hosts`), has files with tags, times or both (`tags`, `times`, `marks`), or types by the short table, the long one, with pairs or
+//!   with a character set (`short`, `long`, `added`, `charset`). `refusals`: codes. `continue`: no rows.
 //! - `conn`: the first row has the bytes that a client sends; each other one has the turns of a connection, what happens to its link
 //!   between them, and how it ends. `cuts`: what clients send; each is cut behind each of its bytes.
 //! - `long`: what a client sends first, how often it sends a further text, that text, and what it sends last. `calls`: the first row
@@ -26,6 +27,7 @@ mod large;
 mod leaving;
 mod logs;
 mod long_link;
+mod marked;
 mod pages;
 mod responses;
 mod test_conn;

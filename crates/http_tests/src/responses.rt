@@ -6,15 +6,17 @@ ghost use Rattle.http_core.specs.Ask.{IsServedOf};
 ghost use Rattle.http_core.specs.Code.{refuses_head};
 
 use crate::heads::LIMITS;
+use crate::marked::{marked_site, typed_site};
 use crate::pages::page_where;
 use failing_stand_ins::MemStore;
-use file_table::{HostOrder, HostOrders, LoadFault, Site, SiteOrder, bytes, load};
+use file_table::{HostOrder, HostOrders, LoadFault, Marks, Site, SiteOrder, bytes, load};
 use http_core::{Body, Plan, ask_of, continue_text, refusal, response};
 use http_read::{HeadAnswer, Request, next_head};
+use media_types::MediaTypes;
 use mpm_base::{Ask, Names, NoMemory, Note, Octets, Page};
 use stand_ins::{Calls, Files};
 use std::alloc::Global;
-use test_rows::{Marks, Sheet, number_of, text_of, words};
+use test_rows::{Marks as TextMarks, Sheet, number_of, text_of, words};
 
 /// A site of an index, ten digits, an empty file and a folder, with the status page or without.
 pub fn digits_site(alloc: Global, status: bool) -> Result<Site, LoadFault> {
@@ -56,6 +58,11 @@ fn two_hosts(alloc: Global) -> Result<SiteOrder, NoMemory>
     Ok(SiteOrder {
         hosts,
         status: true,
+        marks: Marks {
+            tags: false,
+            times: false,
+        },
+        types: MediaTypes::usual(alloc),
     })
 }
 
@@ -83,6 +90,16 @@ fn site_with(alloc: Global, files: Files, status: bool) -> Result<Site, LoadFaul
     let order = SiteOrder::one_host(alloc, "htdocs", "index.html", status)?;
     let mut store = MemStore::make(alloc, files, Calls::make(alloc));
     load(alloc, &mut store, &order)
+}
+
+/// The site that the word names.
+fn site_named(alloc: Global, word: &str) -> Result<Site, LoadFault> {
+    match word {
+        "hosts" => hosts_site(alloc),
+        "tags" | "times" | "marks" => marked_site(alloc, word),
+        "short" | "long" | "added" | "charset" => typed_site(alloc, word),
+        _ => digits_site(alloc, word != "hidden"),
+    }
 }
 
 /// What a request asks for, and a plan that is one of the site.
@@ -159,8 +176,7 @@ struct Dated {
     last: bool,
 }
 
-/// Shows the response to each head. The words of the section say the second of its date, whether it is the last, and whether the site
-/// hides its status page or has two hosts.
+/// Shows the response to each head. The words of the section say the second of its date, whether it is the last, and what site it is.
 pub fn show_answers(
     sheet: &mut Sheet,
     alloc: Global,
@@ -168,17 +184,12 @@ pub fn show_answers(
     rows: &str,
 ) -> Result<(), NoMemory> {
     let (second, rest) = words(kind);
-    let (last, hidden) = words(rest);
+    let (last, kind) = words(rest);
     let dated = Dated {
         second: number_of(second),
         last: last == "last",
     };
-    let answer = if hidden == "hosts" {
-        hosts_site(alloc)
-    } else {
-        digits_site(alloc, hidden != "hidden")
-    };
-    match answer {
+    match site_named(alloc, kind) {
         Ok(site) => show_answers_of(sheet, alloc, &site, dated, rows),
         Err(_) => Err(NoMemory),
     }
@@ -193,7 +204,7 @@ fn show_answers_of(
     rows: &str,
 ) -> Result<(), NoMemory> {
     for row in rows.lines() {
-        let head = text_of(alloc, row, Marks::Heads)?;
+        let head = text_of(alloc, row, TextMarks::Heads)?;
         print!(sheet; "{row} => ");
         show_answer(sheet, alloc, site, dated, head.as_slice())?;
     }

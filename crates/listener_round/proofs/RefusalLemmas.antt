@@ -2,13 +2,14 @@
 use Rattle.std.proofs.Common.{◌≡◌, ◌≢◌, ◌⊎◌, inl, inr, ◌<◌, ◌==◌, ℕ, ◌+◌, ◌-◌, suc, Bool, true, false, if◌then◌else◌, nat_lt, nat_le, List, [], ◌∷◌, ◌++◌, length, slice_get, take, Option, None, Some, option_map, IfSome, Result, Ok, Err, IfOk, OnOk, refl, sym, ap, subst, ◌∙◌, arith}
 use Rattle.mpm_base.specs.Store.{Renews, StoreCounts, StoreSeen, StoreTold, after_renew, bytes_of}
 use Rattle.mpm_base.specs.declared.store.File.{File}
-use Rattle.mpm_config.specs.Config.{Configuration}
+use Rattle.media_types.specs.declared.types.TypePair.{TypePair}
+use Rattle.mpm_config.specs.Config.{Configuration, most_pairs}
 use Rattle.mpm_config.specs.Form.{form_of}
-use Rattle.mpm_config.specs.Line.{Line, logical_lines}
+use Rattle.conf_text.specs.Line.{Line, logical_lines}
 use Rattle.mpm_config.specs.HostName.{aliases_of, most_aliases}
-use Rattle.mpm_config.specs.Reading.{ConfigAndWarnings, Progress, adds_names, after_closing, after_line, and_then, assigns, at_end, close_innermost, close_section, close_shown, config_of, configuration_of, greatest_depth, hides, in_hiding, in_sight, is_same_kind, may_open_host, open_host, open_section, sets, sets_host, settings_of, start, text_len, text_settings}
-use Rattle.mpm_config.specs.Setting.{AddsNames, Assignment, Sets, assignment}
-use Rattle.mpm_config.specs.Settings.{HostSettings, empty_host, with_host_setting}
+use Rattle.mpm_config.specs.Reading.{ConfigAndWarnings, Progress, adds_names, adds_pairs, after_closing, after_line, and_then, assigns, at_end, close_innermost, close_section, close_shown, config_of, configuration_of, greatest_depth, hides, in_hiding, in_sight, is_same_kind, may_open_host, open_host, open_section, sets, sets_host, settings_of, start, text_len, text_settings}
+use Rattle.mpm_config.specs.Setting.{AddsNames, AddsPairs, Assignment, Sets, assignment}
+use Rattle.mpm_config.specs.Settings.{HostSettings, empty_host, with_host_setting, with_pairs}
 use Rattle.mpm_config.specs.declared.fault.ConfFault.{ConfFault}
 use Rattle.mpm_config.specs.declared.fault.ConfFault.TheVariants as conf
 use Rattle.mpm_config.specs.declared.form.Form.{Form}
@@ -19,6 +20,7 @@ use Rattle.mpm_config.specs.declared.reader.Section.{Section}
 use Rattle.mpm_config.specs.declared.setting.Setting.{Setting}
 use Rattle.mpm_config.specs.declared.setting.Wrong.{Wrong}
 use Rattle.mpm_config.specs.declared.setting.Wrong.TheVariants as wrong
+use Rattle.type_words.specs.TypeWords.{pairs_of_words}
 use Rattle.file_table.specs.Load.{MayLoad, is_limit}
 use Rattle.file_table.specs.declared.load_fault.LoadFault.{LoadFault}
 use Rattle.file_table.specs.declared.load_fault.LoadFault.TheVariants as load
@@ -103,9 +105,17 @@ names-added n p names (Some h) = by (nat_le (length (h.aliases ++ names)) most_a
   by true = tt
   by false = tt
 
+pairs-added : (n : ℕ) (p : Progress) (pairs : List TypePair) (host : Option HostSettings) → IsOfText (adds_pairs n p pairs host)
+pairs-added n p pairs None = by (nat_le (length (p.settings.types.added ++ pairs)) most_pairs) where
+  by : (fits : Bool) → IsOfText (if fits then Ok (record p { settings = with_pairs p.settings pairs }) else Err (conf.BadValue n))
+  by true = tt
+  by false = tt
+pairs-added n p pairs (Some h) = tt
+
 assigned : (n : ℕ) (p : Progress) (a : Result Assignment Wrong) → IsOfText (assigns n p a)
 assigned n p (Ok (Sets s v)) = value-set n p s v p.host
 assigned n p (Ok (AddsNames ws)) = names-added n p (aliases_of ws) p.host
+assigned n p (Ok (AddsPairs ws)) = pairs-added n p (pairs_of_words ws) p.host
 assigned n p (Err wrong.Name) = tt
 assigned n p (Err wrong.Value) = tt
 

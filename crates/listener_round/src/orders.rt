@@ -209,7 +209,13 @@ impl<'a, 'c, L: Link + Send, N: Known, B: Bell, G: Gate> Listener<'a, 'c, L, N, 
             store.renew();
             return self.refuse(Refusal::Late, late_answer());
         }
-        match reload(self.alloc, store, self.config.name, self.config.config) {
+        match reload(
+            self.alloc,
+            store,
+            self.config.name,
+            self.config.config,
+            &self.edition.site,
+        ) {
             Ok(plan) => self.begin(plan),
             Err(fault) => {
                 let answer = refused_answer(&fault);

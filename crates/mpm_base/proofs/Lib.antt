@@ -1,3 +1,4 @@
 pub mod BeforeShutLemmas
 pub mod DigitLemmas
 pub mod OutcomeLemmas
+pub mod PartLemmas

@@ -1,29 +1,30 @@
 -- Two calls on one store that tells its files have one outcome.
 use Rattle.std.proofs.Common.{◌≡◌, ℕ, List, length, Some, Ok, Err, Result, Option, refl, ap, arith}
 use Rattle.mpm_base.specs.Store.{MayRead, MayList, IsOutcome}
+use Rattle.mpm_base.specs.declared.store.Content.{Content}
 use Rattle.mpm_base.specs.declared.store.StoreFault.{StoreFault}
 use Rattle.mpm_base.specs.declared.store.StoreFault.TheVariants as fault
 
-pub one_read : (file : Option (List ℕ)) (most : ℕ) (one other : Result (List ℕ) StoreFault)
+pub one_read : (file : Option Content) (most : ℕ) (one other : Result Content StoreFault)
     → MayRead (Some file) most one → MayRead (Some file) most other → IsOutcome one → IsOutcome other → one ≡ other
 one_read file most (Ok xs) (Ok ys) p q i j =
-    let bytes : xs ≡ ys = cc in
-    ap Ok bytes
+    let content : xs ≡ ys = cc in
+    ap Ok content
 one_read file most (Ok xs) (Err fault.Missing) p q i j = absurd (cc)
 one_read file most (Ok xs) (Err (fault.Large m)) p q i j =
-    let bytes : xs ≡ q.1.0 = cc in
-    let size : length xs ≡ m = cc in
+    let content : xs ≡ q.1.0 = cc in
+    let size : length xs.bytes ≡ m = cc in
     absurd (omega (arith, p.0, q.0, size))
 one_read file most (Err fault.Missing) (Ok ys) p q i j = absurd (cc)
 one_read file most (Err fault.Missing) (Err fault.Missing) p q i j = refl
 one_read file most (Err fault.Missing) (Err (fault.Large m)) p q i j = absurd (cc)
 one_read file most (Err (fault.Large n)) (Ok ys) p q i j =
-    let bytes : ys ≡ p.1.0 = cc in
-    let size : length ys ≡ n = cc in
+    let content : ys ≡ p.1.0 = cc in
+    let size : length ys.bytes ≡ n = cc in
     absurd (omega (arith, q.0, p.0, size))
 one_read file most (Err (fault.Large n)) (Err fault.Missing) p q i j = absurd (cc)
 one_read file most (Err (fault.Large n)) (Err (fault.Large m)) p q i j =
-    let bytes : p.1.0 ≡ q.1.0 = cc in
+    let content : p.1.0 ≡ q.1.0 = cc in
     let size : n ≡ m = cc in
     ap (λ s. Err (fault.Large s)) size
 one_read file most (Ok xs) (Err fault.Many) p q i j = elim q [ ]

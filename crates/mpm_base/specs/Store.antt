@@ -4,6 +4,7 @@ use Rattle.std.specs.Prelude.{◌≡◌, ℕ, ◌<◌, ◌≤◌, Bool, true, fa
 use Rattle.std.specs.List.{starts_with}
 use Rattle.std.specs.Str.{bytes_eq}
 use Rattle.mpm_base.specs.Count.{NeverFalls, RisesWhere}
+use Rattle.mpm_base.specs.declared.store.Content.{Content}
 use Rattle.mpm_base.specs.declared.store.File.{File}
 use Rattle.mpm_base.specs.declared.store.StoreFault.{StoreFault}
 use Rattle.mpm_base.specs.declared.store.StoreFault.TheVariants as fault
@@ -41,10 +42,15 @@ later_editions (edition ∷ editions) = editions
 abbrev pub after_renew : StoreTold → StoreTold
 after_renew t = record { files = next_files t.files t.later; later = later_editions t.later }
 
+-- what the first file of that name has
+abbrev pub content_of : List ℕ → List File → Option Content
+content_of name [] = None
+content_of name (f ∷ files) =
+    if bytes_eq f.name name then Some (record { bytes = f.bytes; second = f.second }) else content_of name files
+
 -- the bytes of the first file of that name
 abbrev pub bytes_of : List ℕ → List File → Option (List ℕ)
-bytes_of name [] = None
-bytes_of name (f ∷ files) = if bytes_eq f.name name then Some f.bytes else bytes_of name files
+bytes_of name files = option_map (λ (c : Content). c.bytes) (content_of name files)
 
 -- the name is that of something below the folder
 abbrev pub lies_under : List ℕ → List ℕ → Bool
@@ -81,20 +87,36 @@ pub record CountsAsk {T : Type 0} (counts counts' : StoreCounts) (answer : Resul
   pub refusals : RisesWhere (answers_with is_refusal answer) counts.refusals counts'.refusals
 
 -- what a read may answer, where the file is known and whether it is
-abbrev pub MayRead : Option (Option (List ℕ)) → ℕ → Result (List ℕ) StoreFault → Type 0
-MayRead known most (Ok bytes) = (length bytes ≤ most) × IfSome known (λ file. file ≡ Some bytes)
+abbrev pub MayRead : Option (Option Content) → ℕ → Result Content StoreFault → Type 0
+MayRead known most (Ok content) = (length content.bytes ≤ most) × IfSome known (λ file. file ≡ Some content)
 MayRead known most (Err fault.Missing) = IfSome known (λ file. file ≡ None)
 MayRead known most (Err (fault.Large size)) =
-    (most < size) × IfSome known (λ file. (bytes : List ℕ) × (file ≡ Some bytes) × (length bytes ≡ size))
+    (most < size) × IfSome known (λ file. (content : Content) × (file ≡ Some content) × (length content.bytes ≡ size))
 MayRead known most (Err fault.Many) = ⊥
 MayRead known most (Err fault.Failed) = ⊤
 MayRead known most (Err fault.NoMemory) = ⊤
 
 -- what a read of at most so many bytes of the file of that name answered, and left of the store
-pub record ReadsFile (old new : StoreSeen) (name : List ℕ) (most : ℕ) (answer : Result (List ℕ) StoreFault) : Type 0 where
+pub record ReadsFile (old new : StoreSeen) (name : List ℕ) (most : ℕ) (answer : Result Content StoreFault) : Type 0 where
   pub told_stays : new.told ≡ old.told
   pub counted : CountsAsk old.counts new.counts answer
-  pub may : MayRead (option_map (λ t. bytes_of name t.files) old.told) most answer
+  pub may : MayRead (option_map (λ t. content_of name t.files) old.told) most answer
+
+-- what a read of the bytes alone may answer, where the file is known and whether it is
+abbrev pub MayReadBytes : Option (Option (List ℕ)) → ℕ → Result (List ℕ) StoreFault → Type 0
+MayReadBytes known most (Ok bytes) = (length bytes ≤ most) × IfSome known (λ file. file ≡ Some bytes)
+MayReadBytes known most (Err fault.Missing) = IfSome known (λ file. file ≡ None)
+MayReadBytes known most (Err (fault.Large size)) =
+    (most < size) × IfSome known (λ file. (bytes : List ℕ) × (file ≡ Some bytes) × (length bytes ≡ size))
+MayReadBytes known most (Err fault.Many) = ⊥
+MayReadBytes known most (Err fault.Failed) = ⊤
+MayReadBytes known most (Err fault.NoMemory) = ⊤
+
+-- what a read of at most so many bytes of the file of that name answered, of the bytes alone, and left of the store
+pub record ReadsBytes (old new : StoreSeen) (name : List ℕ) (most : ℕ) (answer : Result (List ℕ) StoreFault) : Type 0 where
+  pub told_stays : new.told ≡ old.told
+  pub counted : CountsAsk old.counts new.counts answer
+  pub may : MayReadBytes (option_map (λ t. bytes_of name t.files) old.told) most answer
 
 -- what a listing may answer, where the names are known and whether they are
 abbrev pub MayList : Option (List (List ℕ)) → ℕ → Result (List (List ℕ)) StoreFault → Type 0

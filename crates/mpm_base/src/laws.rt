@@ -4,13 +4,14 @@ ghost use Rattle.std.specs.Prelude.{◌≡◌, ℕ, ◌<◌, Bool, List, Result}
 ghost use Rattle.mpm_base.specs.Link.{LinkTold, fresh_link, after_read, after_shut};
 ghost use Rattle.mpm_base.specs.Store.{StoreTold, StoreCounts, StoreSeen, ReadsFile, ListsNames, IsOutcome, telling_store};
 ghost use Rattle.mpm_base.specs.declared.link.Got.{Got};
+ghost use Rattle.mpm_base.specs.declared.store.Content.{Content};
 ghost use Rattle.mpm_base.specs.declared.store.StoreFault.{StoreFault};
 
 /// Of one store that tells its files, two reads of a file have one outcome, and so have two listings of a folder: where
 /// neither call failed, nor memory lacked, they answer the same.
 pub fn told_stores_have_one_outcome()
     ensures read { (told : StoreTold) (c d : StoreCounts) (new new' : StoreSeen) (name : List ℕ)
-        (most : ℕ) (one other : Result (List ℕ) StoreFault)
+        (most : ℕ) (one other : Result Content StoreFault)
         → ReadsFile (telling_store told c) new name most one
         → ReadsFile (telling_store told d) new' name most other
         → IsOutcome one → IsOutcome other → one ≡ other }

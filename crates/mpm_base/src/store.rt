@@ -1,15 +1,27 @@
 //! A folder of files by name.
+//! Why it is so stands in docs/DECISIONS.md: 123, When a file was changed.
 
 use crate::octets::Octets;
+use crate::second::Second;
 use crate::sequence::Sequence;
 use std::alloc::Global;
 use thiserror::Error;
 
-/// A file: its name, which is UTF-8, and its bytes.
+/// A file: its name, which is UTF-8, its bytes, and when it was changed.
 #[derive(Debug, Drop)]
 pub struct File {
     pub name: Octets,
     pub bytes: Octets,
+    /// The second in which it was changed.
+    pub second: Second,
+}
+
+/// What a file has: its bytes, and when it was changed.
+#[derive(Debug, Drop)]
+pub struct Content {
+    pub bytes: Octets,
+    /// The second in which it was changed.
+    pub second: Second,
 }
 
 /// A list of names of files, as contracts see it.
@@ -37,7 +49,7 @@ pub enum StoreFault {
 
 /// A folder of files by name. Where it tells its files, they change at a call of `renew` alone.
 pub trait Store {
-    ghost use Rattle.mpm_base.specs.Store.{StoreSeen, Renews, ListsNames, ReadsFile};
+    ghost use Rattle.mpm_base.specs.Store.{StoreSeen, Renews, ListsNames, ReadsBytes, ReadsFile};
 
     /// The files, where the object tells them; and its counts of faults, and of refusals for what the files are, none of which
     /// ever falls.
@@ -51,7 +63,27 @@ pub trait Store {
     fn names(&mut self, alloc: Global, under: &str, most: u32) -> Result<Names, StoreFault>
         ensures { ListsNames (seen self.old) (seen self.new) under.now most result };
 
-    /// The bytes of a file, at most so many. Answers Missing, Large, Failed or NoMemory where it gives none.
-    fn read(&mut self, alloc: Global, name: &str, most: u64) -> Result<Octets, StoreFault>
+    /// What a file has, of at most so many bytes. Answers Missing, Large, Failed or NoMemory where it gives none.
+    fn read(&mut self, alloc: Global, name: &str, most: u64) -> Result<Content, StoreFault>
         ensures { ReadsFile (seen self.old) (seen self.new) name.now most result };
+
+    /// The bytes of a file alone, at most so many. Answers as `read` does where it gives none.
+    final fn read_bytes(
+        &mut self,
+        alloc: Global,
+        name: &str,
+        most: u64,
+    ) -> Result<Octets, StoreFault>
+    where
+        Self: Sized,
+        ensures { ReadsBytes (seen self.old) (seen self.new) name.now most result }
+    {
+        match self.read(alloc, name, most) {
+            Ok(content) => {
+                let Content { bytes, second: _ } = content;
+                Ok(bytes)
+            }
+            Err(fault) => Err(fault),
+        }
+    }
 }

@@ -16,10 +16,12 @@ use Rattle.mpm_config.specs.declared.setting.Setting.TheVariants as sets
 use Rattle.mpm_config.specs.declared.setting.Wrong.{Wrong}
 use Rattle.mpm_config.specs.declared.setting.Wrong.TheVariants as wrong
 use Rattle.mpm_config.specs.Form.{form_of}
-use Rattle.mpm_config.specs.Line.{Line, Rise, continues, front, join_next, logical}
+use Rattle.conf_text.specs.Line.{Line, Rise, continues, front, join_next, logical}
 use Rattle.mpm_config.specs.Numbers.{with_number}
-use Rattle.mpm_config.specs.Reading.{Progress, adds_names, after_closing, after_line, after_lines, and_then, assigns, close_innermost, close_section, hides, in_hiding, in_sight, is_same_kind, may_open_host, open_host, open_section, open_by_guard, sets, sets_host, settings_of, IsAtLine, ReplacesInHost, SetsNothing}
-use Rattle.mpm_config.specs.Setting.{Assignment, Sets, AddsNames, assignment}
+use Rattle.mpm_config.specs.Reading.{Progress, adds_names, after_closing, after_line, after_lines, and_then, adds_pairs, assigns, close_innermost, close_section, hides, in_hiding, in_sight, is_same_kind, may_open_host, open_host, open_section, open_by_guard, sets, sets_host, settings_of, IsAtLine, ReplacesInHost, SetsNothing}
+use Rattle.mpm_config.specs.Setting.{Assignment, Sets, AddsNames, AddsPairs, assignment}
+use Rattle.media_types.specs.declared.types.TypePair.{TypePair}
+use Rattle.type_words.specs.TypeWords.{pairs_of_words}
 use Rattle.mpm_config.specs.Settings.{HostSettings, Settings, empty_host, with_host_setting, with_setting, IsSameDirective}
 
 set_twice : (n : Numbers) (q : Quantity) (a b : ℕ) → with_number (with_number n q a) q b ≡ with_number n q b
@@ -49,6 +51,10 @@ replaced s v w (sets.Listen a) (sets.Listen b) h = refl
 replaced s v w (sets.ControlListen p) (sets.ControlListen q) h = refl
 replaced s v w sets.DocumentRoot sets.DocumentRoot h = refl
 replaced s v w sets.DirectoryIndex sets.DirectoryIndex h = refl
+replaced s v w (sets.FileETag b) (sets.FileETag c) h = refl
+replaced s v w (sets.LastModified b) (sets.LastModified c) h = refl
+replaced s v w (sets.MimeTable b) (sets.MimeTable c) h = refl
+replaced s v w (sets.AddDefaultCharset b) (sets.AddDefaultCharset c) h = refl
 replaced s v w (sets.ServerStatus b) (sets.ServerStatus c) h = refl
 replaced s v w sets.ServerName sets.ServerName h = refl
 replaced s v w sets.TransferLog sets.TransferLog h = refl
@@ -62,13 +68,17 @@ replaced_in_host h v w (sets.Listen a) (sets.Listen b) same = tt
 replaced_in_host h v w (sets.ControlListen p) (sets.ControlListen q) same = tt
 replaced_in_host h v w sets.DocumentRoot sets.DocumentRoot same = refl
 replaced_in_host h v w sets.DirectoryIndex sets.DirectoryIndex same = refl
+replaced_in_host h v w (sets.FileETag b) (sets.FileETag c) same = tt
+replaced_in_host h v w (sets.LastModified b) (sets.LastModified c) same = tt
+replaced_in_host h v w (sets.MimeTable b) (sets.MimeTable c) same = tt
+replaced_in_host h v w (sets.AddDefaultCharset b) (sets.AddDefaultCharset c) same = tt
 replaced_in_host h v w (sets.ServerStatus b) (sets.ServerStatus c) same = tt
 replaced_in_host h v w sets.ServerName sets.ServerName same = refl
 replaced_in_host h v w sets.TransferLog sets.TransferLog same = tt
 replaced_in_host h v w a b same = absurd same
 
 -- what holds of both outcomes of a test holds of its outcome
-choice : (P : Result Progress ConfFault → Type 0) (t : Bool) (r s : Result Progress ConfFault) → P r → P s → P (if t then r else s)
+pub choice : (P : Result Progress ConfFault → Type 0) (t : Bool) (r s : Result Progress ConfFault) → P r → P s → P (if t then r else s)
 choice P true r s a b = a
 choice P false r s a b = b
 
@@ -76,17 +86,17 @@ choice P false r s a b = b
 nothing : (p : Progress) (sections : List Section) → SetsNothing p (record p { sections = sections })
 nothing p sections = record { settings = refl; host = refl }
 
-opened_sets : (n : ℕ) (kind : Kind) (shown : Bool) (p : Progress) → IfOk (open_section n kind shown p) (SetsNothing p)
+pub opened_sets : (n : ℕ) (kind : Kind) (shown : Bool) (p : Progress) → IfOk (open_section n kind shown p) (SetsNothing p)
 opened_sets n kind shown p = choice (λ r. IfOk r (SetsNothing p)) (nat_lt (length p.sections) 8) _ _ (nothing p _) tt
 
 innermost_sets : (n : ℕ) (kind : Kind) (p : Progress) (s : Option Section) → IfOk (close_innermost n kind p s) (SetsNothing p)
 innermost_sets n kind p None = tt
 innermost_sets n kind p (Some s) = choice (λ r. IfOk r (SetsNothing p)) (is_same_kind s.kind kind) _ _ (nothing p _) tt
 
-closed_sets : (n : ℕ) (kind : Kind) (p : Progress) → IfOk (close_section n kind p) (SetsNothing p)
+pub closed_sets : (n : ℕ) (kind : Kind) (p : Progress) → IfOk (close_section n kind p) (SetsNothing p)
 closed_sets n kind p = innermost_sets n kind p (slice_get p.sections (length p.sections - 1))
 
-hiding_sets : (p : Progress) (l : Line) (f : Form) → IfOk (in_hiding p l f) (SetsNothing p)
+pub hiding_sets : (p : Progress) (l : Line) (f : Form) → IfOk (in_hiding p l f) (SetsNothing p)
 hiding_sets p l form.Blank = record { settings = refl; host = refl }
 hiding_sets p l (form.Opening g) = opened_sets l.number kind.Module true p
 hiding_sets p l (form.OpeningHost right) = opened_sets l.number kind.Host true p
@@ -150,9 +160,14 @@ names_own : (n : ℕ) (p : Progress) (names : List (List ℕ)) (h : Option HostS
 names_own n p names None = refl
 names_own n p names (Some h) = choice (λ r. IfErr r (IsAtLine n)) (nat_le (length (h.aliases ++ names)) 64) _ _ tt refl
 
+pairs_own : (n : ℕ) (p : Progress) (pairs : List TypePair) (h : Option HostSettings) → IfErr (adds_pairs n p pairs h) (IsAtLine n)
+pairs_own n p pairs None = choice (λ r. IfErr r (IsAtLine n)) (nat_le (length (p.settings.types.added ++ pairs)) 1024) _ _ tt refl
+pairs_own n p pairs (Some h) = refl
+
 assigns_own : (n : ℕ) (p : Progress) (a : Result Assignment Wrong) → IfErr (assigns n p a) (IsAtLine n)
 assigns_own n p (Ok (Sets s v)) = sets_own n p s v p.host
 assigns_own n p (Ok (AddsNames ws)) = names_own n p (aliases_of ws) p.host
+assigns_own n p (Ok (AddsPairs ws)) = pairs_own n p (pairs_of_words ws) p.host
 assigns_own n p (Err wrong.Name) = refl
 assigns_own n p (Err wrong.Value) = refl
 

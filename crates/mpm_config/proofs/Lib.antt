@@ -1,10 +1,9 @@
 pub mod CorrectionLemmas
 pub mod FormLemmas
+pub mod HostLemmas
 pub mod LawLemmas
-pub mod LineLemmas
 pub mod NameLemmas
 pub mod PieceLemmas
 pub mod RangeLemmas
 pub mod TextLemmas
-pub mod WordLemmas
-pub mod HostLemmas
+pub mod TypeLemmas

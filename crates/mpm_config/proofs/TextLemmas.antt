@@ -7,7 +7,7 @@ use Rattle.std.proofs.lemmas.Str.{utf8_valid_len-IsUtf8}
 use Rattle.std.proofs.lemmas.Bool.Decides.{nat_tests}
 use Rattle.mpm_config.specs.Reading.{text_len}
 use Rattle.mpm_config.specs.declared.fault.ConfFault.TheVariants.{NotText}
-use Rattle.mpm_config.proofs.WordLemmas.{position-le}
+use Rattle.conf_text.proofs.WordLemmas.{position-le}
 
 -- of UTF-8 it is what stands before the first NUL
 pub text_len-utf8 : (xs : List ℕ) (n : ℕ) → IsUtf8 xs → n ≡ position_or_len (λ b. b == 0) xs → text_len xs ≡ n

@@ -1,6 +1,7 @@
 -- A configuration, as contracts see it.
 use Rattle.std.specs.Prelude.{◌≡◌, ℕ, ◌<◌, ◌≤◌, Bool, List, length, All, Option}
 use Rattle.std.specs.Str.{IsUtf8}
+use Rattle.media_types.specs.declared.types.MediaTypes.{MediaTypes}
 use Rattle.mpm_base.specs.declared.addr.Addr.{Addr}
 use Rattle.mpm_config.specs.declared.host_conf.HostConf.{HostConf}
 use Rattle.mpm_config.specs.declared.numbers.Numbers.{Numbers}
@@ -11,6 +12,10 @@ use Rattle.mpm_config.specs.Correction.{after_corrections}
 abbrev pub most_hosts : ℕ
 most_hosts = 64
 
+-- there are at most as many pairs of types, counted as they are written
+abbrev pub most_pairs : ℕ
+most_pairs = 1024
+
 -- there is a host, and no more than there may be; each root and index is UTF-8
 pub record AreHostConfs (hosts : List HostConf) : Type 0 where
   pub some : 0 < length hosts
@@ -18,8 +23,9 @@ pub record AreHostConfs (hosts : List HostConf) : Type 0 where
   pub texts : All (λ (host : HostConf). IsUtf8 host.root × IsUtf8 host.index) hosts
 
 -- the numbers as they were written and after the corrections, the address to listen at, the port of the
--- control line, the folder of the files, the name of a folder's own file, whether the status page is served,
--- the name of the log, where there is one, and the hosts
+-- control line, the folder of the files, the name of a folder's own file, whether files have tags, whether the
+-- times at which they were changed count, by what they get their types, whether the status page is served, the
+-- name of the log, where there is one, and the hosts
 pub record Configuration : Type 0 where
   pub written : Numbers
   pub current : Numbers
@@ -27,6 +33,9 @@ pub record Configuration : Type 0 where
   pub control : Option ℕ
   pub root : List ℕ
   pub index : List ℕ
+  pub tags : Bool
+  pub times : Bool
+  pub types : MediaTypes
   pub status : Bool
   pub log : Option (List ℕ)
   pub hosts : List HostConf

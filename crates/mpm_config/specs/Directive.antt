@@ -2,7 +2,7 @@
 use Rattle.std.specs.Prelude.{ℕ, List, [], ◌∷◌, Option, find, codes, option_map}
 use Rattle.mpm_base.specs.LetterCase.{is_same_ignoring_case}
 use Rattle.mpm_config.specs.declared.directive.Directive.{Directive}
-use Rattle.mpm_config.specs.declared.directive.Directive.TheVariants.{Number, KeepAlive, Listen, ControlListen, DocumentRoot, DirectoryIndex, ServerStatus, ServerName, ServerAlias, TransferLog}
+use Rattle.mpm_config.specs.declared.directive.Directive.TheVariants.{Number, KeepAlive, Listen, ControlListen, DocumentRoot, DirectoryIndex, FileETag, LastModified, AddType, MimeTable, AddDefaultCharset, ServerStatus, ServerName, ServerAlias, TransferLog}
 use Rattle.mpm_config.specs.declared.directive.Quantity.{Quantity}
 use Rattle.mpm_config.specs.declared.directive.Quantity.TheVariants as number
 
@@ -62,6 +62,11 @@ names =
     record { text = codes "ControlListen"; directive = ControlListen } ∷
     record { text = codes "DocumentRoot"; directive = DocumentRoot } ∷
     record { text = codes "DirectoryIndex"; directive = DirectoryIndex } ∷
+    record { text = codes "FileETag"; directive = FileETag } ∷
+    record { text = codes "LastModified"; directive = LastModified } ∷
+    record { text = codes "AddType"; directive = AddType } ∷
+    record { text = codes "MimeTable"; directive = MimeTable } ∷
+    record { text = codes "AddDefaultCharset"; directive = AddDefaultCharset } ∷
     record { text = codes "ServerStatus"; directive = ServerStatus } ∷
     record { text = codes "ServerName"; directive = ServerName } ∷
     record { text = codes "ServerAlias"; directive = ServerAlias } ∷

@@ -10,9 +10,10 @@ use Rattle.mpm_config.specs.declared.form.Form.TheVariants.{Blank, Opening, Open
 use Rattle.mpm_config.specs.declared.form.Kind.{Kind}
 use Rattle.mpm_config.specs.declared.form.Kind.TheVariants.{Module, Host}
 use Rattle.mpm_config.specs.Range.{port_range}
-use Rattle.mpm_config.specs.Value.{Parts, number, parts_around}
+use Rattle.conf_text.specs.Parts.{Parts, parts_around}
+use Rattle.mpm_config.specs.Value.{number}
 use Rattle.mpm_base.specs.LetterCase.{is_same_ignoring_case}
-use Rattle.mpm_config.specs.Words.{Word, Closed, is_blank, words, from_blanks}
+use Rattle.conf_text.specs.Words.{Word, Closed, is_blank, words, from_blanks}
 
 -- the modules that are there
 abbrev pub is_present : List ℕ → Bool

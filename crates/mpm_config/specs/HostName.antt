@@ -3,8 +3,9 @@ use Rattle.std.specs.Prelude.{ℕ, ◌==◌, ◌&&◌, ◌||◌, Bool, false, tr
 use Rattle.std.specs.List.{before_first, list_any}
 use Rattle.std.specs.Str.{bytes_eq}
 use Rattle.mpm_config.specs.Range.{port_range}
-use Rattle.mpm_config.specs.Value.{Parts, number, parts_around}
-use Rattle.mpm_config.specs.Words.{Word, Closed, Unclosed}
+use Rattle.conf_text.specs.Parts.{Parts, parts_around}
+use Rattle.mpm_config.specs.Value.{number}
+use Rattle.conf_text.specs.Words.{Word, Closed, Unclosed}
 use Rattle.name_hosts.specs.Host.{without_point}
 
 -- a name: some bytes without an asterisk (42) or a question mark (63), and no point alone

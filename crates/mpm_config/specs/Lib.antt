@@ -3,10 +3,8 @@ pub mod Correction
 pub mod CorrectionInside
 pub mod Directive
 pub mod DirectiveInside
-pub mod FirstInside
 pub mod Form
 pub mod HostName
-pub mod Line
 pub mod Numbers
 pub mod Range
 pub mod RangeInside
@@ -17,6 +15,6 @@ pub mod SettingInside
 pub mod Settings
 pub mod SettingsInside
 pub mod Shape
+pub mod TypeLaws
 pub mod Value
 pub mod Warning
-pub mod Words

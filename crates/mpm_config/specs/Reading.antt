@@ -2,6 +2,7 @@
 use Rattle.std.specs.Prelude.{◌≡◌, ℕ, ◌-◌, ◌==◌, ◌&&◌, nat_le, nat_lt, min, if◌then◌else◌, Bool, false, true, is_none, not, map, unwrap_or, List, [], ◌∷◌, ◌++◌, length, take, slice_get, Option, Some, None, IfSome, Result, Ok, Err}
 use Rattle.std.specs.List.{list_any, position_or_len}
 use Rattle.std.specs.Str.Lossy.{utf8_valid_len}
+use Rattle.media_types.specs.declared.types.TypePair.{TypePair}
 use Rattle.mpm_config.specs.declared.fault.ConfFault.{ConfFault}
 use Rattle.mpm_config.specs.declared.fault.ConfFault.TheVariants.{NotText, UnknownDirective, BadValue, BadSection, Unclosed, TooDeep, NoMemory}
 use Rattle.mpm_config.specs.declared.form.Form.{Form}
@@ -13,14 +14,15 @@ use Rattle.mpm_config.specs.declared.setting.Setting.{Setting}
 use Rattle.mpm_config.specs.declared.reader.Section.{Section}
 use Rattle.mpm_config.specs.declared.setting.Wrong.{Wrong}
 use Rattle.mpm_config.specs.declared.setting.Wrong.TheVariants.{Name, Value}
-use Rattle.mpm_config.specs.Config.{Configuration, most_hosts}
+use Rattle.mpm_config.specs.Config.{Configuration, most_hosts, most_pairs}
 use Rattle.mpm_config.specs.Correction.{after_corrections, notices}
 use Rattle.mpm_config.specs.Form.{form_of}
-use Rattle.mpm_config.specs.Line.{Line, logical_lines}
-use Rattle.mpm_config.specs.Setting.{Assignment, Sets, AddsNames, assignment}
-use Rattle.mpm_config.specs.Settings.{HostSettings, Settings, empty_host, initial_settings, with_host_setting, with_setting}
+use Rattle.conf_text.specs.Line.{Line, logical_lines}
+use Rattle.mpm_config.specs.Setting.{Assignment, Sets, AddsNames, AddsPairs, assignment}
+use Rattle.mpm_config.specs.Settings.{HostSettings, Settings, empty_host, initial_settings, with_host_setting, with_pairs, with_setting}
 use Rattle.mpm_config.specs.HostName.{aliases_of, most_aliases}
 use Rattle.mpm_config.specs.Warning.{Notice}
+use Rattle.type_words.specs.TypeWords.{pairs_of_words}
 
 -- goes on where nothing was refused
 abbrev pub and_then : {A B : Type 0} → Result A ConfFault → (A → Result B ConfFault) → Result B ConfFault
@@ -108,10 +110,18 @@ adds_names n p names (Some h) =
     if nat_le (length (h.aliases ++ names)) most_aliases
     then Ok (record p { host = Some (record h { aliases = h.aliases ++ names }) }) else Err (BadValue n)
 
+-- pairs are added to those of the types, of which there may be so many; they are of the whole server
+abbrev pub adds_pairs : ℕ → Progress → List TypePair → Option HostSettings → Result Progress ConfFault
+adds_pairs n p pairs (Some h) = Err (BadSection n)
+adds_pairs n p pairs None =
+    if nat_le (length (p.settings.types.added ++ pairs)) most_pairs
+    then Ok (record p { settings = with_pairs p.settings pairs }) else Err (BadValue n)
+
 -- a directive does what it does
 abbrev pub assigns : ℕ → Progress → Result Assignment Wrong → Result Progress ConfFault
 assigns n p (Ok (Sets s v)) = sets n p s v p.host
 assigns n p (Ok (AddsNames ws)) = adds_names n p (aliases_of ws) p.host
+assigns n p (Ok (AddsPairs ws)) = adds_pairs n p (pairs_of_words ws) p.host
 assigns n p (Err Name) = Err (UnknownDirective n)
 assigns n p (Err Value) = Err (BadValue n)
 
@@ -172,7 +182,20 @@ confs_by name root index (h ∷ hs) = map (host_conf_by root index) (h ∷ hs)
 -- the configuration of the settings of a whole text
 abbrev pub configuration_of : Settings → ConfigAndWarnings
 configuration_of s = record {
-  config = record { written = s.numbers; current = after_corrections s.numbers; listen = s.listen; control = s.control; root = s.root; index = s.index; status = s.status; log = s.log; hosts = confs_by s.name s.root s.index s.hosts };
+  config = record {
+    written = s.numbers;
+    current = after_corrections s.numbers;
+    listen = s.listen;
+    control = s.control;
+    root = s.root;
+    index = s.index;
+    tags = s.tags;
+    times = s.times;
+    types = s.types;
+    status = s.status;
+    log = s.log;
+    hosts = confs_by s.name s.root s.index s.hosts;
+  };
   warnings = notices s.numbers;
 }
 

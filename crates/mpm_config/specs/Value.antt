@@ -1,7 +1,8 @@
 -- What the value of a directive spells.
-use Rattle.std.specs.Prelude.{ℕ, ◌+◌, ◌-◌, ◌*◌, ◌==◌, ◌&&◌, nat_le, nat_lt, if◌then◌else◌, Bool, true, false, not, List, [], ◌∷◌, length, take, drop, codes, Option, Some, None, option_map, option_and_then, slice_index}
-use Rattle.std.specs.List.{list_any, before_first, after_first, position_or_len}
+use Rattle.std.specs.Prelude.{ℕ, ◌+◌, ◌-◌, ◌*◌, ◌==◌, ◌&&◌, nat_le, if◌then◌else◌, Bool, true, false, not, List, [], ◌∷◌, length, take, drop, codes, Option, Some, None, option_map, option_and_then, slice_index}
+use Rattle.std.specs.List.{list_any}
 use Rattle.std.specs.Str.{bytes_eq}
+use Rattle.conf_text.specs.Parts.{Parts, parts_around}
 use Rattle.mpm_base.specs.Digits.{number_in_digits}
 use Rattle.mpm_base.specs.LetterCase.{is_same_ignoring_case}
 use Rattle.mpm_base.specs.declared.addr.Addr.{Addr}
@@ -13,17 +14,6 @@ use Rattle.mpm_config.specs.Range.{range_of, millisecond_range, octet_range, por
 -- a whole number, of at most nine digits, in a range of the table
 abbrev pub number : NumberRange → List ℕ → Option ℕ
 number r v = option_and_then (number_in r) (number_in_digits 9 v)
-
--- what stands before and after the first byte c
-pub record Parts : Type 0 where
-  pub before : List ℕ
-  pub after : List ℕ
-
--- the bytes before and behind the first of that byte
-abbrev pub parts_around : ℕ → List ℕ → Option Parts
-parts_around c v =
-    if nat_lt (position_or_len (λ b. b == c) v) (length v)
-    then Some (record { before = before_first (λ b. b == c) v; after = after_first (λ b. b == c) v }) else None
 
 -- hundredths: one or two digits after the point
 abbrev pub decimals : List ℕ → Option ℕ
@@ -54,6 +44,12 @@ abbrev pub switch : List ℕ → Option Bool
 switch v =
     if is_same_ignoring_case v (codes "On") then Some true
     else (if is_same_ignoring_case v (codes "Off") then Some false else None)
+
+-- whether files have tags: Digest or None, in which case of letters doesn't count
+abbrev pub tags_of_value : List ℕ → Option Bool
+tags_of_value v =
+    if is_same_ignoring_case v (codes "Digest") then Some true
+    else (if is_same_ignoring_case v (codes "None") then Some false else None)
 
 -- the four octets of an address, with a point (46) between them
 abbrev pub octets : List ℕ → Option (List ℕ)

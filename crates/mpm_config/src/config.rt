@@ -4,6 +4,7 @@ ghost use Rattle.std.specs.Prelude.{◌≡◌, ◌≤◌, true};
 use crate::correction::correct;
 use crate::host_conf::HostConfs;
 use crate::numbers::Numbers;
+use media_types::MediaTypes;
 use mpm_base::{Addr, Octets, Shape};
 use std::marker::Model;
 
@@ -23,6 +24,12 @@ pub struct Config {
     pub root: Octets,
     /// DirectoryIndex, without a `/`.
     pub index: Octets,
+    /// FileETag: whether files have entity tags.
+    pub tags: bool,
+    /// LastModified: whether the times at which files were changed count.
+    pub times: bool,
+    /// AddType, MimeTable and AddDefaultCharset: by what files get their types.
+    pub types: MediaTypes,
     /// ServerStatus: whether the status page is served.
     pub status: bool,
     /// TransferLog: the name of the log, where there is one.
@@ -45,6 +52,9 @@ impl Model for Config {
       control = c.control;
       root = c.root;
       index = c.index;
+      tags = c.tags;
+      times = c.times;
+      types = c.types;
       status = c.status;
       log = option_map string_bytes c.log;
       hosts = c.hosts;

@@ -37,6 +37,11 @@ pub enum Directive {
     ControlListen,
     DocumentRoot,
     DirectoryIndex,
+    FileETag,
+    LastModified,
+    AddType,
+    MimeTable,
+    AddDefaultCharset,
     ServerStatus,
     ServerName,
     ServerAlias,
@@ -51,7 +56,7 @@ pub struct Spelling {
 }
 
 /// Every name of the language, the first spelling of a directive before the others.
-pub const SPELLINGS: [Spelling; 28] = [
+pub const SPELLINGS: [Spelling; 33] = [
     Spelling {
         name: "ServerLimit",
         directive: Directive::Number(Quantity::ServerLimit),
@@ -147,6 +152,26 @@ pub const SPELLINGS: [Spelling; 28] = [
     Spelling {
         name: "DirectoryIndex",
         directive: Directive::DirectoryIndex,
+    },
+    Spelling {
+        name: "FileETag",
+        directive: Directive::FileETag,
+    },
+    Spelling {
+        name: "LastModified",
+        directive: Directive::LastModified,
+    },
+    Spelling {
+        name: "AddType",
+        directive: Directive::AddType,
+    },
+    Spelling {
+        name: "MimeTable",
+        directive: Directive::MimeTable,
+    },
+    Spelling {
+        name: "AddDefaultCharset",
+        directive: Directive::AddDefaultCharset,
     },
     Spelling {
         name: "ServerStatus",

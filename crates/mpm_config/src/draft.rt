@@ -1,9 +1,11 @@
 //! The settings of a text as it is read.
 ghost use Rattle.std.specs.Prelude.{◌≡◌, ◌==◌, ◌<◌, if◌then◌else◌, ◌∷◌, [], ◌++◌, length, map, unwrap_or, IfOk, OnOk};
+ghost use Rattle.conf_text.specs.Words.{words};
 ghost use Rattle.mpm_config.specs.Config.{most_hosts};
 ghost use Rattle.mpm_config.specs.Reading.{configuration_of, confs_by, host_conf_by, ConfigAndWarnings};
 ghost use Rattle.mpm_config.specs.SettingInside.{IsSettable};
-ghost use Rattle.mpm_config.specs.Settings.{initial_settings, with_setting};
+ghost use Rattle.mpm_config.specs.Settings.{charset_named, initial_settings, with_pairs, with_setting};
+ghost use Rattle.type_words.specs.TypeWords.{pairs_of_words};
 
 use crate::config::Config;
 use crate::correction::{correct, warnings_of};
@@ -14,9 +16,11 @@ use crate::numbers::Numbers;
 use crate::range::PORT;
 use crate::setting::Setting;
 use crate::warning::Warnings;
+use media_types::MediaTypes;
 use mpm_base::{Addr, Names, NoMemory, Octets};
 use std::alloc::Global;
 use std::marker::Model;
+use type_words::add_pairs;
 
 /// What the directives so far have set.
 #[derive(Debug, Drop)]
@@ -26,6 +30,9 @@ pub struct Draft {
     control: Option<u16>,
     root: Octets,
     index: Octets,
+    tags: bool,
+    times: bool,
+    types: MediaTypes,
     status: bool,
     name: Names,
     log: Option<String>,
@@ -46,6 +53,9 @@ impl Model for Draft {
       control = d.control;
       root = d.root;
       index = d.index;
+      tags = d.tags;
+      times = d.times;
+      types = d.types;
       status = d.status;
       name = d.name;
       log = option_map string_bytes d.log;
@@ -69,6 +79,9 @@ impl Draft {
             control: None,
             root: Octets::of(alloc, "htdocs".as_bytes())?,
             index: Octets::of(alloc, "index.html".as_bytes())?,
+            tags: false,
+            times: false,
+            types: MediaTypes::usual(alloc),
             status: true,
             name: Names::make(alloc),
             log: None,
@@ -88,6 +101,12 @@ impl Draft {
             Setting::ControlListen(port) => self.control = Some(port),
             Setting::DocumentRoot => self.root = Octets::of(alloc, value.as_bytes())?,
             Setting::DirectoryIndex => self.index = Octets::of(alloc, value.as_bytes())?,
+            Setting::FileETag(tags) => self.tags = tags,
+            Setting::LastModified(times) => self.times = times,
+            Setting::MimeTable(long) => self.types.long = long,
+            Setting::AddDefaultCharset(named) => {
+                self.types.charset = charset_named(alloc, named, value)?;
+            }
             Setting::ServerStatus(status) => self.status = status,
             Setting::ServerName => {
                 let mut name = Names::make(alloc);
@@ -97,6 +116,20 @@ impl Draft {
             Setting::TransferLog => self.log = Some(String::from_str(alloc, value)?),
         }
         Ok(())
+    }
+
+    /// Adds the pairs that the words of a line spell to those of the types.
+    pub fn add_pairs(&mut self, alloc: Global, line: &str) -> Result<(), NoMemory>
+        ensures { OnOk result (self.new ≡ with_pairs self.old (pairs_of_words (words line.now))) }
+    {
+        add_pairs(alloc, &mut self.types.added, line)
+    }
+
+    /// How many pairs of types there are.
+    pub fn pair_count(&self) -> usize
+        ensures { result ≡ length self.now.types.added }
+    {
+        self.types.added.len()
     }
 
     /// How many sections of hosts were closed.
@@ -128,6 +161,9 @@ impl Draft {
             control,
             root,
             index,
+            tags,
+            times,
+            types,
             status,
             name,
             log,
@@ -148,11 +184,25 @@ impl Draft {
             control,
             root,
             index,
+            tags,
+            times,
+            types,
             status,
             log,
             hosts,
         };
         Ok((config, warnings))
+    }
+}
+
+/// The character set that a value names, where it names one.
+fn charset_named(alloc: Global, named: bool, value: &str) -> Result<Option<Octets>, NoMemory>
+    ensures { IfOk result (λ charset. charset ≡ charset_named named value.now) }
+{
+    if named {
+        Ok(Some(Octets::of(alloc, value.as_bytes())?))
+    } else {
+        Ok(None)
     }
 }
 

@@ -1,11 +1,11 @@
 //! What kind of line a line is: nothing, a section's opening or closing, or a directive.
 ghost use Rattle.std.specs.Prelude.{◌≡◌, ◌==◌, ◌&&◌, ◌+◌, ◌<◌, drop, length, option_map, slice_index};
 ghost use Rattle.std.specs.List.{list_all};
+ghost use Rattle.conf_text.specs.Words.{is_blank, words};
 ghost use Rattle.mpm_config.specs.Form.{before_end, closing_of, form_of, guard, guard_of, is_any_address, is_present, kind_of, of_inside, of_section, opening_of, takes_hosts};
-ghost use Rattle.mpm_config.specs.Words.{is_blank, words};
 
-use crate::value::{around, port};
-use crate::word::{First, at_blank, first_word, is_blank, past_first, skip_blanks};
+use crate::value::port;
+use conf_text::{First, around, at_blank, first_word, is_blank, past_first, skip_blanks};
 use mpm_base::is_same_ignoring_case;
 
 /// The kind of a section.

@@ -2,12 +2,12 @@
 ghost use Rattle.std.specs.Prelude.{◌≡◌, ◌++◌, length, unwrap_or, if◌then◌else◌, Some, None, IfOk, OnOk};
 ghost use Rattle.mpm_config.specs.HostName.{aliases_of};
 ghost use Rattle.mpm_config.specs.Settings.{empty_host, with_host_setting};
-ghost use Rattle.mpm_config.specs.Words.{words};
+ghost use Rattle.conf_text.specs.Words.{words};
 
 use crate::host_conf::HostConf;
 use crate::host_name::server_name;
 use crate::setting::Setting;
-use crate::word::{First, first_word};
+use conf_text::{First, first_word};
 use mpm_base::{Names, NoMemory, Octets};
 use name_hosts::without_point;
 use std::alloc::Global;

@@ -2,10 +2,10 @@
 ghost use Rattle.std.specs.Prelude.{◌≡◌, ◌==◌, ◌||◌};
 ghost use Rattle.std.specs.List.{list_any};
 ghost use Rattle.mpm_config.specs.HostName.{are_aliases, are_host_names, is_host_name, is_server_name, server_name};
-ghost use Rattle.mpm_config.specs.Words.{words};
+ghost use Rattle.conf_text.specs.Words.{words};
 
-use crate::value::{around, port};
-use crate::word::{First, first_word};
+use crate::value::port;
+use conf_text::{First, around, first_word};
 use name_hosts::without_point;
 
 /// Whether there is an asterisk or a question mark.

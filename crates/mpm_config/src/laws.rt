@@ -3,9 +3,10 @@
 ghost use Rattle.std.specs.Prelude.{◌≡◌, ℕ, true, List, [], ◌∷◌, ◌++◌, Ok, Err, IfOk, IfErr};
 ghost use Rattle.std.specs.Str.Lines.{lines};
 ghost use Rattle.mpm_config.specs.Correction.{after_corrections};
-ghost use Rattle.mpm_config.specs.Line.{logical_lines, Line, Rise};
+ghost use Rattle.conf_text.specs.Line.{logical_lines, Line, Rise};
 ghost use Rattle.mpm_config.specs.Numbers.{IsInRange};
-ghost use Rattle.mpm_config.specs.Reading.{after_line, after_lines, and_then, hides, settings_of, IsAtLine, Progress, ReplacesInHost, SetsNothing};
+ghost use Rattle.mpm_config.specs.Reading.{after_line, after_lines, and_then, config_of, hides, settings_of, IsAtLine, Progress, ReplacesInHost, SetsNothing};
+ghost use Rattle.mpm_config.specs.TypeLaws.{HavePrintable};
 ghost use Rattle.mpm_config.specs.Settings.{with_setting, HostSettings, IsSameDirective, Settings};
 ghost use Rattle.mpm_base.specs.Shape.{is_in_bounds};
 ghost use Rattle.mpm_config.specs.Shape.{shape_of_numbers};
@@ -41,4 +42,10 @@ pub fn first_refusal_decides()
 pub fn corrected_numbers_are_in_bounds()
     ensures { (n : Numbers) → IsInRange n
         → is_in_bounds (shape_of_numbers (after_corrections n)) ≡ true }
+{}
+
+/// No type that a text adds, and no character set that it names, has a byte by which a line could end: so none of them ends a line of a
+/// response.
+pub fn configured_types_are_printable()
+    ensures { (text : List ℕ) → IfOk (config_of text) (λ read. HavePrintable read.config.types) }
 {}

@@ -4,9 +4,10 @@
 //! `read_config` accepts just the texts of the language and answers what they configure, with a warning for each
 //! number that was corrected; else it names the first fault with its line. `carry_limits` keeps the two limits
 //! over a restart, and `shape_of` gives the shape of a configuration, which is in its bounds.
-//! The definition is `config_of` in `specs/Reading.antt`: the lines of a text (`Line`), the kind of each (`Form`), its words (`Words`), what they set (`Directive`, `Value`, `NumberRange`, `Setting`, `Settings`) and the corrections
-//! (`Correction`). The section of a host sets what it has of its own (`HostName`, `HostSettings` in `Settings`), and the hosts are made of these
-//! once the text is read (`confs_by`; `HostConf`, `Config`). `laws` says what these come to.
+//! The definition is `config_of` in `specs/Reading.antt`: the lines of a text and their words (of the crate `conf_text`), the kind of each
+//! line (`Form`), what its words set (`Directive`, `Value`, `NumberRange`, `Setting`, `Settings`; of types in the crate `type_words`) and the
+//! corrections (`Correction`). The section of a host sets what it has of its own (`HostName`, `HostSettings` in `Settings`), and the hosts
+//! are made of these once the text is read (`confs_by`; `HostConf`, `Config`). `laws` says what these come to.
 #![tactic(auto)]
 
 mod config;
@@ -19,7 +20,6 @@ mod host_conf;
 mod host_draft;
 mod host_name;
 mod laws;
-mod line;
 mod numbers;
 mod range;
 mod read;
@@ -27,15 +27,14 @@ mod reader;
 mod setting;
 mod value;
 mod warning;
-mod word;
 
 pub use config::{Config, carry_limits, shape_of};
 pub use correction::warning_text;
 pub use fault::ConfFault;
 pub use host_conf::{HostConf, HostConfs};
 pub use laws::{
-    corrected_numbers_are_in_bounds, first_refusal_decides, later_settings_replace,
-    skipped_lines_set_nothing,
+    configured_types_are_printable, corrected_numbers_are_in_bounds, first_refusal_decides,
+    later_settings_replace, skipped_lines_set_nothing,
 };
 pub use numbers::Numbers;
 pub use read::read_config;

@@ -1,17 +1,16 @@
 //! Reads the configuration of a text.
 ghost use Rattle.std.specs.Prelude.{◌≡◌, ◌==◌, ◌<◌, true, false, nat_lt, length, MatchResult, Ok};
 ghost use Rattle.std.specs.List.{position_or_len};
-ghost use Rattle.mpm_config.specs.Line.{logical_lines};
+ghost use Rattle.conf_text.specs.Line.{logical_lines};
 ghost use Rattle.mpm_config.specs.Reading.{config_of, settings_of, start, text_len, ConfigAndWarnings, Refuses};
 ghost use Rattle.mpm_config.specs.ReadingInside.{IsAnswer};
 
 use crate::config::Config;
 use crate::draft::Draft;
 use crate::fault::ConfFault;
-use crate::line::take_line;
 use crate::reader::Reader;
-use crate::value::place_of;
 use crate::warning::Warnings;
+use conf_text::{place_of, take_line};
 use std::alloc::Global;
 
 /// The place of the first NUL, or the length where there is none.

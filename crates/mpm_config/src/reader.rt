@@ -1,11 +1,12 @@
 //! The reader of a text: its lines in order, each in the sections that are open before it.
 ghost use Rattle.std.specs.Prelude.{◌≡◌, ◌<◌, ◌≤◌, ◌-◌, [], IfOk, length, slice_get};
-ghost use Rattle.mpm_config.specs.Reading.{adds_names, after_line, assigns, close_section, close_shown, hides, in_hiding, in_sight, may_open_host, open_host, open_section, open_by_guard, sets, settings_of, start};
+ghost use Rattle.mpm_config.specs.Reading.{adds_names, adds_pairs, after_line, assigns, close_section, close_shown, hides, in_hiding, in_sight, may_open_host, open_host, open_section, open_by_guard, sets, settings_of, start};
 ghost use Rattle.mpm_config.specs.HostName.{aliases_of};
 ghost use Rattle.mpm_config.specs.SettingInside.{IsSettable};
-ghost use Rattle.mpm_config.specs.Words.{words};
+ghost use Rattle.conf_text.specs.Words.{words};
 ghost use Rattle.mpm_config.specs.ReadingInside.{IsAnswer, LeadsTo};
 ghost use Rattle.mpm_config.specs.Setting.{assignment};
+ghost use Rattle.type_words.specs.TypeWords.{pairs_of_words};
 
 use crate::draft::Draft;
 use crate::fault::ConfFault;
@@ -35,6 +36,9 @@ const MOST_HOSTS: usize = 64;
 
 /// So many names may stand behind ServerAlias in the section of a host.
 const MOST_ALIASES: usize = 64;
+
+/// So many pairs of types there may be.
+const MOST_PAIRS: usize = 1_024;
 
 /// What the lines so far have set and opened.
 #[derive(Debug, Drop)]
@@ -185,6 +189,24 @@ impl Reader {
         Ok(())
     }
 
+    /// Adds the pairs that the words of a line spell to those of the types, which are of the whole server.
+    fn add_pairs(&mut self, alloc: Global, number: u64, line: &str) -> Result<(), ConfFault>
+        ensures { LeadsTo
+            (adds_pairs number self.old (pairs_of_words (words line.now)) self.old.host)
+            self.new result }
+    {
+        if self.host.is_some() {
+            return Err(ConfFault::BadSection(number));
+        }
+        if self.draft.add_pairs(alloc, line).is_err() {
+            return Err(ConfFault::NoMemory);
+        }
+        if self.draft.pair_count() > MOST_PAIRS {
+            return Err(ConfFault::BadValue(number));
+        }
+        Ok(())
+    }
+
     /// Does what the line of a directive does.
     fn assign(&mut self, alloc: Global, number: u64, line: &str) -> Result<(), ConfFault>
         ensures { LeadsTo (assigns number self.old (assignment line.now)) self.new result }
@@ -192,6 +214,7 @@ impl Reader {
         match read_assignment(line) {
             Ok(Assigned::One(setting, value)) => self.set(alloc, number, setting, value),
             Ok(Assigned::Names(names)) => self.add_names(alloc, number, names),
+            Ok(Assigned::Pairs(pairs)) => self.add_pairs(alloc, number, pairs),
             Err(Wrong::Name) => Err(ConfFault::UnknownDirective(number)),
             Err(Wrong::Value) => Err(ConfFault::BadValue(number)),
         }

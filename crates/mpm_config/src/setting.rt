@@ -2,15 +2,16 @@
 ghost use Rattle.std.specs.Prelude.{◌≡◌, IfSome, IfOk, MatchResult, Ok, Err};
 ghost use Rattle.mpm_config.specs.Setting.{assignment, of_value, of_words, setting_of};
 ghost use Rattle.mpm_config.specs.SettingInside.{IsSettable, IsSettableOne, assignment_shown};
-ghost use Rattle.mpm_config.specs.Words.{words};
+ghost use Rattle.conf_text.specs.Words.{words};
 
 use crate::directive::{Directive, Quantity, named};
 use crate::host_name::{are_aliases, is_server_name};
-use crate::value::{address, is_file, is_folder, is_log, port, switch};
-use crate::word::{First, first_word};
+use crate::value::{address, is_file, is_folder, is_log, port, switch, tags_of_value};
+use conf_text::{First, first_word};
 use mpm_base::Addr;
+use type_words::{are_type_words, charset_of_value, table_of_value};
 
-/// What a value sets. Of names the value itself is kept.
+/// What a value sets. Of names, and of a character set, the value itself is kept.
 #[derive(Clone, Copy, Debug)]
 pub enum Setting {
     Number(Quantity, u32),
@@ -19,6 +20,11 @@ pub enum Setting {
     ControlListen(u16),
     DocumentRoot,
     DirectoryIndex,
+    FileETag(bool),
+    LastModified(bool),
+    MimeTable(bool),
+    /// Whether the value names one.
+    AddDefaultCharset(bool),
     ServerStatus(bool),
     ServerName,
     TransferLog,
@@ -31,6 +37,8 @@ pub enum Assigned<'a> {
     One(Setting, &'a str),
     /// It adds the words to the names of a host.
     Names(&'a str),
+    /// It adds the pairs that the words spell to those of the types.
+    Pairs(&'a str),
 }
 
 /// What is wrong with the line of a directive.
@@ -55,10 +63,16 @@ impl Directive {
             Directive::ControlListen => Some(Setting::ControlListen(port(value)?)),
             Directive::DocumentRoot => is_folder(value).then_some(Setting::DocumentRoot),
             Directive::DirectoryIndex => is_file(value).then_some(Setting::DirectoryIndex),
+            Directive::FileETag => Some(Setting::FileETag(tags_of_value(value)?)),
+            Directive::LastModified => Some(Setting::LastModified(switch(value)?)),
+            Directive::MimeTable => Some(Setting::MimeTable(table_of_value(value)?)),
+            Directive::AddDefaultCharset => {
+                Some(Setting::AddDefaultCharset(charset_of_value(value)?))
+            }
             Directive::ServerStatus => Some(Setting::ServerStatus(switch(value)?)),
             Directive::ServerName => is_server_name(value).then_some(Setting::ServerName),
             Directive::TransferLog => is_log(value).then_some(Setting::TransferLog),
-            Directive::ServerAlias => None,
+            Directive::ServerAlias | Directive::AddType => None,
         }
     }
 
@@ -92,6 +106,13 @@ impl Directive {
             Directive::ServerAlias => {
                 if are_aliases(line) {
                     Ok(Assigned::Names(line))
+                } else {
+                    Err(Wrong::Value)
+                }
+            }
+            Directive::AddType => {
+                if are_type_words(line) {
+                    Ok(Assigned::Pairs(line))
                 } else {
                     Err(Wrong::Value)
                 }

@@ -1,15 +1,16 @@
 //! What the value of a directive spells: numbers, switches, addresses and names.
-ghost use Rattle.std.specs.Prelude.{◌≡◌, ◌==◌, position, ◌<◌, ◌≤◌, ◌^◌, option_map, IfSome};
+ghost use Rattle.std.specs.Prelude.{◌≡◌, ◌==◌, ◌<◌, ◌≤◌, ◌^◌, IfSome};
 ghost use Rattle.mpm_base.specs.Digits.{number_in_digits};
 ghost use Rattle.mpm_config.specs.Range.{millisecond_range, octet_range, port_range, number_in, IsAllowed, IsNumberIn};
 ghost use Rattle.mpm_config.specs.RangeInside.{IsWellFormed};
-ghost use Rattle.mpm_config.specs.Value.{address, parts_around, decimals, hundredths, is_file, is_folder, is_log, is_short, milliseconds, number, number_of, octets, switch, Parts};
+ghost use Rattle.mpm_config.specs.Value.{address, decimals, hundredths, is_file, is_folder, is_log, is_short, milliseconds, number, number_of, octets, switch, tags_of_value};
 
 use crate::directive::Quantity;
 use crate::range::{
     ASYNC_REQUEST_WORKER_FACTOR, KEEP_ALIVE_MILLISECONDS, KEEP_ALIVE_TIMEOUT, NumberRange, OCTET,
     PORT,
 };
+use conf_text::around;
 use mpm_base::{Addr, is_same_ignoring_case, number_in_digits};
 
 /// The number of 1 to `most` decimal digits.
@@ -44,22 +45,6 @@ impl NumberRange {
     {
         self.keep(whole(value, 9)?)
     }
-}
-
-/// The place of the first such byte.
-pub fn place_of(value: &[u8], byte: u8) -> Option<usize>
-    ensures { result ≡ position (λ b. b == byte) value.now }
-{
-    value.iter().position(|b| *b == byte)
-}
-
-/// What stands before and after the first such byte.
-pub fn around(value: &[u8], at: u8) -> Option<(&[u8], &[u8])>
-    ensures { option_map (λ p. record { before = p.0.now; after = p.1.now }) result
-        ≡ parts_around at value.now }
-{
-    let place = place_of(value, at)?;
-    Some((&value[..place], &value[place + 1..]))
 }
 
 /// The decimals after a point, as hundredths: one or two digits.
@@ -106,6 +91,19 @@ pub fn switch(value: &[u8]) -> Option<bool>
     if is_same_ignoring_case(value, b"On") {
         Some(true)
     } else if is_same_ignoring_case(value, b"Off") {
+        Some(false)
+    } else {
+        None
+    }
+}
+
+/// Whether files have tags: Digest or None, in which case does not count.
+pub fn tags_of_value(value: &[u8]) -> Option<bool>
+    ensures { result ≡ tags_of_value value.now }
+{
+    if is_same_ignoring_case(value, b"Digest") {
+        Some(true)
+    } else if is_same_ignoring_case(value, b"None") {
         Some(false)
     } else {
         None

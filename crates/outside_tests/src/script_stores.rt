@@ -1,5 +1,5 @@
 //! The files of scripts' stores, edition by edition.
-use mpm_base::{Octets, Store, StoreFault};
+use mpm_base::{Content, Second, Store, StoreFault};
 use mpm_script::{ScriptFault, read_script};
 use script_front::{CONF_NAME, script_store};
 use stand_ins::PlainStore;
@@ -71,12 +71,23 @@ fn show_names(
 fn show_file(rt: &impl Print, alloc: Global, store: &mut PlainStore, name: &str) -> io::Result<()> {
     print!(rt; " ")?;
     match file_of(alloc, store, name) {
-        Ok(bytes) => show_bytes(rt, alloc, name, bytes.as_slice()),
+        Ok(content) => {
+            show_bytes(rt, alloc, name, content.bytes.as_slice())?;
+            show_second(rt, &content.second)
+        }
         Err(fault) => print!(rt; "{name} {fault:?}"),
     }
 }
 
+/// Shows in which second a file was changed, where that isn't the first.
+fn show_second(rt: &impl Print, second: &Second) -> io::Result<()> {
+    match second.number() {
+        0 => Ok(()),
+        number => print!(rt; " at {number}"),
+    }
+}
+
 /// The file of that name. It has no clause, for the same reason as above.
-fn file_of(alloc: Global, store: &mut PlainStore, name: &str) -> Result<Octets, StoreFault> {
+fn file_of(alloc: Global, store: &mut PlainStore, name: &str) -> Result<Content, StoreFault> {
     store.read(alloc, name, 99)
 }

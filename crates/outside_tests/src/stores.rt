@@ -1,7 +1,7 @@
 //! What stores answer.
 use crate::calls::calls_of;
 use failing_stand_ins::MemStore;
-use mpm_base::{NoMemory, Store};
+use mpm_base::{NoMemory, Second, Store};
 use stand_ins::{Calls, Files, History, PlainStore};
 use std::alloc::Global;
 use std::io;
@@ -26,9 +26,9 @@ fn files_of(alloc: Global, rows: &str) -> Result<Files, NoMemory> {
 pub fn show_files(rt: &impl Print, alloc: Global, rows: &str) -> io::Result<()> {
     let files = grown(files_of(alloc, rows))?;
     for slot in files.slots() {
-        if let Some(bytes) = &slot.bytes {
+        if let Some(content) = &slot.content {
             let name = String::from_utf8_lossy(alloc, slot.name.as_slice())?;
-            show_bytes(rt, alloc, name.as_str(), bytes.as_slice())?;
+            show_bytes(rt, alloc, name.as_str(), content.bytes.as_slice())?;
             println!(rt; "")?;
         }
     }
@@ -74,7 +74,7 @@ fn show_call<D: Store>(
     let (word, rest) = words(call);
     let (name, most) = words(rest);
     match word {
-        "read" => match store.read(alloc, name, number_of(most)) {
+        "read" => match store.read_bytes(alloc, name, number_of(most)) {
             Ok(bytes) => show_bytes(rt, alloc, "", bytes.as_slice()),
             Err(fault) => print!(rt; " {fault:?}"),
         },
@@ -111,7 +111,7 @@ fn history_of(alloc: Global, rows: &str) -> Result<History, NoMemory> {
         let (word, rest) = words(row);
         let (name, bytes) = words(rest);
         match word {
-            "set" => history.set(name, bytes.as_bytes())?,
+            "set" => history.set(name, bytes.as_bytes(), Second::of(0))?,
             "unset" => history.unset(name)?,
             _ => history.end()?,
         }

@@ -43,9 +43,16 @@ pub record IsNextConfig (told : Option StoreTold) (name : List ℕ) (running c :
 abbrev pub host_order : HostConf → HostOrder
 host_order h = record { names = h.names; root = h.root; index = h.index }
 
--- what a site is made of: the hosts of the configuration, in order, and whether ServerStatus is on
+-- what a site is made of: the hosts of the configuration, in order, whether ServerStatus is on, which marks FileETag and LastModified give
+-- to files, and by what these get their types
 abbrev pub order_of : Configuration → SiteOrder
-order_of c = record { hosts = map host_order c.hosts; status = c.status }
+order_of c =
+    record {
+      hosts = map host_order c.hosts;
+      status = c.status;
+      marks = record { tags = c.tags; times = c.times };
+      types = c.types;
+    }
 
 -- the configuration of a new generation, and a site that is within its limits: where the store tells its files, the one that they make
 -- by that configuration

@@ -37,7 +37,7 @@ fn read_text<D: Store>(alloc: Global, store: &mut D, name: &str) -> Result<Octet
         (HasText (D.seen store.old).told name.now)
         (IsUnread (D.seen store.old).told name.now (D.seen store.old).counts (D.seen store.new).counts) }
 {
-    match store.read(alloc, name, MOST_CONFIG) {
+    match store.read_bytes(alloc, name, MOST_CONFIG) {
         Ok(text) => Ok(text),
         Err(StoreFault::Missing) => Err(ReloadFault::Absent),
         Err(StoreFault::Large(_)) => Err(ReloadFault::Conf(ConfFault::BadValue(0))),

@@ -6,13 +6,14 @@ ghost use Rattle.restart_control.specs.Reload.{host_order, order_of};
 ghost use Rattle.restart_control.specs.ReloadInside.{fault_for};
 
 use crate::reload_fault::ReloadFault;
-use file_table::{HostOrder, HostOrders, LoadFault, Site, SiteOrder, load};
+use file_table::{HostOrder, HostOrders, LoadFault, Marks, Site, SiteOrder, load};
 use mpm_base::{Names, NoMemory, Octets, Store};
 use mpm_config::{Config, HostConf, HostConfs};
 use std::alloc::Global;
 
-/// The site of the files under the roots of the configuration's hosts, with the status page where ServerStatus says so. TooMany or
-/// TooLarge where they are more, or larger, than a site takes, StoreFault where a call of the store failed, NoMemory where memory lacks.
+/// The site of the files under the roots of the configuration's hosts, with the status page where ServerStatus says so, the marks of
+/// FileETag and LastModified, and its types. TooMany or TooLarge where they are more, or larger, than a site takes, StoreFault where a
+/// call of the store failed, NoMemory where memory lacks.
 pub fn load_site<D: Store>(alloc: Global, store: &mut D, config: &Config) -> Result<Site, LoadFault>
     ensures leaves { LeavesStore (D.seen store.old) (D.seen store.new) result }
     ensures site { IfSome (D.seen store.old).told (λ t.
@@ -64,14 +65,20 @@ fn order_of(alloc: Global, config: &Config) -> Result<SiteOrder, NoMemory>
     ensures { IfOk result (λ order. order ≡ order_of config.entry.now) }
 {
     let hosts = host_orders(alloc, &config.hosts)?;
+    let types = config.types.copy(alloc)?;
     Ok(SiteOrder {
         hosts,
         status: config.status,
+        marks: Marks {
+            tags: config.tags,
+            times: config.times,
+        },
+        types,
     })
 }
 
 /// The same, which can be loaded.
-fn site_order(alloc: Global, config: &Config) -> Result<SiteOrder, NoMemory>
+pub(crate) fn site_order(alloc: Global, config: &Config) -> Result<SiteOrder, NoMemory>
     ensures order { IfOk result (λ order. order ≡ order_of config.entry.now) }
     ensures loadable { IfOk result IsLoadable }
 {

@@ -55,6 +55,7 @@ module _ (law : HostsHaveTheirFiles) (serves-own : ServedByHost) where
   of-host order given site host (served.Whole part) is found = has-of-host order given site host part.file is found
   of-host order given site host (served.Part part) is found = has-of-host order given site host part.file is found
   of-host order given site host (served.Unsatisfied size) is found = tt
+  of-host order given site host (served.Unmodified place) is found = has-of-host order given site host place is found
   of-host order given site host (served.Moved path) is found = tt
   of-host order given site host served.Options is found = tt
   of-host order given site host (served.Page auto) is found = tt

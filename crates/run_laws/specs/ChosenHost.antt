@@ -46,11 +46,12 @@ pub record HasOfHost (order : SiteOrder) (given : List File) (site : SeenSite) (
       → IsFoundFor site other (IsFile place)
       → wanted.root ≡ meant.root
 
--- what is served, where it is a file or a part of one, with 200 or 206, is of such a file
+-- what is served, where it is a file or a part of one, with 200 or 206, or that the client has it as it is, with 304, is of such a file
 abbrev pub ServesOfHost : SiteOrder → List File → SeenSite → ℕ → Served → Type 0
 ServesOfHost order given site host (served.Whole part) = HasOfHost order given site host part.file
 ServesOfHost order given site host (served.Part part) = HasOfHost order given site host part.file
 ServesOfHost order given site host (served.Unsatisfied size) = ⊤
+ServesOfHost order given site host (served.Unmodified place) = HasOfHost order given site host place
 ServesOfHost order given site host (served.Moved path) = ⊤
 ServesOfHost order given site host served.Options = ⊤
 ServesOfHost order given site host (served.Page auto) = ⊤

@@ -1,6 +1,6 @@
 -- What is read of a configuration.
 use Rattle.std.proofs.Common.{◌≡◌, inl, inr, ℕ, ◌⊎◌, List, Result, Ok, Err, refl, ap, sym, subst, ◌∙◌}
-use Rattle.mpm_base.specs.Store.{ReadsFile, StoreSeen}
+use Rattle.mpm_base.specs.Store.{ReadsBytes, StoreSeen}
 use Rattle.mpm_base.specs.declared.store.StoreFault.{StoreFault}
 use Rattle.mpm_base.specs.declared.store.StoreFault.TheVariants as store
 use Rattle.mpm_config.specs.Config.{Configuration}
@@ -121,7 +121,7 @@ from-refused (Err store.NoMemory) why number is = absurd (cc is)
 
 -- it is accepted, where the store tells on what it told after it was read
 pub has-accepted : (call : Call) (read : StoreSeen) (name : List ℕ) (answer : Result (List ℕ) StoreFault) (conf : Configuration × List ℕ)
-    → ReadsFile call.store read name most_config answer → call.store'.told ≡ read.told → IsConfigFrom answer (Ok conf) → HasConfigAccepted call name conf.0
+    → ReadsBytes call.store read name most_config answer → call.store'.told ≡ read.told → IsConfigFrom answer (Ok conf) → HasConfigAccepted call name conf.0
 has-accepted call read name answer conf reads stays is =
     let text = from-ok answer conf is in
     let has = has_file most_config call read name text.0 answer reads stays text.1 in
@@ -129,10 +129,10 @@ has-accepted call read name answer conf reads stays is =
 
 -- it was accepted, whatever the store tells later
 pub had-accepted : (call : Call) (read : StoreSeen) (name : List ℕ) (answer : Result (List ℕ) StoreFault) (conf : Configuration × List ℕ)
-    → ReadsFile call.store read name most_config answer → IsConfigFrom answer (Ok conf) → HadConfigAccepted call name conf.0
+    → ReadsBytes call.store read name most_config answer → IsConfigFrom answer (Ok conf) → HadConfigAccepted call name conf.0
 had-accepted call read name answer conf reads is =
     let text = from-ok answer conf is in
-    let how = subst (ReadsFile call.store read name most_config) text.1 reads in
+    let how = subst (ReadsBytes call.store read name most_config) text.1 reads in
     record {
       bytes = text.0;
       file = is_file call.store.told name text.0 how.may.1;

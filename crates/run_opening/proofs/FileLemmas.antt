@@ -1,7 +1,7 @@
 -- What a store that was read says of a file.
 use Rattle.run_opening.specs.Calls.{IsFileUnread, Call, HasFile, IsRefusedAsLarge}
 use Rattle.std.proofs.Common.{◌≡◌, inl, inr, ℕ, ◌<◌, List, length, Option, None, Some, IfSome, option_map, Result, Ok, Err, subst, ◌∙◌, arith}
-use Rattle.mpm_base.specs.Store.{ReadsFile, StoreSeen, StoreTold, bytes_of}
+use Rattle.mpm_base.specs.Store.{ReadsBytes, StoreSeen, StoreTold, bytes_of}
 use Rattle.mpm_base.specs.declared.store.StoreFault.{StoreFault}
 use Rattle.mpm_base.specs.declared.store.StoreFault.TheVariants as store
 use Rattle.run_opening.specs.RefusalsInside.{RefusesRun}
@@ -28,24 +28,24 @@ is_missing (Some t) name none = none
 
 -- bytes that were read are the file's, where the store tells on what it told after the read
 pub has_file : (most : ℕ) (call : Call) (read : StoreSeen) (name bytes : List ℕ) (answer : Result (List ℕ) StoreFault)
-    → ReadsFile call.store read name most answer → call.store'.told ≡ read.told → answer ≡ Ok bytes → HasFile most call name bytes
+    → ReadsBytes call.store read name most answer → call.store'.told ≡ read.told → answer ≡ Ok bytes → HasFile most call name bytes
 has_file most call read name bytes answer reads stays is =
-    let how = subst (ReadsFile call.store read name most) is reads in
+    let how = subst (ReadsBytes call.store read name most) is reads in
     record { kept = stays ∙ how.told_stays; few = how.may.0; file = is_file call.store.told name bytes how.may.1 }
 
 -- a file that was not read for its size is too large
-pub too_large : (most : ℕ) (call : Call) (name : List ℕ) (size : ℕ) (answer : Result (List ℕ) StoreFault) → ReadsFile call.store call.store' name most answer
+pub too_large : (most : ℕ) (call : Call) (name : List ℕ) (size : ℕ) (answer : Result (List ℕ) StoreFault) → ReadsBytes call.store call.store' name most answer
     → answer ≡ Err (store.Large size) → IsRefusedAsLarge most call name
 too_large most call name size answer reads is =
-    let how = subst (ReadsFile call.store call.store' name most) is reads in
+    let how = subst (ReadsBytes call.store call.store' name most) is reads in
     record { refused = how.counted.refusals; large = is_large most call.store.told name size how.may }
 
 -- the file is missing
 pub unread-missing : (call : Call) (most : ℕ) (name : List ℕ) (answer : Result (List ℕ) StoreFault)
-    → ReadsFile call.store call.store' name most answer → answer ≡ Err store.Missing
+    → ReadsBytes call.store call.store' name most answer → answer ≡ Err store.Missing
     → RefusesRun call.sink call.sink' (Some 0) (store_fault name) call.shown → IsFileUnread call name
 unread-missing call most name answer reads is refused =
-    let how = subst (ReadsFile call.store call.store' name most) is reads in
+    let how = subst (ReadsBytes call.store call.store' name most) is reads in
     record {
       kept = how.told_stays;
       cause = inl (refused.shows, record { refused = how.counted.refusals; none = is_missing call.store.told name how.may });
@@ -54,10 +54,10 @@ unread-missing call most name answer reads is refused =
 
 -- a call of the store failed
 pub unread-failed : (call : Call) (most : ℕ) (name : List ℕ) (answer : Result (List ℕ) StoreFault)
-    → ReadsFile call.store call.store' name most answer → answer ≡ Err store.Failed
+    → ReadsBytes call.store call.store' name most answer → answer ≡ Err store.Failed
     → RefusesRun call.sink call.sink' None (store_fault name) call.shown → IsFileUnread call name
 unread-failed call most name answer reads is refused =
-    let how = subst (ReadsFile call.store call.store' name most) is reads in
+    let how = subst (ReadsBytes call.store call.store' name most) is reads in
     record {
       kept = how.told_stays;
       cause = inr (refused.shows, how.counted.faults);

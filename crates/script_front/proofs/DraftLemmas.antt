@@ -1,5 +1,6 @@
 -- What a line of the site leaves of a draft.
 use Rattle.std.proofs.Common.{◌≡◌, ℕ, Bool, true, false, List, [], ◌∷◌, drop, bytes_eq, refl, sym, ap, ◌∙◌}
+use Rattle.mpm_base.specs.declared.store.Content.{Content}
 use Rattle.mpm_base.specs.declared.store.File.{File}
 use Rattle.stand_ins.specs.Files.{with_file, without_file}
 use Rattle.script_front.specs.DraftInside.{IsDraft}
@@ -10,9 +11,9 @@ pub draft-changed : (files : List File) (conf conf' : List ℕ) (changed : Bool)
 draft-changed files conf conf' changed all = record { kept = all.kept; is = all.is; same = λ e. absurd (cc e) }
 
 -- another file is set, or removed
-set-behind : (name bytes kept : List ℕ) (others : List File) → is_conf_name name ≡ false
-    → with_file name bytes (conf_file kept ∷ others) ≡ conf_file kept ∷ with_file name bytes others
-set-behind name bytes kept others other = let differs : bytes_eq conf_name name ≡ false = other in rw differs refl
+set-behind : (name : List ℕ) (content : Content) (kept : List ℕ) (others : List File) → is_conf_name name ≡ false
+    → with_file name content (conf_file kept ∷ others) ≡ conf_file kept ∷ with_file name content others
+set-behind name content kept others other = let differs : bytes_eq conf_name name ≡ false = other in rw differs refl
 
 unset-behind : (name kept : List ℕ) (others : List File) → is_conf_name name ≡ false
     → without_file name (conf_file kept ∷ others) ≡ conf_file kept ∷ without_file name others
@@ -26,15 +27,15 @@ still-draft files files' others conf changed all e = record {
   same = all.same;
 }
 
-pub draft-set : (files : List File) (conf : List ℕ) (changed : Bool) (name bytes : List ℕ) → IsDraft files conf changed → is_conf_name name ≡ false
-    → IsDraft (with_file name bytes files) conf changed
-draft-set files conf changed name bytes all other =
-    still-draft files (with_file name bytes files) (with_file name bytes (drop 1 files)) conf changed all
-    (ap (with_file name bytes) all.is ∙ set-behind name bytes all.kept (drop 1 files) other)
+pub draft-set : (files : List File) (conf : List ℕ) (changed : Bool) (name : List ℕ) (content : Content) → IsDraft files conf changed → is_conf_name name ≡ false
+    → IsDraft (with_file name content files) conf changed
+draft-set files conf changed name content all other =
+    still-draft files (with_file name content files) (with_file name content (drop 1 files)) conf changed all
+    (ap (with_file name content) all.is ∙ set-behind name content all.kept (drop 1 files) other)
 
-pub others-set : (files : List File) (conf : List ℕ) (changed : Bool) (name bytes : List ℕ) → IsDraft files conf changed → is_conf_name name ≡ false
-    → drop 1 (with_file name bytes files) ≡ with_file name bytes (drop 1 files)
-others-set files conf changed name bytes all other = ap (drop 1) (ap (with_file name bytes) all.is ∙ set-behind name bytes all.kept (drop 1 files) other)
+pub others-set : (files : List File) (conf : List ℕ) (changed : Bool) (name : List ℕ) (content : Content) → IsDraft files conf changed → is_conf_name name ≡ false
+    → drop 1 (with_file name content files) ≡ with_file name content (drop 1 files)
+others-set files conf changed name content all other = ap (drop 1) (ap (with_file name content) all.is ∙ set-behind name content all.kept (drop 1 files) other)
 
 pub draft-unset : (files : List File) (conf : List ℕ) (changed : Bool) (name : List ℕ) → IsDraft files conf changed → is_conf_name name ≡ false
     → IsDraft (without_file name files) conf changed
@@ -47,8 +48,8 @@ pub others-unset : (files : List File) (conf : List ℕ) (changed : Bool) (name 
 others-unset files conf changed name all other = ap (drop 1) (ap (without_file name) all.is ∙ unset-behind name all.kept (drop 1 files) other)
 
 -- the configuration's file is set, or has the configuration
-pub conf-set : (files : List File) (conf : List ℕ) (changed : Bool) → IsDraft files conf changed → with_file conf_name conf files ≡ conf_file conf ∷ drop 1 files
-conf-set files conf changed all = ap (with_file conf_name conf) all.is
+pub conf-set : (files : List File) (conf : List ℕ) (changed : Bool) → IsDraft files conf changed → with_file conf_name (record { bytes = conf; second = 0 }) files ≡ conf_file conf ∷ drop 1 files
+conf-set files conf changed all = ap (with_file conf_name (record { bytes = conf; second = 0 })) all.is
 
 pub conf-stays : (files : List File) (conf : List ℕ) (changed : Bool) → IsDraft files conf changed → changed ≡ false → files ≡ conf_file conf ∷ drop 1 files
 conf-stays files conf changed all unchanged = all.is ∙ ap (λ c. conf_file c ∷ drop 1 files) (all.same unchanged)

@@ -14,7 +14,7 @@ use Rattle.mpm_base.specs.declared.script_line.ScriptLine.TheVariants as line
 use Rattle.mpm_base.specs.declared.script_line.SiteLine.{SiteLine}
 use Rattle.stand_ins.specs.History.{told_past}
 use Rattle.script_front.specs.DraftInside.{SeenDraft}
-use Rattle.script_front.specs.Editions.{conf_after, conf_file, conf_name, conf_of, edition_of, editions_behind, editions_of, files_after, files_of, is_graceful, is_site, opening_lines, site_in, site_lines}
+use Rattle.script_front.specs.Editions.{Filed, after_line, conf_after, conf_file, conf_name, conf_of, edition_of, editions_behind, editions_of, filed_by, is_graceful, is_site, opening_lines, site_in, site_lines}
 
 -- ## A further line
 
@@ -34,9 +34,11 @@ pub conf-more : (opening lines : List ScriptLine) (i : ℕ) (line : ScriptLine) 
     → conf_of (opening ++ take (i + 1) lines) ≡ fold conf_after (conf_of (opening ++ take i lines)) (site_in line)
 conf-more opening lines i line l e = ap conf_of (lines-more opening lines i line l e) ∙ fold-site conf_after [] (opening ++ take i lines) line
 
-pub files-more : (opening lines : List ScriptLine) (i : ℕ) (line : ScriptLine) → i < length lines → line ≡ get_or lines i line
-    → files_of (opening ++ take (i + 1) lines) ≡ fold files_after (files_of (opening ++ take i lines)) (site_in line)
-files-more opening lines i line l e = ap files_of (lines-more opening lines i line l e) ∙ fold-site files_after [] (opening ++ take i lines) line
+pub filed-more : (opening lines : List ScriptLine) (i : ℕ) (line : ScriptLine) → i < length lines → line ≡ get_or lines i line
+    → filed_by (opening ++ take (i + 1) lines) ≡ after_line (filed_by (opening ++ take i lines)) line
+filed-more opening lines i line l e =
+    let start : Filed = record { moment = 0; files = [] } in
+    ap filed_by (lines-more opening lines i line l e) ∙ fold-append after_line start (opening ++ take i lines) (line ∷ [])
 
 -- the edition that may end with it
 one-edition : (graceful : Bool) (past rest : List (List File)) (edition : List File)
@@ -57,7 +59,14 @@ editions-more opening lines i line past past' l e is =
     ∙ one-edition (is_graceful line) past behind (edition_of before)
     ∙ ap (λ xs. past ++ editions_behind before xs) (sym more)
 
--- a line by which an edition ends is none of the site
+-- a line by which an edition ends is none of the site, and no moment
+pub graceful-stays : (f : Filed) (line : ScriptLine) → is_graceful line ≡ true → f ≡ after_line f line
+graceful-stays f (line.At m) is = absurd (cc is)
+graceful-stays f (line.Conn name) is = absurd (cc is)
+graceful-stays f (line.Client name act) is = absurd (cc is)
+graceful-stays f (line.Command word) is = refl
+graceful-stays f (line.Site site) is = absurd (cc is)
+
 pub graceful-no_site : (line : ScriptLine) → is_graceful line ≡ true → site_in line ≡ []
 graceful-no_site (line.At m) is = absurd (cc is)
 graceful-no_site (line.Conn name) is = absurd (cc is)
@@ -69,11 +78,11 @@ graceful-no_site (line.Site site) is = absurd (cc is)
 
 -- all happened, and their edition ended
 pub opening-ended : (lines : List ScriptLine) (i : ℕ) (draft : SeenDraft) → length lines ≤ i
-    → draft ≡ record { past = []; conf = conf_of (take i lines); others = files_of (take i lines) }
-    → record draft { past = draft.past ++ (conf_file draft.conf ∷ draft.others) ∷ [] } ≡ record { past = edition_of lines ∷ []; conf = conf_of lines; others = files_of lines }
+    → draft ≡ record { past = []; conf = conf_of (take i lines); filed = filed_by (take i lines) }
+    → record draft { past = draft.past ++ (conf_file draft.conf ∷ draft.filed.files) ∷ [] } ≡ record { past = edition_of lines ∷ []; conf = conf_of lines; filed = filed_by lines }
 opening-ended lines i draft past is =
-    ap (λ (d : SeenDraft). let ended : SeenDraft = record d { past = d.past ++ (conf_file d.conf ∷ d.others) ∷ [] } in ended) is
-    ∙ ap (λ xs. let ended : SeenDraft = record { past = edition_of xs ∷ []; conf = conf_of xs; others = files_of xs } in ended) (take_all i lines past)
+    ap (λ (d : SeenDraft). let ended : SeenDraft = record d { past = d.past ++ (conf_file d.conf ∷ d.filed.files) ∷ [] } in ended) is
+    ∙ ap (λ xs. let ended : SeenDraft = record { past = edition_of xs ∷ []; conf = conf_of xs; filed = filed_by xs } in ended) (take_all i lines past)
 
 opening-from : (before lines : List ScriptLine)
     → editions_behind before lines ≡ editions_behind (before ++ take (prefix_len is_site lines) lines) (drop (prefix_len is_site lines) lines)

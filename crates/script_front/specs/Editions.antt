@@ -2,7 +2,9 @@
 -- configuration.
 use Rattle.std.specs.Prelude.{ℕ, Bool, true, false, ◌++◌, List, [], ◌∷◌, codes, bytes_eq, if◌then◌else◌}
 use Rattle.std.specs.List.{flat_map, fold, take_while}
+use Rattle.mpm_base.specs.Moment.{second_of}
 use Rattle.mpm_base.specs.Store.{StoreTold}
+use Rattle.mpm_base.specs.declared.store.Content.{Content}
 use Rattle.mpm_base.specs.declared.store.File.{File}
 use Rattle.mpm_base.specs.declared.script_line.CommandWord.TheVariants as word
 use Rattle.mpm_base.specs.declared.script_line.SiteLine.{SiteLine}
@@ -42,30 +44,47 @@ conf_after conf site.Clear = []
 conf_after conf (site.File name bytes) = if is_conf_name name then bytes else conf
 conf_after conf (site.Unfile name) = if is_conf_name name then [] else conf
 
--- the other files once such a line happened
-abbrev pub files_after : List File → SiteLine → List File
-files_after files (site.Conf text) = files
-files_after files site.Clear = files
-files_after files (site.File name bytes) = if is_conf_name name then files else with_file name bytes files
-files_after files (site.Unfile name) = if is_conf_name name then files else without_file name files
+-- what a file has that a line sets at a moment: it was changed in the second of that moment
+abbrev pub set_at : ℕ → List ℕ → Content
+set_at moment bytes = record { bytes = bytes; second = second_of moment }
+
+-- the other files once such a line happened at a moment
+abbrev pub files_after : ℕ → List File → SiteLine → List File
+files_after moment files (site.Conf text) = files
+files_after moment files site.Clear = files
+files_after moment files (site.File name bytes) = if is_conf_name name then files else with_file name (set_at moment bytes) files
+files_after moment files (site.Unfile name) = if is_conf_name name then files else without_file name files
+
+-- the moment that lines came to, and the files other than that of the configuration
+pub record Filed : Type 0 where
+  pub moment : ℕ
+  pub files : List File
+
+-- the same once a line happened
+abbrev pub after_line : Filed → ScriptLine → Filed
+after_line f (line.At moment) = record f { moment = moment }
+after_line f (line.Conn name) = f
+after_line f (line.Client name act) = f
+after_line f (line.Command word) = f
+after_line f (line.Site site) = record f { files = files_after f.moment f.files site }
 
 -- the configuration that the lines leave, which is empty at first
 abbrev pub conf_of : List ScriptLine → List ℕ
 conf_of lines = fold conf_after [] (site_lines lines)
 
--- the other files that they leave, of which there is none at first
-abbrev pub files_of : List ScriptLine → List File
-files_of lines = fold files_after [] (site_lines lines)
+-- what they leave of the other files, of which there is none at first; lines before the first `at` happen at the moment 0
+abbrev pub filed_by : List ScriptLine → Filed
+filed_by lines = fold after_line (record { moment = 0; files = [] }) lines
 
--- the configuration's file with these bytes
+-- the configuration's file with these bytes; when it was changed isn't told
 abbrev pub conf_file : List ℕ → File
-conf_file bytes = record { name = conf_name; bytes = bytes }
+conf_file bytes = record { name = conf_name; bytes = bytes; second = 0 }
 
 -- ## The editions
 
 -- all files that the lines leave: that of the configuration, which is always there, and the others
 abbrev pub edition_of : List ScriptLine → List File
-edition_of lines = conf_file (conf_of lines) ∷ files_of lines
+edition_of lines = conf_file (conf_of lines) ∷ (filed_by lines).files
 
 -- the line is one of the site
 abbrev pub is_site : ScriptLine → Bool

@@ -3,9 +3,9 @@ ghost use Rattle.std.specs.Prelude.{◌≡◌, [], ◌∷◌, ◌++◌, drop, Is
 ghost use Rattle.mpm_script.specs.FileNames.{NamesText};
 ghost use Rattle.stand_ins.specs.Files.{with_file, without_file};
 ghost use Rattle.script_front.specs.DraftInside.{IsDraft};
-ghost use Rattle.script_front.specs.Editions.{conf_after, conf_file, files_after, is_conf_name};
+ghost use Rattle.script_front.specs.Editions.{conf_after, conf_file, files_after, is_conf_name, set_at};
 
-use mpm_base::{NoMemory, Octets, SiteLine};
+use mpm_base::{Moment, NoMemory, Octets, Second, SiteLine};
 use stand_ins::History;
 use std::alloc::Global;
 use std::marker::Model;
@@ -20,6 +20,7 @@ pub(crate) struct Draft {
     history: History,
     conf: Octets,
     changed: bool,
+    moment: Moment,
 }
 
 impl Model for Draft {
@@ -31,7 +32,7 @@ impl Model for Draft {
     ghost view = { λ d. record {
       past = d.history.past;
       conf = d.conf;
-      others = drop 1 d.history.files;
+      filed = record { moment = d.moment; files = drop 1 d.history.files };
     } };
 
     ghost invariant = { λ d. IsDraft d.history.files d.conf d.changed };
@@ -40,15 +41,25 @@ impl Model for Draft {
 impl Draft {
     /// No edition ended, and there is no file but that of an empty configuration.
     pub(crate) fn make(alloc: Global) -> Result<Draft, NoMemory>
-        ensures { IfOk result (λ draft. draft ≡ record { past = []; conf = []; others = [] }) }
+        ensures { IfOk result (λ draft. draft
+            ≡ record { past = []; conf = []; filed = record { moment = 0; files = [] } }) }
     {
         let mut history = History::make(alloc);
-        history.set(CONF_NAME, b"")?;
+        history.set(CONF_NAME, b"", Second::of(0))?;
         Ok(Draft {
             history,
             conf: Octets::make(alloc),
             changed: false,
+            moment: 0,
         })
+    }
+
+    /// The lines from now on happen at that moment.
+    pub(crate) fn go_to(&mut self, moment: Moment)
+        ensures { self.new
+            ≡ record self.old { filed = record self.old.filed { moment = moment } } }
+    {
+        self.moment = moment;
     }
 
     /// What the line of the site does happens.
@@ -56,7 +67,9 @@ impl Draft {
         requires { NamesText site.now }
         ensures { OnOk result (self.new ≡ record self.old {
           conf = conf_after self.old.conf site.now;
-          others = files_after self.old.others site.now;
+          filed = record self.old.filed {
+            files = files_after self.old.filed.moment self.old.filed.files site.now;
+          };
         }) }
     {
         match site {
@@ -70,7 +83,7 @@ impl Draft {
     /// The files are the next edition.
     pub(crate) fn end(&mut self) -> Result<(), NoMemory>
         ensures { OnOk result (self.new ≡ record self.old {
-          past = self.old.past ++ (conf_file self.old.conf ∷ self.old.others) ∷ [];
+          past = self.old.past ++ (conf_file self.old.conf ∷ self.old.filed.files) ∷ [];
         }) }
     {
         settle(&mut self.history, self.conf.as_slice(), self.changed)?;
@@ -87,6 +100,7 @@ impl Draft {
             history,
             conf: _,
             changed: _,
+            moment: _,
         } = self;
         history
     }
@@ -114,14 +128,16 @@ impl Draft {
         requires { IsUtf8 name.now }
         ensures { OnOk result (self.new ≡ record self.old {
           conf = if is_conf_name name.now then bytes.now else self.old.conf;
-          others = if is_conf_name name.now then self.old.others
-              else with_file name.now bytes.now self.old.others;
+          filed = if is_conf_name name.now then self.old.filed else record self.old.filed {
+            files = with_file name.now (set_at self.old.filed.moment bytes.now) self.old.filed.files;
+          };
         }) }
     {
         if is_conf_name(name) {
             return self.set_conf(bytes);
         }
-        self.history.set(text_of(name.as_slice()), bytes)?;
+        let second = Second::at(self.moment);
+        self.history.set(text_of(name.as_slice()), bytes, second)?;
         Ok(())
     }
 
@@ -130,8 +146,9 @@ impl Draft {
         requires { IsUtf8 name.now }
         ensures { OnOk result (self.new ≡ record self.old {
           conf = if is_conf_name name.now then [] else self.old.conf;
-          others = if is_conf_name name.now then self.old.others
-              else without_file name.now self.old.others;
+          filed = if is_conf_name name.now then self.old.filed else record self.old.filed {
+            files = without_file name.now self.old.filed.files;
+          };
         }) }
     {
         if is_conf_name(name) {
@@ -152,7 +169,7 @@ fn settle(history: &mut History, conf: &[u8], changed: bool) -> Result<(), NoMem
     if !changed {
         return Ok(());
     }
-    history.set(CONF_NAME, conf)
+    history.set(CONF_NAME, conf, Second::of(0))
 }
 
 fn is_conf_name(name: &Octets) -> bool

@@ -9,7 +9,7 @@ ghost use Rattle.mpm_base.specs.Store.{bytes_of};
 ghost use Rattle.mpm_base.specs.declared.store.File.{File as SeenFile};
 ghost use Rattle.mpm_base.specs.declared.script_line.ScriptLine.{ScriptLine as Line};
 ghost use Rattle.mpm_script.specs.FileNames.{HasTextName, HaveTextNames};
-ghost use Rattle.script_front.specs.Editions.{conf_after, conf_file, conf_name, conf_of, edition_of, editions_behind, editions_of, files_after, files_of, is_graceful, is_site, opening_lines, site_in, store_of};
+ghost use Rattle.script_front.specs.Editions.{after_line, conf_after, conf_file, conf_name, conf_of, edition_of, editions_behind, editions_of, filed_by, is_graceful, is_site, opening_lines, site_in, store_of};
 
 use crate::draft::Draft;
 use mpm_base::{CommandWord, NoMemory, ScriptLine};
@@ -65,11 +65,12 @@ fn is_graceful(line: &ScriptLine) -> bool
 /// The lines of the opening happen to an empty site, and its edition ends.
 fn take_opening(draft: &mut Draft, lines: &[ScriptLine]) -> Result<(), NoMemory>
     requires names { HaveTextNames lines.now }
-    requires empty { draft.old ≡ record { past = []; conf = []; others = [] } }
+    requires empty { draft.old
+        ≡ record { past = []; conf = []; filed = record { moment = 0; files = [] } } }
     ensures { OnOk result (draft.new ≡ record {
       past = edition_of lines.now ∷ [];
       conf = conf_of lines.now;
-      others = files_of lines.now;
+      filed = filed_by lines.now;
     }) }
 {
     for line in lines {
@@ -86,7 +87,7 @@ fn take_lines(
 ) -> Result<(), NoMemory>
     requires names { HaveTextNames lines.now }
     requires conf { draft.old.conf ≡ conf_of opening.now }
-    requires others { draft.old.others ≡ files_of opening.now }
+    requires filed { draft.old.filed ≡ filed_by opening.now }
     ensures { OnOk result
         (draft.new.past ≡ draft.old.past ++ editions_behind opening.now lines.now) }
 {
@@ -100,12 +101,11 @@ fn take_lines(
 fn take_line(draft: &mut Draft, line: &ScriptLine) -> Result<(), NoMemory>
     requires { HasTextName line.now }
     ensures past { OnOk result (draft.new.past ≡ (if is_graceful line.now
-        then draft.old.past ++ (conf_file draft.old.conf ∷ draft.old.others) ∷ []
+        then draft.old.past ++ (conf_file draft.old.conf ∷ draft.old.filed.files) ∷ []
         else draft.old.past)) }
     ensures conf { OnOk result
         (draft.new.conf ≡ fold conf_after draft.old.conf (site_in line.now)) }
-    ensures others { OnOk result
-        (draft.new.others ≡ fold files_after draft.old.others (site_in line.now)) }
+    ensures filed { OnOk result (draft.new.filed ≡ after_line draft.old.filed line.now) }
 {
     if is_graceful(line) {
         return draft.end();
@@ -113,16 +113,20 @@ fn take_line(draft: &mut Draft, line: &ScriptLine) -> Result<(), NoMemory>
     change(draft, line)
 }
 
-/// What the line does to the site happens.
+/// What the line does to the site and to the moment happens.
 fn change(draft: &mut Draft, line: &ScriptLine) -> Result<(), NoMemory>
     requires { HasTextName line.now }
     ensures { OnOk result (draft.new ≡ record draft.old {
       conf = fold conf_after draft.old.conf (site_in line.now);
-      others = fold files_after draft.old.others (site_in line.now);
+      filed = after_line draft.old.filed line.now;
     }) }
 {
     match line {
         ScriptLine::Site(site) => draft.change(site),
+        ScriptLine::At(moment) => {
+            draft.go_to(*moment);
+            Ok(())
+        }
         _ => Ok(()),
     }
 }

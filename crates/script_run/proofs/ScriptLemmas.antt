@@ -1,7 +1,7 @@
 -- Which script is played, and why one isn't.
 use Rattle.run_opening.proofs.FileLemmas.{has_file, too_large}
 use Rattle.std.proofs.Common.{◌≡◌, inl, inr, ℕ, List, Option, None, Some, IfSome, IsSome, Result, Ok, Err, refl, sym, subst, ◌⊎◌, IsNone, arith}
-use Rattle.mpm_base.specs.Store.{ReadsFile}
+use Rattle.mpm_base.specs.Store.{ReadsBytes}
 use Rattle.mpm_base.specs.declared.store.StoreFault.{StoreFault}
 use Rattle.mpm_base.specs.declared.store.StoreFault.TheVariants as store
 use Rattle.mpm_base.specs.declared.script_line.ScriptLine.{ScriptLine}
@@ -35,7 +35,7 @@ use Rattle.run_opening.specs.Refusals.{EndsSilently}
 
 -- those of a script that was read
 pub reads-script : (call : Call) (name bytes : List ℕ) (lines : List ScriptLine) (answer : Result (List ℕ) StoreFault) → IsScriptWords call.words name
-    → ReadsFile call.store call.store' name most_script answer → answer ≡ Ok bytes → ScriptIs bytes (Ok lines) → PlaysLines call lines
+    → ReadsBytes call.store call.store' name most_script answer → answer ≡ Ok bytes → ScriptIs bytes (Ok lines) → PlaysLines call lines
 reads-script call name bytes lines answer command reads is script =
     inl (record {
       name = name;
@@ -109,7 +109,7 @@ unsited call lines plays refusal = record {
 
 -- at a line
 pub at-line : (call : Call) (name bytes : List ℕ) (fault : ScriptFault) (answer : Result (List ℕ) StoreFault) → IsScriptWords call.words name
-    → ReadsFile call.store call.store' name most_script answer → answer ≡ Ok bytes → ScriptIs bytes (Err fault)
+    → ReadsBytes call.store call.store' name most_script answer → answer ≡ Ok bytes → ScriptIs bytes (Err fault)
     → IsRefusalOf call.sink call.sink' fault call.shown → EndsRefused call
 at-line call name bytes fault answer command reads is script refusal =
     inr (record {
@@ -126,7 +126,7 @@ at-line call name bytes fault answer command reads is script refusal =
 
 -- for its size
 pub refused-large : (call : Call) (name : List ℕ) (size : ℕ) (answer : Result (List ℕ) StoreFault) → IsScriptWords call.words name
-    → ReadsFile call.store call.store' name most_script answer → answer ≡ Err (store.Large size)
+    → ReadsBytes call.store call.store' name most_script answer → answer ≡ Err (store.Large size)
     → RefusesRun call.sink call.sink' (Some 0) (script_refused 0 BadLine) call.shown → EndsRefused call
 refused-large call name size answer command reads is refused =
     inl (record {

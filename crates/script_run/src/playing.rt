@@ -1,5 +1,5 @@
 //! The run of a script: `--script FILE`, and `--load N`.
-ghost use Rattle.std.specs.Prelude.{◌≡◌, ◌≤◌, ◌⊎◌, ℕ, List, false, None, IfSome, IsSome, IsNone};
+ghost use Rattle.std.specs.Prelude.{◌≡◌, ◌≤◌, ◌⊎◌, ℕ, List, false, None, Ok, Err, IfSome, IsSome, IsNone, MatchResult};
 ghost use Rattle.command_words.specs.Invocations.{IsLoadWords, IsScriptWords};
 ghost use Rattle.file_table.specs.Load.{is_store_fault};
 ghost use Rattle.mpm_base.specs.Store.{StoreSeen};
@@ -18,7 +18,7 @@ use crate::scripted::Scripted;
 use file_table::LoadFault;
 use listener::{OpenFault, ServedRun, run_server};
 use listener_round::{LoadedEdition, NamedConfig, head_limits_of};
-use mpm_base::{Gate, NoMemory, Octets, Sink, Store, StoreFault};
+use mpm_base::{Content, Gate, NoMemory, Octets, Sink, Store, StoreFault};
 use mpm_config::Config;
 use mpm_script::{Script, ScriptFault, load_script, read_script};
 use restart_control::{MOST_CONFIG, load_site};
@@ -53,7 +53,7 @@ pub fn run_script<R: Wait, D: Store, G: Gate, K: Sink>(
         (K.seen out.old) (K.seen out.new) result.shown)
         result.status result.left }
 {
-    let bytes = match store.read(alloc, name, MOST_SCRIPT) {
+    let bytes = match store.read_bytes(alloc, name, MOST_SCRIPT) {
         Ok(bytes) => bytes,
         Err(StoreFault::Missing) => return refuse_unread(alloc, name.as_bytes(), Some(0), out),
         Err(StoreFault::Failed) => return refuse_unread(alloc, name.as_bytes(), None, out),
@@ -236,7 +236,22 @@ fn script_config(
 {
     editions_have_a_configuration();
     let answer = store.read(alloc, CONF_NAME, MOST_CONFIG);
-    config_from(alloc, answer)
+    config_from(alloc, bytes_alone(answer))
+}
+
+/// The bytes of what was read.
+fn bytes_alone(answer: Result<Content, StoreFault>) -> Result<Octets, StoreFault>
+    ensures { MatchResult answer
+        (λ content. result ≡ Ok content.bytes)
+        (λ fault. result ≡ Err fault) }
+{
+    match answer {
+        Ok(content) => {
+            let Content { bytes, second: _ } = content;
+            Ok(bytes)
+        }
+        Err(fault) => Err(fault),
+    }
 }
 
 /// Plays the script by the configuration and the edition, over its store, which has its editions, and writes the warnings and the report.

@@ -3,7 +3,7 @@ use Rattle.run_opening.proofs.ConfigLemmas.{RefusesText, RefusesSize, from-refus
 use Rattle.std.proofs.Common.{◌≡◌, inl, inr, ℕ, ◌⊎◌, ◌++◌, Bool, List, None, Some, option_map, Result, Ok, Err, refl, ap, subst, ◌∙◌, arith}
 use Rattle.mpm_base.specs.CommandWord.{command_word}
 use Rattle.mpm_base.specs.Front.{Dials, FrontSeen}
-use Rattle.mpm_base.specs.Store.{ReadsFile}
+use Rattle.mpm_base.specs.Store.{ReadsBytes}
 use Rattle.mpm_base.specs.declared.script_line.CommandWord.{CommandWord}
 use Rattle.mpm_base.specs.declared.store.StoreFault.{StoreFault}
 use Rattle.mpm_config.specs.Config.{Configuration}
@@ -26,7 +26,7 @@ use Rattle.server_run.proofs.InvocationLemmas.{config-file}
 
 -- it is refused
 refuses-named : (call : Call) (name : List ℕ) (answer : Result (List ℕ) StoreFault) (why : ConfigRefusal) (number : ℕ) → NamesConfig call.words name
-    → ReadsFile call.store call.store' name most_config answer → RefusesText answer why number ⊎ RefusesSize answer why number
+    → ReadsBytes call.store call.store' name most_config answer → RefusesText answer why number ⊎ RefusesSize answer why number
     → RefusesRun call.sink call.sink' (Some number) (config_refused number why) call.shown → EndsFileRefused call
 refuses-named call name answer why number command reads (inl refuses) refused =
     let has = has_file most_config call call.store' name refuses.text answer reads refl refuses.is in
@@ -56,7 +56,7 @@ refuses-named call name answer why number command reads (inr refuses) refused =
 
 -- with exit status 1
 pub config-refused : (call : Call) (name : List ℕ) (answer : Result (List ℕ) StoreFault) (why : NoConfig) (status : ℕ) → NamesConfig call.words name
-    → ReadsFile call.store call.store' name most_config answer → IsConfigFrom answer (Err why)
+    → ReadsBytes call.store call.store' name most_config answer → IsConfigFrom answer (Err why)
     → RefusesConfigOf call.sink call.sink' name why status call.shown → status ≡ 1 → EndsFileRefused call
 config-refused call name answer (no.Refused why number) status command reads is refused one =
     refuses-named call name answer why number command reads (from-refused answer why number is) refused.1
@@ -66,7 +66,7 @@ config-refused call name answer no.NoMemory status command reads is refused one 
 
 -- or it can't be read, with exit status 3
 pub config-unread : (call : Call) (name : List ℕ) (answer : Result (List ℕ) StoreFault) (why : NoConfig) (status : ℕ) → NamesConfig call.words name
-    → ReadsFile call.store call.store' name most_config answer → IsConfigFrom answer (Err why)
+    → ReadsBytes call.store call.store' name most_config answer → IsConfigFrom answer (Err why)
     → RefusesConfigOf call.sink call.sink' name why status call.shown → status ≡ 3 → EndsUnread call
 config-unread call name answer (no.Refused why number) status command reads is refused three = absurd (omega (arith, refused.0, three))
 config-unread call name answer no.Missing status command reads is refused three =
@@ -87,7 +87,7 @@ config-unread call name answer no.NoMemory status command reads is refused three
 
 -- a configuration was tested that is accepted, and that was written
 pub ends-tested : (call : Call) (name : List ℕ) (answer : Result (List ℕ) StoreFault) (conf : Configuration × List ℕ) → IsTestWords call.words name
-    → ReadsFile call.store call.store' name most_config answer → IsConfigFrom answer (Ok conf) → call.shown ≡ None
+    → ReadsBytes call.store call.store' name most_config answer → IsConfigFrom answer (Ok conf) → call.shown ≡ None
     → call.sink'.told ≡ option_map (λ written. written ++ (conf.1 ++ syntax_ok)) call.sink.told → EndsTested call
 ends-tested call name answer conf command reads is shows text = record {
   name = name;
@@ -100,7 +100,7 @@ ends-tested call name answer conf command reads is shows text = record {
 
 -- or it was not written whole
 pub ends-test-unwritten : (call : Call) (name : List ℕ) (answer : Result (List ℕ) StoreFault) (conf : Configuration × List ℕ) → IsTestWords call.words name
-    → ReadsFile call.store call.store' name most_config answer → IsConfigFrom answer (Ok conf) → call.shown ≡ None
+    → ReadsBytes call.store call.store' name most_config answer → IsConfigFrom answer (Ok conf) → call.shown ≡ None
     → LeavesUnwritten call.sink call.sink' (conf.1 ++ syntax_ok) → EndsTestUnwritten call
 ends-test-unwritten call name answer conf command reads is shows unwritten = record {
   name = name;
@@ -115,7 +115,7 @@ ends-test-unwritten call name answer conf command reads is shows unwritten = rec
 
 -- the command was to be sent to this port
 sends : (call : Call) (word : CommandWord) (name : List ℕ) (port : ℕ) (answer : Result (List ℕ) StoreFault) (conf : Configuration × List ℕ)
-    → IsSendWords call.words word name → ReadsFile call.store call.store' name most_config answer → IsConfigFrom answer (Ok conf)
+    → IsSendWords call.words word name → ReadsBytes call.store call.store' name most_config answer → IsConfigFrom answer (Ok conf)
     → conf.0.control ≡ Some port → call.shown ≡ None → Sends call word port
 sends call word name port answer conf command reads is control shows = record {
   name = name;
@@ -129,7 +129,7 @@ sends call word name port answer conf command reads is control shows = record {
 -- and the front dialled it
 pub has-dialled : (call : Call) (word : CommandWord) (name : List ℕ) (port : ℕ) (answer : Result (List ℕ) StoreFault) (conf : Configuration × List ℕ)
     (f f' : FrontSeen) (spelled : List ℕ) (taken : Bool) (text : List ℕ) → IsSendWords call.words word name
-    → ReadsFile call.store call.store' name most_config answer → IsConfigFrom answer (Ok conf) → conf.0.control ≡ Some port → call.shown ≡ None
+    → ReadsBytes call.store call.store' name most_config answer → IsConfigFrom answer (Ok conf) → conf.0.control ≡ Some port → call.shown ≡ None
     → spelled ≡ command_word word → Dials f f' port spelled taken text → HasDialled call f f' taken text
 has-dialled call word name port answer conf f f' spelled taken text command reads is control shows spells dials = record {
   word = word;
@@ -140,7 +140,7 @@ has-dialled call word name port answer conf f f' spelled taken text command read
 
 -- there is none
 pub ends-uncontrolled : (call : Call) (word : CommandWord) (name : List ℕ) (answer : Result (List ℕ) StoreFault) (conf : Configuration × List ℕ)
-    → IsSendWords call.words word name → ReadsFile call.store call.store' name most_config answer → IsConfigFrom answer (Ok conf)
+    → IsSendWords call.words word name → ReadsBytes call.store call.store' name most_config answer → IsConfigFrom answer (Ok conf)
     → conf.0.control ≡ None → RefusesRun call.sink call.sink' None no_control_line call.shown → EndsUncontrolled call
 ends-uncontrolled call word name answer conf command reads is control refused = record {
   word = word;

@@ -4,7 +4,7 @@ use Rattle.std.proofs.Common.{◌≡◌, ◌∙◌, ◌⊎◌, ◌++◌, inl, in
 use Rattle.mpm_base.specs.Count.{NeverFalls}
 use Rattle.mpm_base.specs.Front.{Binds, FrontSeen}
 use Rattle.mpm_base.specs.Sink.{SinkSeen}
-use Rattle.mpm_base.specs.Store.{ReadsFile, StoreSeen, StoreTold, answers_with, is_failure, is_refusal}
+use Rattle.mpm_base.specs.Store.{ReadsBytes, StoreSeen, StoreTold, answers_with, is_failure, is_refusal}
 use Rattle.mpm_base.specs.declared.store.File.{File}
 use Rattle.mpm_base.specs.declared.store.StoreFault.{StoreFault}
 use Rattle.mpm_config.specs.Config.{Configuration}
@@ -86,7 +86,7 @@ pub record IsAskedOnly (old new : StoreSeen) : Type 0 where
   pub told : new.told ≡ old.told
   pub faults : NeverFalls old.counts.faults new.counts.faults
 
-pub asked-only : (old read loaded : StoreSeen) (name : List ℕ) (answer : Result (List ℕ) StoreFault) (site : SeenSite) → ReadsFile old read name most_config answer
+pub asked-only : (old read loaded : StoreSeen) (name : List ℕ) (answer : Result (List ℕ) StoreFault) (site : SeenSite) → ReadsBytes old read name most_config answer
     → LeavesStore {T = SeenSite} read loaded (Ok site) → IsAskedOnly old loaded
 asked-only old read loaded name answer site reads leaves =
     let stays = where-stays (answers_with is_failure answer) old.counts.faults read.counts.faults reads.counted.faults in
@@ -175,7 +175,7 @@ unbound None call name c site f f' ready kept refused =
 
 -- a call of the store failed
 pub folder-unread : (call : Call) (read : StoreSeen) (name : List ℕ) (c : Configuration) (e : LoadFault) (answer : Result (List ℕ) StoreFault) (status : ℕ)
-    → IsServeWords call.words name → HasConfigAccepted call name c → ReadsFile call.store read name most_config answer
+    → IsServeWords call.words name → HasConfigAccepted call name c → ReadsBytes call.store read name most_config answer
     → LeavesStore {T = SeenSite} read call.store' (Err e) → RefusesFolder call.sink call.sink' c e status call.shown → status ≡ 3 → EndsUnread call
 folder-unread call read name c fault.StoreFault answer status command accepted reads leaves refused three =
     let stays = where-stays (answers_with is_failure answer) call.store.counts.faults read.counts.faults reads.counted.faults in
@@ -202,7 +202,7 @@ lacks-site (Some t) told' c e name same means may =
 
 -- the folder has too many files, or one is too large
 pub folder-refused : (call : Call) (read : StoreSeen) (name : List ℕ) (c : Configuration) (e : LoadFault) (answer : Result (List ℕ) StoreFault) (status : ℕ)
-    → IsServeWords call.words name → HasConfigAccepted call name c → ReadsFile call.store read name most_config answer
+    → IsServeWords call.words name → HasConfigAccepted call name c → ReadsBytes call.store read name most_config answer
     → LeavesStore {T = SeenSite} read call.store' (Err e) → IfSome read.told (λ t. MayLoad (order_of c) t.files (Err e))
     → RefusesFolder call.sink call.sink' c e status call.shown → status ≡ 9 → EndsServedSiteRefused call
 folder-refused call read name c fault.StoreFault answer status command accepted reads leaves may refused nine = absurd (omega (arith, refused.0, nine))

@@ -32,7 +32,7 @@ pub fn send_command<D: Store, F: Front, K: Sink>(
         (K.seen out.old) (K.seen out.new) result.shown)
         (F.seen front.old) (F.seen front.new) result.status }
 {
-    let answer = store.read(alloc, name, MOST_CONFIG);
+    let answer = store.read_bytes(alloc, name, MOST_CONFIG);
     let config = match config_from(alloc, answer) {
         Ok((config, _)) => config,
         Err(why) => return refuse_config_of(alloc, name, why, out),

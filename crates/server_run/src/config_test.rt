@@ -26,7 +26,7 @@ pub fn test_config<D: Store, K: Sink>(
         (K.seen out.old) (K.seen out.new) result.shown)
         result.status }
 {
-    let answer = store.read(alloc, name, MOST_CONFIG);
+    let answer = store.read_bytes(alloc, name, MOST_CONFIG);
     match config_from(alloc, answer) {
         Ok((_, told)) => pass(told, out),
         Err(why) => refuse_config_of(alloc, name, why, out),

@@ -57,7 +57,7 @@ pub fn serve_file<R: Wait, D: Store, F: Front, C: Clock, G: Gate, K: Sink>(
     ensures asked { AsksOnce (F.seen front.old).counts.wakes (F.seen front.new).counts.wakes
         (C.asked clock.old) (C.asked clock.new) }
 {
-    let answer = store.read(alloc, name, MOST_CONFIG);
+    let answer = store.read_bytes(alloc, name, MOST_CONFIG);
     let (config, told) = match config_from(alloc, answer) {
         Ok(read) => read,
         Err(why) => return refuse_config_of(alloc, name, why, out),

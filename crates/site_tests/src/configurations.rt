@@ -1,4 +1,5 @@
 //! Configurations by example.
+use crate::configured_types::{show_marks, show_types};
 use mpm_base::{NoMemory, Octets};
 use mpm_config::{
     Config, HostConf, Warning, Warnings, carry_limits, read_config, shape_of, warning_text,
@@ -55,6 +56,8 @@ fn show_config(
         "shape" => println!(sheet; "{:?}", shape_of(config)),
         "values" => show_values(sheet, config),
         "hosts" => show_hosts(sheet, config),
+        "marks" => show_marks(sheet, config),
+        "media" => show_types(sheet, &config.types),
         "warnings" => return show_warnings(sheet, alloc, warnings),
         _ => sheet.println("accepted"),
     }

@@ -2,11 +2,12 @@
 ghost use Rattle.std.specs.Prelude.{IfOk, IsUtf8, None};
 ghost use Rattle.file_table.specs.Site.{IsLoadable};
 
-use crate::loads::{named, show_load, sized};
+use crate::loads::{empty, named, show_load, sized};
 use crate::paths::show_found_for;
 use failing_stand_ins::MemStore;
-use file_table::{HostOrder, HostOrders, LoadFault, Site, SiteOrder, load};
-use mpm_base::{Names, NoMemory, Octets, Store, StoreFault};
+use file_table::{HostOrder, HostOrders, LoadFault, Marks, Site, SiteOrder, load};
+use media_types::MediaTypes;
+use mpm_base::{Content, Names, NoMemory, Octets, Store, StoreFault};
 use name_hosts::{HostList, HostNames, choose, host_part};
 use stand_ins::{Calls, Files};
 use std::alloc::Global;
@@ -77,6 +78,11 @@ fn three_hosts(alloc: Global, first: &str, second: &str, third: &str) -> Result<
     Ok(SiteOrder {
         hosts,
         status: true,
+        marks: Marks {
+            tags: false,
+            times: false,
+        },
+        types: MediaTypes::usual(alloc),
     })
 }
 
@@ -157,8 +163,8 @@ impl Store for CrowdedFolder {
         Err(StoreFault::Many)
     }
 
-    fn read(&mut self, alloc: Global, _: &str, _: u64) -> Result<Octets, StoreFault> {
-        Ok(Octets::make(alloc))
+    fn read(&mut self, alloc: Global, _: &str, _: u64) -> Result<Content, StoreFault> {
+        Ok(empty(alloc))
     }
 }
 

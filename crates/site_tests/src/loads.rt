@@ -3,7 +3,7 @@ ghost use Rattle.std.specs.Prelude.{None};
 
 use failing_stand_ins::MemStore;
 use file_table::{LoadFault, Site, SiteOrder, load};
-use mpm_base::{Names, NoMemory, Octets, Store, StoreFault};
+use mpm_base::{Content, Names, NoMemory, Octets, Second, Store, StoreFault};
 use stand_ins::{Calls, Files};
 use std::alloc::Global;
 use test_rows::{Sheet, number_of};
@@ -135,6 +135,14 @@ fn add_large(alloc: Global, files: &mut Files, part: &str) -> Result<(), NoMemor
     files.set(name, bytes.as_slice())
 }
 
+/// An empty file, which was changed in the second 0.
+pub fn empty(alloc: Global) -> Content {
+    Content {
+        bytes: Octets::make(alloc),
+        second: Second::of(0),
+    }
+}
+
 /// A store of 65,537 files, which tells nothing and can't give their names. All are empty.
 #[derive(Drop)]
 pub struct CrowdedStore {
@@ -169,8 +177,8 @@ impl Store for CrowdedStore {
         Err(StoreFault::Many)
     }
 
-    fn read(&mut self, alloc: Global, _: &str, _: u64) -> Result<Octets, StoreFault> {
-        Ok(Octets::make(alloc))
+    fn read(&mut self, alloc: Global, _: &str, _: u64) -> Result<Content, StoreFault> {
+        Ok(empty(alloc))
     }
 }
 

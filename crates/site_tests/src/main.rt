@@ -5,12 +5,15 @@
 //! In the input a line that begins with `== ` begins a section: the word behind it says what its rows are, and the rest is its title.
 //! In a row of a configuration or a script `|` stands for a line feed.
 //!
-//! - `numbers`, `corrected`, `shape`, `values`, `hosts`, `warnings`: configurations, and what of each is shown where it isn't refused.
+//! - `numbers`, `corrected`, `shape`, `values`, `hosts`, `marks`, `media`, `warnings`: configurations, and what of each is shown where it
+//!   isn't refused.
 //! - `bytes`: configurations, as the numbers of their bytes. `long`: directives, and how many bytes the name behind each has.
 //! - `restart`: configurations and, behind ` => `, the ones that follow them.
 //! - `script`: scripts, whose configuration is shown as it is first and later.
 //! - `paths`: names of files up to a row `--`, and paths that are asked of the site of these files, each of which has its name as its
 //!   bytes. `calls`: such names, and calls of the store that fail. `types`: such names, whose content types are shown.
+//! - `again`: files, each with the second in which it was changed and with its bytes, up to a row `--`, and those of a site that
+//!   follows, whose tags and seconds are shown.
 //! - `choices`: hosts, a row each with its names (`-` for none), up to a row `--`, and values of a Host, each of which is shown without
 //!   its port, with the number of the host that it chooses. `host-paths`: a row of three hosts with `|` between
 //!   them, each a root and an index, whole names of files up to a row `--`, and paths, each behind the number of a host. `host-sizes`:
@@ -26,8 +29,10 @@
 //! otherwise.
 #![tactic(auto)]
 
+mod again;
 mod command_lines;
 mod configurations;
+mod configured_types;
 mod hosts;
 mod loads;
 mod paths;
@@ -67,6 +72,10 @@ fn show_section(sheet: &mut Sheet, alloc: Global, section: Section<'_>) -> Resul
         "script" => scripts::show_scripts(sheet, alloc, rows),
         "paths" => paths::show_paths(sheet, alloc, rows),
         "types" => paths::show_types(sheet, alloc, rows),
+        "again" => {
+            again::show_again(sheet, alloc, rows);
+            Ok(())
+        }
         "choices" => hosts::show_choices(sheet, alloc, rows),
         "host-paths" => hosts::show_host_paths(sheet, alloc, rows),
         "host-sizes" => hosts::show_host_sizes(sheet, alloc, rows),

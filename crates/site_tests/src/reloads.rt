@@ -1,5 +1,5 @@
 //! Restarts by example.
-use crate::loads::{CrowdedStore, failing, named, show_too_large, show_too_many, sized};
+use crate::loads::{CrowdedStore, failing, named, show_too_large, show_too_many, site_of, sized};
 use failing_stand_ins::MemStore;
 use file_table::LoadFault;
 use mpm_base::{NoMemory, Store};
@@ -42,10 +42,15 @@ fn show_reload<D: Store>(sheet: &mut Sheet, alloc: Global, store: &mut D, config
     }
 }
 
-/// Shows what a server makes of the store that runs by the configuration, which was read.
+/// Shows what a server without files makes of the store that runs by the configuration, which was read.
 fn show_behind<D: Store>(sheet: &mut Sheet, alloc: Global, store: &mut D, old: &Config) {
-    let answer = reload(alloc, store, CONF_NAME, old);
-    show_answer(sheet, &answer);
+    match site_of(alloc, Files::make(alloc), Calls::make(alloc)) {
+        Ok(site) => {
+            let answer = reload(alloc, store, CONF_NAME, old, &site);
+            show_answer(sheet, &answer);
+        }
+        Err(fault) => println!(sheet; "{fault:?}"),
+    }
 }
 
 /// Shows the plan, or why there is none.

@@ -45,7 +45,7 @@ fn show_renewed(sheet: &mut Sheet, alloc: Global, store: &mut PlainStore, renewa
     for _ in 0..renewals {
         store.renew();
     }
-    match store.read(alloc, "httpd.conf", 1_048_576) {
+    match store.read_bytes(alloc, "httpd.conf", 1_048_576) {
         Ok(bytes) => sheet.bytes("", bytes.as_slice()),
         Err(fault) => print!(sheet; " {fault:?}"),
     }

@@ -5,6 +5,7 @@ use Rattle.std.specs.Option.{is_some}
 use Rattle.std.proofs.lemmas.List.{length-map}
 use Rattle.std.proofs.lemmas.List.Sums.{length-filter}
 use Rattle.std.proofs.lemmas.List.Elements.{All-filter, All-map, filter_passes}
+use Rattle.mpm_base.specs.declared.store.Content.{Content}
 use Rattle.mpm_base.specs.declared.store.File.{File}
 use Rattle.mpm_base.specs.Store.{lies_under, names_under}
 use Rattle.stand_ins.specs.declared.slot.Slot.{Slot}
@@ -24,8 +25,8 @@ first-name : (listed : Bool) (slot : Slot) (slots : List Slot)
 first-name true slot slots = refl
 first-name false slot slots = refl
 
-first-listed : (folder own : List ℕ) (bytes : Option (List ℕ)) (files : List File)
-    → cond (is_some bytes && lies_under folder own) (own ∷ names_under folder files) (names_under folder files) ≡ names_under folder (file_ahead own bytes files)
+first-listed : (folder own : List ℕ) (content : Option Content) (files : List File)
+    → cond (is_some content && lies_under folder own) (own ∷ names_under folder files) (names_under folder files) ≡ names_under folder (file_ahead own content files)
 first-listed folder own None files = refl
 first-listed folder own (Some b) files = refl
 
@@ -35,7 +36,7 @@ names_in-is folder [] = refl
 names_in-is folder (slot ∷ slots) =
     first-name (is_listed folder slot) slot (filter (is_listed folder) slots)
     ∙ ap (λ names. cond (is_listed folder slot) (slot.name ∷ names) names) (names_in-is folder slots)
-    ∙ first-listed folder slot.name slot.bytes (files_in slots)
+    ∙ first-listed folder slot.name slot.content (files_in slots)
 
 -- as many as there are places at which one is listed
 pub length-listed : (folder : List ℕ) (slots : List Slot) → length (names_under folder (files_in slots)) ≡ count_by (is_listed folder) slots

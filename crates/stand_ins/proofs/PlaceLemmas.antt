@@ -9,6 +9,7 @@ use Rattle.std.proofs.lemmas.Cmp.{nat_list_eq_equiv}
 use Rattle.std.proofs.lemmas.List.{get_or_default}
 use Rattle.std.proofs.lemmas.List.Elements.{All-get_or, All-push, All-set}
 use Rattle.std.proofs.lemmas.Slice.Eq.{bytes_eq-Decides}
+use Rattle.mpm_base.specs.declared.store.Content.{Content}
 use Rattle.stand_ins.specs.declared.slot.Slot.{Slot}
 use Rattle.stand_ins.specs.FilesInside.{AreFound, FindsSlots, HasNone, IsOnlyAt, gone, has_name, slot_at}
 
@@ -74,11 +75,11 @@ found-set places slots i slot slot' all within is same kept =
       texts = All-set P slots i slot' (subst IsUtf8 (sym same) (subst P (sym is) (All-get_or P slots i slot within all.texts))) all.texts;
     }
 
--- where a file is, its bytes may change, or go
-pub kept-set : (slot : Slot) (bytes : List ℕ) → is_some slot.bytes ≡ true → (name : List ℕ) → has_name name (record slot { bytes = Some bytes }) ≡ true → has_name name slot ≡ true
-kept-set slot bytes some name has = rw some has
+-- where a file is, what it has may change, or go
+pub kept-set : (slot : Slot) (content : Content) → is_some slot.content ≡ true → (name : List ℕ) → has_name name (record slot { content = Some content }) ≡ true → has_name name slot ≡ true
+kept-set slot content some name has = rw some has
 
-pub kept-gone : (slot : Slot) (name : List ℕ) → has_name name (record slot { bytes = None }) ≡ true → has_name name slot ≡ true
+pub kept-gone : (slot : Slot) (name : List ℕ) → has_name name (record slot { content = None }) ≡ true → has_name name slot ≡ true
 kept-gone slot name has = absurd (cc has)
 
 -- ## A file that is put at the end
@@ -112,7 +113,7 @@ finds-last old new slots slot finds none updates name k has = go (bytes_eq slot.
     go true is (inr old-has) =
         let one : slot.name ≡ name = (bytes_eq-Decides slot.name name).0 is in
         absurd (not_both (has_name name (slot_at slots k)) old-has (subst (λ n. has_name n (slot_at slots k) ≡ false) one (none k)))
-    go false is (inl both) = absurd (not_both (bytes_eq slot.name name) (second (is_some slot.bytes) (bytes_eq slot.name name) both.1) is)
+    go false is (inl both) = absurd (not_both (bytes_eq slot.name name) (second (is_some slot.content) (bytes_eq slot.name name) both.1) is)
     go false is (inr old-has) =
         others-kept _ _ _ _ updates.3 (λ key. bytes_eq name key.items) (λ x y. nat_list_eq_equiv.congr name x.items y.items) (λ key. apart slot.name name key.items is)
         ∙ finds name k old-has

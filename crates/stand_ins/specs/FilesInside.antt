@@ -4,8 +4,14 @@ use Rattle.std.specs.Option.{is_some}
 use Rattle.std.specs.Global.{Vec}
 use Rattle.std.specs.HashMap.{HashMap, get_by, spare}
 use Rattle.mpm_base.specs.Store.{lies_under}
+use Rattle.mpm_base.specs.declared.store.Content.{Content}
 use Rattle.mpm_base.specs.declared.store.File.{File}
 use Rattle.stand_ins.specs.declared.slot.Slot.{Slot}
+
+-- a file that is to be put among others: its name, and what it has
+pub record SeenEntry : Type 0 where
+  pub name : List ℕ
+  pub content : Content
 
 -- files, and for how many further ones there is room
 pub record SeenShelf : Type 0 where
@@ -23,14 +29,14 @@ pub record IsEntry (key name : List ℕ) : Type 0 where
 
 -- a place at which there is no file
 abbrev pub gone : Slot
-gone = record { name = []; bytes = None }
+gone = record { name = []; content = None }
 
 abbrev pub slot_at : List Slot → ℕ → Slot
 slot_at slots place = slice_index_or slots place gone
 
 -- there is a file of that name at the place
 abbrev pub has_name : List ℕ → Slot → Bool
-has_name name slot = is_some slot.bytes && bytes_eq slot.name name
+has_name name slot = is_some slot.content && bytes_eq slot.name name
 
 -- there is none at any place
 abbrev pub HasNone : List ℕ → List Slot → Type 0
@@ -57,7 +63,7 @@ pub record AreFound {S : Type 0} (places : HashMap (Vec ℕ) ℕ S) (slots : Lis
 
 -- there is a file at the place whose name lies below the folder
 abbrev pub is_listed : List ℕ → Slot → Bool
-is_listed folder slot = is_some slot.bytes && lies_under folder slot.name
+is_listed folder slot = is_some slot.content && lies_under folder slot.name
 
 -- the names of those files, in order
 abbrev pub names_in : List ℕ → List Slot → List (List ℕ)

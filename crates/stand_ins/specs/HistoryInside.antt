@@ -11,13 +11,13 @@ use Rattle.stand_ins.specs.declared.history.Step.TheVariants as step
 
 -- the files once the step was made
 abbrev pub after_step : List File → Step → List File
-after_step files (step.Set file) = with_file file.name file.bytes files
+after_step files (step.Set entry) = with_file entry.name entry.content files
 after_step files (step.Unset name) = without_file name files
 after_step files step.End = files
 
 -- an edition ends with the step
 abbrev pub is_end : Step → Bool
-is_end (step.Set file) = false
+is_end (step.Set entry) = false
 is_end (step.Unset name) = false
 is_end step.End = true
 

@@ -2,6 +2,7 @@
 use Rattle.std.specs.Prelude.{◌≡◌, ℕ, nat_lt, List, [], ◌∷◌, ◌++◌, length, Option, None, Some, Result, Ok, Err, IsOk, if◌then◌else◌}
 use Rattle.mpm_base.specs.Count.{next_count}
 use Rattle.mpm_base.specs.Store.{StoreTold, StoreCounts, is_refusal, is_failure, answers_with}
+use Rattle.mpm_base.specs.declared.store.Content.{Content}
 use Rattle.mpm_base.specs.declared.store.File.{File}
 use Rattle.mpm_base.specs.declared.store.StoreFault.{StoreFault}
 use Rattle.mpm_base.specs.declared.store.StoreFault.TheVariants as fault
@@ -23,11 +24,11 @@ only_files current = record { files = current; later = [] }
 abbrev pub with_edition : List File → StoreTold → StoreTold
 with_edition edition told = record told { later = told.later ++ edition ∷ [] }
 
--- what a read of at most so many bytes answers, with memory enough, of a file that has these bytes or isn't there
-abbrev pub file_answer : Option (List ℕ) → ℕ → Result (List ℕ) StoreFault
+-- what a read of at most so many bytes answers, with memory enough, of a file that has this or isn't there
+abbrev pub file_answer : Option Content → ℕ → Result Content StoreFault
 file_answer None most = Err fault.Missing
-file_answer (Some bytes) most =
-    if nat_lt most (length bytes) then Err (fault.Large (length bytes)) else Ok bytes
+file_answer (Some content) most =
+    if nat_lt most (length content.bytes) then Err (fault.Large (length content.bytes)) else Ok content
 
 -- what a listing of at most so many names answers, with memory enough, where these names are there
 abbrev pub names_answer : List (List ℕ) → ℕ → Result (List (List ℕ)) StoreFault

@@ -1,13 +1,13 @@
 //! A list of files by name.
 //! Why it is so stands in docs/DECISIONS.md: 1, The names of a store.
 ghost use Rattle.std.specs.Prelude.{◌≡◌, ◌≢◌, ℕ, Some, None, List, [], OnOk, OnErr, option_map};
-ghost use Rattle.mpm_base.specs.Store.{bytes_of};
+ghost use Rattle.mpm_base.specs.Store.{content_of};
 ghost use Rattle.stand_ins.specs.Files.{files_in, with_file, without_file};
 
 use crate::entry::Entry;
 use crate::shelf::Shelf;
 use crate::slot::Slot;
-use mpm_base::{NoMemory, Octets};
+use mpm_base::{Content, NoMemory, Second};
 use std::alloc::Global;
 use std::marker::Model;
 
@@ -39,19 +39,30 @@ impl Files {
         }
     }
 
-    /// Gives the file of that name these bytes, in its place, or puts it at the end where there is none.
+    /// Gives the file of that name these bytes, changed in the second 0, in its place, or puts it at the end where there is none.
     /// Where memory lacks nothing changes.
     pub fn set(&mut self, name: &str, bytes: &[u8]) -> Result<(), NoMemory>
-        ensures ok { OnOk result (self.new ≡ with_file name.now bytes.now self.old) }
+        ensures ok { OnOk result (self.new
+            ≡ with_file name.now (record { bytes = bytes.now; second = 0 }) self.old) }
+        ensures err { OnErr result (self.new ≡ self.old) }
+    {
+        self.set_at(name, bytes, Second::of(0))
+    }
+
+    /// The same, changed in that second.
+    pub fn set_at(&mut self, name: &str, bytes: &[u8], second: Second) -> Result<(), NoMemory>
+        ensures ok { OnOk result (self.new
+            ≡ with_file name.now (record { bytes = bytes.now; second = second }) self.old) }
         ensures err { OnErr result (self.new ≡ self.old) }
 
-        // So the file has these bytes now, and each other its own.
-        ensures found { OnOk result (bytes_of name.now self.new ≡ Some bytes.now) }
+        // So the file has this now, and each other its own.
+        ensures found { OnOk result (content_of name.now self.new
+            ≡ Some (record { bytes = bytes.now; second = second })) }
         ensures others { OnOk result
             ((other : List ℕ) → other ≢ name.now →
-            bytes_of other self.new ≡ bytes_of other self.old) }
+            content_of other self.new ≡ content_of other self.old) }
     {
-        let entry = Entry::of(self.alloc, name, bytes)?;
+        let entry = Entry::of(self.alloc, name, bytes, second)?;
         self.shelf.set(entry)
     }
 
@@ -59,17 +70,17 @@ impl Files {
     pub fn unset(&mut self, name: &str)
         ensures files { self.new ≡ without_file name.now self.old }
 
-        // So there is no such file now, and each other has its own bytes.
-        ensures missing { bytes_of name.now self.new ≡ None }
+        // So there is no such file now, and each other has its own.
+        ensures missing { content_of name.now self.new ≡ None }
         ensures others { (other : List ℕ) → other ≢ name.now →
-            bytes_of other self.new ≡ bytes_of other self.old }
+            content_of other self.new ≡ content_of other self.old }
     {
         self.shelf.unset(name.as_bytes());
     }
 
-    /// The bytes of the file of that name.
-    pub fn get(&self, name: &str) -> Option<&Octets>
-        ensures { option_map (λ bytes. bytes.now) result ≡ bytes_of name.now self.now }
+    /// What the file of that name has.
+    pub fn get(&self, name: &str) -> Option<&Content>
+        ensures { option_map (λ content. content.now) result ≡ content_of name.now self.now }
     {
         self.shelf.get(name.as_bytes())
     }

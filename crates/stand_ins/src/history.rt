@@ -5,7 +5,7 @@ ghost use Rattle.stand_ins.specs.History.{no_history};
 ghost use Rattle.stand_ins.specs.HistoryInside.{seen_history};
 
 use crate::entry::Entry;
-use mpm_base::{NoMemory, Octets};
+use mpm_base::{NoMemory, Octets, Second};
 use std::alloc::Global;
 use std::collections::VecDeque;
 use std::marker::Model;
@@ -13,7 +13,7 @@ use std::marker::Model;
 /// A step of a history.
 #[derive(Drop)]
 pub(crate) enum Step {
-    /// The file of that name has these bytes from now on.
+    /// The file of that name has this from now on.
     Set(Entry),
     /// There is no file of that name any more.
     Unset(Octets),
@@ -54,14 +54,15 @@ impl History {
         }
     }
 
-    /// Gives the file of that name these bytes, in its place, or puts it at the end where there is none.
+    /// Gives the file of that name these bytes, changed in that second, in its place, or puts it at the end where there is none.
     /// Where memory lacks nothing changes.
-    pub fn set(&mut self, name: &str, bytes: &[u8]) -> Result<(), NoMemory>
-        ensures ok { OnOk result (self.new
-            ≡ record self.old { files = with_file name.now bytes.now self.old.files }) }
+    pub fn set(&mut self, name: &str, bytes: &[u8], second: Second) -> Result<(), NoMemory>
+        ensures ok { OnOk result (self.new ≡ record self.old {
+          files = with_file name.now (record { bytes = bytes.now; second = second }) self.old.files;
+        }) }
         ensures err { OnErr result (self.new ≡ self.old) }
     {
-        let entry = Entry::of(self.alloc, name, bytes)?;
+        let entry = Entry::of(self.alloc, name, bytes, second)?;
         self.steps.push_back(Step::Set(entry))?;
         Ok(())
     }

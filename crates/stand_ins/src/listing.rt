@@ -1,32 +1,36 @@
 //! What files are listed, and what a file has.
 ghost use Rattle.std.specs.Prelude.{◌≡◌, count_by, All, IsUtf8, IfOk, true};
-ghost use Rattle.mpm_base.specs.Store.{bytes_of, lies_under, names_under};
+ghost use Rattle.mpm_base.specs.Store.{content_of, lies_under, names_under};
 ghost use Rattle.stand_ins.specs.FilesInside.{is_listed, names_in};
 ghost use Rattle.stand_ins.specs.PlainStore.{file_answer, names_answer, AnswersUnlessNoMemory};
 
 use crate::shelf::Shelf;
 use crate::slot::Slot;
-use mpm_base::{Names, NoMemory, Octets, StoreFault};
+use mpm_base::{Content, Names, NoMemory, Octets, StoreFault};
 use std::alloc::Global;
 
-/// The bytes of a file, at most so many.
+/// What a file has, of at most so many bytes.
 pub(crate) fn read_file(
     alloc: Global,
     shelf: &Shelf,
     name: &str,
     most: u64,
-) -> Result<Octets, StoreFault>
-    ensures { AnswersUnlessNoMemory result (file_answer (bytes_of name.now shelf.now.files) most) }
+) -> Result<Content, StoreFault>
+    ensures { AnswersUnlessNoMemory result
+        (file_answer (content_of name.now shelf.now.files) most) }
 {
-    let Some(bytes) = shelf.get(name.as_bytes()) else {
+    let Some(content) = shelf.get(name.as_bytes()) else {
         return Err(StoreFault::Missing);
     };
-    let size = bytes.len() as u64;
+    let size = content.bytes.len() as u64;
     if most < size {
         return Err(StoreFault::Large(size));
     }
-    match Octets::of(alloc, bytes.as_slice()) {
-        Ok(copy) => Ok(copy),
+    match Octets::of(alloc, content.bytes.as_slice()) {
+        Ok(bytes) => Ok(Content {
+            bytes,
+            second: content.second.copy(),
+        }),
         Err(NoMemory) => Err(StoreFault::NoMemory),
     }
 }

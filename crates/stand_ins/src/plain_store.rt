@@ -1,7 +1,7 @@
 //! A store in memory that never fails.
 //! Why it is so stands in docs/DECISIONS.md: 87, A script's store is the plain one.
 ghost use Rattle.std.specs.Prelude.{◌≡◌, Some, IfOk, OnOk, OnErr};
-ghost use Rattle.mpm_base.specs.Store.{Renews, ListsNames, ReadsFile, after_renew, bytes_of, names_under, is_refusal, answers_with, telling_store};
+ghost use Rattle.mpm_base.specs.Store.{Renews, ListsNames, ReadsFile, after_renew, content_of, names_under, is_refusal, answers_with, telling_store};
 ghost use Rattle.stand_ins.specs.History.{told_past};
 ghost use Rattle.stand_ins.specs.PlainStore.{no_store_counts, only_files, with_edition, file_answer, names_answer, AnswersUnlessNoMemory, count_answer};
 
@@ -9,7 +9,7 @@ use crate::editions::Editions;
 use crate::files::Files;
 use crate::history::History;
 use crate::listing::{list_names, read_file};
-use mpm_base::{Names, NoMemory, Octets, Store, StoreFault};
+use mpm_base::{Content, Names, NoMemory, Store, StoreFault};
 use std::alloc::Global;
 use std::marker::Model;
 
@@ -110,13 +110,13 @@ impl Store for PlainStore {
         answer
     }
 
-    /// Answers Missing where the file isn't there, Large where it has more bytes, and else its bytes or
+    /// Answers Missing where the file isn't there, Large where it has more bytes, and else what it has or
     /// NoMemory.
-    fn read(&mut self, alloc: Global, name: &str, most: u64) -> Result<Octets, StoreFault>
+    fn read(&mut self, alloc: Global, name: &str, most: u64) -> Result<Content, StoreFault>
         ensures store { ReadsFile (telling_store self.old.told self.old.counts)
             (telling_store self.new.told self.new.counts) name.now most result }
         ensures answer { AnswersUnlessNoMemory result
-            (file_answer (bytes_of name.now self.old.told.files) most) }
+            (file_answer (content_of name.now self.old.told.files) most) }
         ensures state { self.new
             ≡ record self.old { counts = count_answer result self.old.counts } }
     {

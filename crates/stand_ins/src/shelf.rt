@@ -1,13 +1,13 @@
 //! Files at places, and a map that finds them.
 //! Why it is so stands in docs/DECISIONS.md: 103, Files in memory, and their editions.
 ghost use Rattle.std.specs.Prelude.{◌≡◌, ℕ, ◌+◌, ◌<◌, ◌≤◌, [], ◌∷◌, ◌++◌, IfSome, IfNone, IfOk, IsOk, OnOk, OnErr, option_map};
-ghost use Rattle.mpm_base.specs.Store.{bytes_of};
+ghost use Rattle.mpm_base.specs.Store.{content_of};
 ghost use Rattle.stand_ins.specs.Files.{files_in, with_file, without_file};
 ghost use Rattle.stand_ins.specs.FilesInside.{AreFound, FindsSlots, HasNone, HaveTexts, IsEntry, IsOnlyAt, room_in};
 
 use crate::entry::Entry;
 use crate::slot::Slot;
-use mpm_base::{NoMemory, Octets};
+use mpm_base::{Content, NoMemory};
 use std::alloc::Global;
 use std::collections::HashMap;
 use std::marker::Model;
@@ -56,23 +56,23 @@ impl Shelf {
         Ok(Shelf { slots, places })
     }
 
-    /// Gives the file of that name these bytes, in its place, or puts it at the end where there is none.
+    /// Gives the file of that name what the entry has, in its place, or puts it at the end where there is none.
     /// Where memory lacks nothing changes. Where there is room it doesn't.
     pub(crate) fn set(&mut self, entry: Entry) -> Result<(), NoMemory>
         ensures ok { OnOk result
-            (self.new.files ≡ with_file entry.name entry.bytes self.old.files) }
+            (self.new.files ≡ with_file entry.name entry.content self.old.files) }
         ensures err { OnErr result (self.new.files ≡ self.old.files) }
         ensures succeeds { 0 < self.old.room → IsOk result }
         ensures room { self.old.room ≤ self.new.room + 1 }
     {
-        let Entry { key, name, bytes } = entry;
+        let Entry { key, name, content } = entry;
         if let Some(place) = place_of(&self.slots, &self.places, name.as_slice()) {
-            self.slots[place].fill(bytes);
+            self.slots[place].fill(content);
             return Ok(());
         }
         let slot = Slot {
             name,
-            bytes: Some(bytes),
+            content: Some(content),
         };
         put(&mut self.slots, &mut self.places, key, slot)
     }
@@ -87,9 +87,10 @@ impl Shelf {
         }
     }
 
-    /// The bytes of the file of that name.
-    pub(crate) fn get(&self, name: &[u8]) -> Option<&Octets>
-        ensures { option_map (λ bytes. bytes.now) result ≡ bytes_of name.now self.now.files }
+    /// What the file of that name has.
+    pub(crate) fn get(&self, name: &[u8]) -> Option<&Content>
+        ensures { option_map (λ content. content.now) result
+            ≡ content_of name.now self.now.files }
     {
         match place_of(&self.slots, &self.places, name) {
             Some(place) => self.slots[place].kept(),

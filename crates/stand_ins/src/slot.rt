@@ -3,13 +3,13 @@ ghost use Rattle.std.specs.Prelude.{◌≡◌, Some, None, option_map};
 ghost use Rattle.mpm_base.specs.Store.{lies_under};
 ghost use Rattle.stand_ins.specs.FilesInside.{has_name, is_listed};
 
-use mpm_base::Octets;
+use mpm_base::{Content, Octets};
 
-/// A place among files: the name of the file that was put there, and its bytes, until it is removed.
+/// A place among files: the name of the file that was put there, and what it has, until it is removed.
 #[derive(Drop)]
 pub struct Slot {
     pub name: Octets,
-    pub bytes: Option<Octets>,
+    pub content: Option<Content>,
 }
 
 impl Slot {
@@ -17,36 +17,36 @@ impl Slot {
     pub(crate) fn has_name(&self, name: &[u8]) -> bool
         ensures { result ≡ has_name name.now self.now }
     {
-        self.bytes.is_some() && self.name.as_slice() == name
+        self.content.is_some() && self.name.as_slice() == name
     }
 
     /// Whether there is a file whose name lies below a folder.
     pub(crate) fn is_listed(&self, folder: &str) -> bool
         ensures { result ≡ is_listed folder.now self.now }
     {
-        self.bytes.is_some() && is_under(self.name.as_slice(), folder)
+        self.content.is_some() && is_under(self.name.as_slice(), folder)
     }
 
-    /// The file has these bytes.
-    pub(crate) fn fill(&mut self, bytes: Octets)
-        ensures { self.new ≡ record self.old { bytes = Some bytes } }
+    /// The file has this.
+    pub(crate) fn fill(&mut self, content: Content)
+        ensures { self.new ≡ record self.old { content = Some content } }
     {
-        self.bytes = Some(bytes);
+        self.content = Some(content);
     }
 
     /// There is no file any more.
     pub(crate) fn empty(&mut self)
-        ensures { self.new ≡ record self.old { bytes = None } }
+        ensures { self.new ≡ record self.old { content = None } }
     {
-        self.bytes = None;
+        self.content = None;
     }
 
-    /// The bytes of the file, where there is one.
-    pub(crate) fn kept(&self) -> Option<&Octets>
-        ensures { option_map (λ bytes. bytes.now) result ≡ self.now.bytes }
+    /// What the file has, where there is one.
+    pub(crate) fn kept(&self) -> Option<&Content>
+        ensures { option_map (λ content. content.now) result ≡ self.now.content }
     {
-        match &self.bytes {
-            Some(bytes) => Some(bytes),
+        match &self.content {
+            Some(content) => Some(content),
             None => None,
         }
     }

@@ -1,3 +1,4 @@
+pub mod Changed
 pub mod Entry
 pub mod Fault
 pub mod Listing

@@ -8,11 +8,12 @@ ghost use Rattle.mpm_base.specs.declared.store.StoreFault.TheVariants as fault;
 ghost use Rattle.mpm_base.specs.Store.{MayRead, is_failure, is_refusal};
 ghost use Rattle.system_outside.specs.Fault.{fault_for, size_within};
 
+use crate::changed::second_told;
 use crate::fault::{check_file, fault_of};
 use crate::listing::list;
 use crate::operator::Operator;
 use crate::whole_file::{Reading, read_whole};
-use mpm_base::{Names, Octets, Store, StoreFault};
+use mpm_base::{Content, Names, Store, StoreFault};
 use std::alloc::Global;
 use std::fs::Metadata;
 use std::rt::Files;
@@ -76,9 +77,9 @@ impl<'a, R: Files + AllocGlobal + Eprint + Clone + Drop> Store for Folder<'a, R>
         }
     }
 
-    fn read(&mut self, alloc: Global, name: &str, most: u64) -> Result<Octets, StoreFault> {
+    fn read(&mut self, alloc: Global, name: &str, most: u64) -> Result<Content, StoreFault> {
         match read_file(self.rt, self.operator, alloc, name, &mut self.buffer, most) {
-            Ok(bytes) => Ok(bytes),
+            Ok(content) => Ok(content),
             Err(fault) => {
                 self.count(fault);
                 Err(fault)
@@ -87,7 +88,8 @@ impl<'a, R: Files + AllocGlobal + Eprint + Clone + Drop> Store for Folder<'a, R>
     }
 }
 
-/// The bytes of the file, at most so many. The operator hears why a file can't be read, but for its size and for want of memory.
+/// What the file has, of at most so many bytes. The operator hears why a file can't be read, but for its size and for want of memory. Its
+/// last change is that of the file that was opened, so that a file which another takes the place of meanwhile has its own.
 fn read_file<R: Files + Eprint>(
     rt: &R,
     operator: &Operator<'_, R>,
@@ -95,18 +97,22 @@ fn read_file<R: Files + Eprint>(
     name: &str,
     buffer: &mut Vec<u8>,
     most: u64,
-) -> Result<Octets, StoreFault>
+) -> Result<Content, StoreFault>
     ensures { MayRead None most result }
 {
     check_opening(operator, name, fs::metadata(rt, name), most)?;
     take_room(buffer)?;
     let file = found(operator, name, fs::open(rt, name))?;
+    let second = second_told(file.metadata());
     let mut reading = Reading::of(file);
     let answer = read_whole(alloc, &mut reading, buffer.as_mut_slice(), most);
     if let Some(error) = reading.error() {
         operator.hear_of_fault("read", name, error);
     }
-    answer
+    match answer {
+        Ok(bytes) => Ok(Content { bytes, second }),
+        Err(fault) => Err(fault),
+    }
 }
 
 /// Refuses to open what isn't a regular file of at most so many bytes, by what the system told of it just before. The operator hears why, but

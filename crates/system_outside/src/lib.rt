@@ -4,11 +4,13 @@
 //! `Folder`, `Output` and `OpenGate` keep the traits `Store`, `Sink` and `Gate` of `mpm_base`. They tell nothing: no clause says what a
 //! folder holds or an output takes. So each step from an answer of the system to one of a trait is a function of its own, and what it
 //! makes of that stands in `specs/`: which fault an error is (`Fault`), what an entry of a folder leads to (`Entry`), which fault of a
-//! listing comes of that (`Listing`), reading to the end (`WholeFile`), what a write took (`Output`), and the words (`Words`). No clause
+//! listing comes of that (`Listing`), reading to the end (`WholeFile`), when a file was changed (`Changed`), what a write took (`Output`),
+//! and the words (`Words`). No clause
 //! speaks of what `Operator` writes to standard error.
 //! Why it is so stands in docs/DECISIONS.md: 84, What the program takes of the system.
 #![tactic(auto)]
 
+mod changed;
 mod entry;
 mod fault;
 mod folder;
@@ -20,6 +22,7 @@ mod output;
 mod whole_file;
 mod words;
 
+pub use changed::{second_of, second_told};
 pub use entry::{EntryKind, entry_given, kind_behind, kind_in, own_kind};
 pub use fault::{check_file, fault_of};
 pub use folder::{Folder, check_opening};

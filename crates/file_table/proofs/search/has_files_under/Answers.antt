@@ -15,4 +15,4 @@ returns-then-place-files c =
 pub returns-else-place-files : goal.returns-else-place-files
 returns-else-place-files c =
     let none : nat_lt c.count_before-place.result (length c.args.files.now) ≡ false = grind (arith, nat_tests) in
-    none ∙ sym (no_front (λ (f : File). f.name) c.args.files.now c.requires (c.args.name.now ++ 47 ∷ []) c.count_before-place.result (record { name = []; bytes = [] }) (c.count_before-place.ensures c.requires) (λ l. absurd (omega (arith, l))))
+    none ∙ sym (no_front (λ (f : File). f.name) c.args.files.now c.requires (c.args.name.now ++ 47 ∷ []) c.count_before-place.result (record { name = []; bytes = []; second = 0 }) (c.count_before-place.ensures c.requires) (λ l. absurd (omega (arith, l))))

@@ -22,5 +22,5 @@ returns-else-place-files c =
           let other : (get_or c.args.files.now c.count_before-place.result file).name ≢ key = λ e. false≢true (sym w.if-is_made_of.false ∙ w.is_made_of.ensures ∙ (bytes_eq-Decides _ key).1 (w.as_slice.ensures ∙ e)) in
           sym (no_place (λ (f : File). f.name) c.args.files.now c.requires key c.count_before-place.result file (c.count_before-place.ensures c.requires) (λ l e. other e))
       | else-place-files-via-else-place-files w ↦
-          sym (no_place (λ (f : File). f.name) c.args.files.now c.requires key c.count_before-place.result (record { name = []; bytes = [] }) (c.count_before-place.ensures c.requires) (λ l. absurd (omega (arith, l))))
+          sym (no_place (λ (f : File). f.name) c.args.files.now c.requires key c.count_before-place.result (record { name = []; bytes = []; second = 0 }) (c.count_before-place.ensures c.requires) (λ l. absurd (omega (arith, l))))
     ]

@@ -16,7 +16,6 @@ returns-in-4 c fields found =
       expect_is = stays_as head (codes "expect") fields f c.args.found.expect 4 6 long refl (λ e. absurd (omega (arith, e))) found.expect_is;
       connection_is = stays_as head (codes "connection") fields f c.args.found.connection 4 10 long refl (λ e. absurd (omega (arith, e))) found.connection_is;
       range_is = stays_as head (codes "range") fields f c.args.found.range 4 5 long refl (λ e. absurd (omega (arith, e))) found.range_is;
-      if_range_is = stays_as head (codes "if-range") fields f c.args.found.if_range 4 8 long refl (λ e. absurd (omega (arith, e))) found.if_range_is;
     }
 
 pub returns-in-5 : goal.returns-in-5
@@ -31,7 +30,6 @@ returns-in-5 c fields found =
       expect_is = stays_as head (codes "expect") fields f c.args.found.expect 5 6 long refl (λ e. absurd (omega (arith, e))) found.expect_is;
       connection_is = stays_as head (codes "connection") fields f c.args.found.connection 5 10 long refl (λ e. absurd (omega (arith, e))) found.connection_is;
       range_is = c.add_value-found-in-5.ensures fields found.range_is;
-      if_range_is = stays_as head (codes "if-range") fields f c.args.found.if_range 5 8 long refl (λ e. absurd (omega (arith, e))) found.if_range_is;
     }
 
 pub returns-in-6 : goal.returns-in-6
@@ -46,22 +44,6 @@ returns-in-6 c fields found =
       expect_is = c.add_value-found-in-6.ensures fields found.expect_is;
       connection_is = stays_as head (codes "connection") fields f c.args.found.connection 6 10 long refl (λ e. absurd (omega (arith, e))) found.connection_is;
       range_is = stays_as head (codes "range") fields f c.args.found.range 6 5 long refl (λ e. absurd (omega (arith, e))) found.range_is;
-      if_range_is = stays_as head (codes "if-range") fields f c.args.found.if_range 6 8 long refl (λ e. absurd (omega (arith, e))) found.if_range_is;
-    }
-
-pub returns-in-8 : goal.returns-in-8
-returns-in-8 c fields found =
-    let head = c.args.head.now in
-    let f = header_bytes head c.args.header.now in
-    let long : length f.0 ≡ 8 = ap length (sym c.of.ensures) ∙ c.in-8.is in
-    record {
-      host_is = stays_as head (codes "host") fields f c.args.found.host 8 4 long refl (λ e. absurd (omega (arith, e))) found.host_is;
-      codings_are = stays_as head (codes "transfer-encoding") fields f c.args.found.codings 8 17 long refl (λ e. absurd (omega (arith, e))) found.codings_are;
-      lengths_are = stays_as head (codes "content-length") fields f c.args.found.lengths 8 14 long refl (λ e. absurd (omega (arith, e))) found.lengths_are;
-      expect_is = stays_as head (codes "expect") fields f c.args.found.expect 8 6 long refl (λ e. absurd (omega (arith, e))) found.expect_is;
-      connection_is = stays_as head (codes "connection") fields f c.args.found.connection 8 10 long refl (λ e. absurd (omega (arith, e))) found.connection_is;
-      range_is = stays_as head (codes "range") fields f c.args.found.range 8 5 long refl (λ e. absurd (omega (arith, e))) found.range_is;
-      if_range_is = c.add_value-found-in-8.ensures fields found.if_range_is;
     }
 
 pub returns-in-10 : goal.returns-in-10
@@ -76,7 +58,6 @@ returns-in-10 c fields found =
       expect_is = stays_as head (codes "expect") fields f c.args.found.expect 10 6 long refl (λ e. absurd (omega (arith, e))) found.expect_is;
       connection_is = c.add_value-found-in-10.ensures fields found.connection_is;
       range_is = stays_as head (codes "range") fields f c.args.found.range 10 5 long refl (λ e. absurd (omega (arith, e))) found.range_is;
-      if_range_is = stays_as head (codes "if-range") fields f c.args.found.if_range 10 8 long refl (λ e. absurd (omega (arith, e))) found.if_range_is;
     }
 
 pub returns-in-14 : goal.returns-in-14
@@ -91,7 +72,6 @@ returns-in-14 c fields found =
       expect_is = stays_as head (codes "expect") fields f c.args.found.expect 14 6 long refl (λ e. absurd (omega (arith, e))) found.expect_is;
       connection_is = stays_as head (codes "connection") fields f c.args.found.connection 14 10 long refl (λ e. absurd (omega (arith, e))) found.connection_is;
       range_is = stays_as head (codes "range") fields f c.args.found.range 14 5 long refl (λ e. absurd (omega (arith, e))) found.range_is;
-      if_range_is = stays_as head (codes "if-range") fields f c.args.found.if_range 14 8 long refl (λ e. absurd (omega (arith, e))) found.if_range_is;
     }
 
 pub returns-in-17 : goal.returns-in-17
@@ -106,5 +86,4 @@ returns-in-17 c fields found =
       expect_is = stays_as head (codes "expect") fields f c.args.found.expect 17 6 long refl (λ e. absurd (omega (arith, e))) found.expect_is;
       connection_is = stays_as head (codes "connection") fields f c.args.found.connection 17 10 long refl (λ e. absurd (omega (arith, e))) found.connection_is;
       range_is = stays_as head (codes "range") fields f c.args.found.range 17 5 long refl (λ e. absurd (omega (arith, e))) found.range_is;
-      if_range_is = stays_as head (codes "if-range") fields f c.args.found.if_range 17 8 long refl (λ e. absurd (omega (arith, e))) found.if_range_is;
     }

@@ -3,7 +3,7 @@ use Rattle.std.proofs.Common.{◌≡◌, length}
 use denote.Text.{Utf8}
 use denote.Shadow.{shadow}
 use Rattle.mpm_config.specs.HostName.{are_host_names}
-use Rattle.mpm_config.specs.Words.{words}
+use Rattle.conf_text.specs.Words.{words}
 use Rattle.mpm_config.proofs.host_name.are_host_names.Given as goal
 
 abbrev pub invariant-loop-name : goal.invariant-loop-name

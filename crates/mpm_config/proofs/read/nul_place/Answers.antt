@@ -1,6 +1,6 @@
 -- A place that is not found is taken as the length.
 use Rattle.std.proofs.Common.{◌∙◌, ◌==◌, ap, length, unwrap_or}
-use Rattle.mpm_config.proofs.WordLemmas.{position-or}
+use Rattle.conf_text.proofs.WordLemmas.{position-or}
 use Rattle.mpm_config.proofs.read.nul_place.Goals as goal
 
 pub returns : goal.returns

@@ -3,7 +3,7 @@ use Rattle.std.proofs.Common.{◌≡◌, ◌+◌, ◌≤◌, length}
 use denote.Text.{Utf8}
 use denote.Shadow.{shadow}
 use Rattle.std.specs.Str.Lines.{lines}
-use Rattle.mpm_config.specs.Line.{logical, logical_lines}
+use Rattle.conf_text.specs.Line.{logical, logical_lines}
 use Rattle.mpm_config.specs.Reading.{settings_of, start}
 use Rattle.mpm_config.proofs.read.read_lines.Given as goal
 

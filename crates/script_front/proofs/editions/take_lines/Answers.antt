@@ -1,8 +1,8 @@
 use Rattle.std.proofs.Common.{◌≡◌, [], ◌∷◌, ◌++◌, cond, take, drop, sym, ap, ◌∙◌}
 use Rattle.std.specs.List.{fold}
 use Rattle.std.proofs.lemmas.List.{append-nil, drop_all}
-use Rattle.script_front.specs.Editions.{conf_after, conf_file, conf_of, edition_of, editions_behind, files_after, files_of, is_graceful, site_in}
-use Rattle.script_front.proofs.EditionLemmas.{conf-more, editions-more, files-more}
+use Rattle.script_front.specs.Editions.{Filed, after_line, conf_after, conf_file, conf_of, edition_of, editions_behind, filed_by, is_graceful, site_in}
+use Rattle.script_front.proofs.EditionLemmas.{conf-more, editions-more, filed-more}
 use Rattle.script_front.proofs.editions.take_lines.Goals as goal
 
 pub loop-line-init : goal.loop-line-init
@@ -10,7 +10,7 @@ loop-line-init c =
     let opening = c.args.opening.now in
     record {
       conf = c.requires.conf ∙ ap conf_of (sym (append-nil opening));
-      others = c.requires.others ∙ ap files_of (sym (append-nil opening));
+      filed = c.requires.filed ∙ ap filed_by (sym (append-nil opening));
       past = ap (λ before. c.args.draft.now.past ++ editions_behind before c.args.lines.now) (append-nil opening);
     }
 
@@ -22,11 +22,11 @@ loop-line-preserved c =
     let line = c.line-item.result in
     let d = c.loop-line.draft in
     let all = c.loop-line.invariant in
-    let edition : conf_file d.conf ∷ d.others ≡ edition_of (opening ++ take i lines) =
-    ap (λ conf. conf_file conf ∷ d.others) all.conf ∙ ap (λ others. conf_file (conf_of (opening ++ take i lines)) ∷ others) all.others in
+    let edition : conf_file d.conf ∷ d.filed.files ≡ edition_of (opening ++ take i lines) =
+    ap (λ conf. conf_file conf ∷ d.filed.files) all.conf ∙ ap (λ (filed : Filed). conf_file (conf_of (opening ++ take i lines)) ∷ filed.files) all.filed in
     record {
       conf = c.in_ok-take_line.ensures.conf ∙ ap (λ conf. fold conf_after conf (site_in line)) all.conf ∙ sym (conf-more opening lines i line c.loop-line-test.true c.line-item.is);
-      others = c.in_ok-take_line.ensures.others ∙ ap (λ others. fold files_after others (site_in line)) all.others ∙ sym (files-more opening lines i line c.loop-line-test.true c.line-item.is);
+      filed = c.in_ok-take_line.ensures.filed ∙ ap (λ (filed : Filed). after_line filed line) all.filed ∙ sym (filed-more opening lines i line c.loop-line-test.true c.line-item.is);
       past = editions-more opening lines i line d.past _ c.loop-line-test.true c.line-item.is
           (c.in_ok-take_line.ensures.past ∙ ap (λ files. cond (is_graceful line) (d.past ++ files ∷ []) d.past) edition)
           ∙ all.past;

@@ -12,10 +12,10 @@ returns-in-Err-clause-ends g c words command =
     let refused = c.refuse_config_of.ensures in
     let status = c.refuse_config_of.result.status in
     send-unconfigured _ status refused.known
-    (λ one. config-refused _ c.args.name.now c.read-answer.result c.in-Err.why status (send-config words c.args.command c.args.name.now command)
-    c.read-answer.ensures c.in-Err.ensures (refused.refused (inl one)) one)
-    (λ three. config-unread _ c.args.name.now c.read-answer.result c.in-Err.why status (send-config words c.args.command c.args.name.now command)
-    c.read-answer.ensures c.in-Err.ensures (refused.refused (inr three)) three)
+    (λ one. config-refused _ c.args.name.now c.read_bytes-answer.result c.in-Err.why status (send-config words c.args.command c.args.name.now command)
+    c.read_bytes-answer.ensures c.in-Err.ensures (refused.refused (inl one)) one)
+    (λ three. config-unread _ c.args.name.now c.read_bytes-answer.result c.in-Err.why status (send-config words c.args.command c.args.name.now command)
+    c.read_bytes-answer.ensures c.in-Err.ensures (refused.refused (inr three)) three)
     refused.silent (g.F.Front.seen c.args.front.now)
 
 pub returns-in_default-clause-ends : goal.returns-in_default-clause-ends
@@ -31,7 +31,7 @@ returns-in_default-clause-ends g c words command =
       unwritten = λ five. absurd (omega (arith, refused.known, five));
       silent = refused.silent;
       uncontrolled =
-          λ ten. ends-uncontrolled _ c.args.command c.args.name.now c.read-answer.result (c.in-Ok.config, c.in-Ok.field-0-1) command c.read-answer.ensures
+          λ ten. ends-uncontrolled _ c.args.command c.args.name.now c.read_bytes-answer.result (c.in-Ok.config, c.in-Ok.field-0-1) command c.read_bytes-answer.ensures
           c.in-Ok.ensures (sym (ap (λ (x : Configuration). x.control) c.config.view_is) ∙ c.in_default.is) (refused.refused ten);
       restart_refused = λ twelve. absurd (omega (arith, refused.known, twelve));
     }
@@ -39,8 +39,8 @@ returns-in_default-clause-ends g c words command =
 pub returns-then-dial-clause-ends : goal.returns-then-dial-clause-ends
 returns-then-dial-clause-ends g c words command =
     let dialled =
-    has-dialled _ c.args.command c.args.name.now c.in-Some.port c.read-answer.result (c.in-Ok.config, c.in-Ok.field-0-1) (g.F.Front.seen c.args.front.now)
-    (g.F.Front.seen c.dial.new.self) c.spelling.result.now true c.dial.new.answer command c.read-answer.ensures c.in-Ok.ensures
+    has-dialled _ c.args.command c.args.name.now c.in-Some.port c.read_bytes-answer.result (c.in-Ok.config, c.in-Ok.field-0-1) (g.F.Front.seen c.args.front.now)
+    (g.F.Front.seen c.dial.new.self) c.spelling.result.now true c.dial.new.answer command c.read_bytes-answer.ensures c.in-Ok.ensures
     (sym (ap (λ (x : Configuration). x.control) c.config.view_is) ∙ c.in-Some.is) c.unopened.ensures.shown c.spelling.ensures c.if-dial.ensures.dials in
     rw c.unopened.ensures.status (ends-answered _ (g.F.Front.seen c.args.front.now) (g.F.Front.seen c.dial.new.self) c.dial.new.answer c.show_answer.result dialled
     (subst (λ (text : List ℕ). ShowsAnswer (g.K.Sink.seen c.args.out.now) (g.K.Sink.seen c.show_answer.new.out) text c.show_answer.result) c.as_slice.ensures c.show_answer.ensures))
@@ -54,8 +54,8 @@ returns-clause-ends g c words command =
       | inr six ↦ (refused.silent six).1
     ] in
     let dialled =
-    has-dialled _ c.args.command c.args.name.now c.in-Some.port c.read-answer.result (c.in-Ok.config, c.in-Ok.field-0-1) (g.F.Front.seen c.args.front.now)
-    (g.F.Front.seen c.dial.new.self) c.spelling.result.now false [] command c.read-answer.ensures c.in-Ok.ensures
+    has-dialled _ c.args.command c.args.name.now c.in-Some.port c.read_bytes-answer.result (c.in-Ok.config, c.in-Ok.field-0-1) (g.F.Front.seen c.args.front.now)
+    (g.F.Front.seen c.dial.new.self) c.spelling.result.now false [] command c.read_bytes-answer.ensures c.in-Ok.ensures
     (sym (ap (λ (x : Configuration). x.control) c.config.view_is) ∙ c.in-Some.is) shows c.spelling.ensures
     (subst (λ (l : List ℕ). Dials (g.F.Front.seen c.args.front.now) (g.F.Front.seen c.dial.new.self) c.in-Some.port c.spelling.result.now false l)
     (c.if-dial.ensures.dials.none refl) c.if-dial.ensures.dials) in

@@ -14,59 +14,59 @@ returns-in-Err-clause-ends g c words command =
     let status = c.refuse_config_of.result.status in
     unserved _ (g.F.Front.seen c.args.front.now) (g.C.Clock.told c.args.clock.now) status c.refuse_config_of.result.left refused.left
     (elim refused.known [ inl one ↦ inl one | inr other ↦ elim other [ inl three ↦ inr (inl three) | inr six ↦ inr (inr (inl six)) ] ])
-    (λ one. config-refused _ c.args.name.now c.read-answer.result c.in-Err.why status (serve-config words c.args.name.now command)
-    c.read-answer.ensures c.in-Err.ensures (refused.refused (inl one)) one)
-    (λ three. config-unread _ c.args.name.now c.read-answer.result c.in-Err.why status (serve-config words c.args.name.now command)
-    c.read-answer.ensures c.in-Err.ensures (refused.refused (inr three)) three)
+    (λ one. config-refused _ c.args.name.now c.read_bytes-answer.result c.in-Err.why status (serve-config words c.args.name.now command)
+    c.read_bytes-answer.ensures c.in-Err.ensures (refused.refused (inl one)) one)
+    (λ three. config-unread _ c.args.name.now c.read_bytes-answer.result c.in-Err.why status (serve-config words c.args.name.now command)
+    c.read_bytes-answer.ensures c.in-Err.ensures (refused.refused (inr three)) three)
     refused.silent (λ nine. absurd (omega (arith, refused.known, nine)))
 
 pub returns-in-Err-load_site-clause-ends : goal.returns-in-Err-load_site-clause-ends
 returns-in-Err-load_site-clause-ends g c words command =
-    let read = g.D.Store.seen c.read-answer.new.self in
+    let read = g.D.Store.seen c.read_bytes-answer.new.self in
     let leaves = c.in-Err-load_site.ensures.leaves in
     let refused = c.refuse_folder.ensures in
     let status = c.refuse_folder.result.status in
-    let accepted = has-accepted _ read c.args.name.now c.read-answer.result c.in-Ok.read c.read-answer.ensures leaves.told c.in-Ok.ensures in
+    let accepted = has-accepted _ read c.args.name.now c.read_bytes-answer.result c.in-Ok.read c.read_bytes-answer.ensures leaves.told c.in-Ok.ensures in
     unserved _ (g.F.Front.seen c.args.front.now) (g.C.Clock.told c.args.clock.now) status c.refuse_folder.result.left refused.left
     (elim refused.known [ inl three ↦ inr (inl three) | inr other ↦ elim other [ inl nine ↦ inr (inr (inr nine)) | inr six ↦ inr (inr (inl six)) ] ])
     (λ one. absurd (omega (arith, refused.known, one)))
-    (λ three. folder-unread _ read c.args.name.now c.in-Ok.read.0 c.in-Err-load_site.fault c.read-answer.result status command
-    accepted c.read-answer.ensures leaves (refused.refused (inl three)) three)
+    (λ three. folder-unread _ read c.args.name.now c.in-Ok.read.0 c.in-Err-load_site.fault c.read_bytes-answer.result status command
+    accepted c.read_bytes-answer.ensures leaves (refused.refused (inl three)) three)
     refused.silent
-    (λ nine. folder-refused _ read c.args.name.now c.in-Ok.read.0 c.in-Err-load_site.fault c.read-answer.result status command
-    accepted c.read-answer.ensures leaves c.in-Err-load_site.ensures.site (refused.refused (inr nine)) nine)
+    (λ nine. folder-refused _ read c.args.name.now c.in-Ok.read.0 c.in-Err-load_site.fault c.read_bytes-answer.result status command
+    accepted c.read_bytes-answer.ensures leaves c.in-Err-load_site.ensures.site (refused.refused (inr nine)) nine)
 
 pub returns-clause-ends : goal.returns-clause-ends
 returns-clause-ends g c words command =
     let old = g.D.Store.seen c.args.store.now in
-    let read = g.D.Store.seen c.read-answer.new.self in
+    let read = g.D.Store.seen c.read_bytes-answer.new.self in
     let asked = g.D.Store.seen c.load_site.new.store in
     let loaded = c.in-Ok-load_site.ensures in
     let ended = c.serve_edition.ensures in
     let status = c.serve_edition.result.status in
     let front = g.F.Front.seen c.args.front.now in
     let front' = g.F.Front.seen c.serve_edition.new.front in
-    let had = had-accepted _ read c.args.name.now c.read-answer.result c.in-Ok.read c.read-answer.ensures c.in-Ok.ensures in
-    let ready = is-ready _ read c.args.name.now c.in-Ok.read.0 c.in-Ok-load_site.site command had c.read-answer.ensures.told_stays loaded.limits loaded.site in
+    let had = had-accepted _ read c.args.name.now c.read_bytes-answer.result c.in-Ok.read c.read_bytes-answer.ensures c.in-Ok.ensures in
+    let ready = is-ready _ read c.args.name.now c.in-Ok.read.0 c.in-Ok-load_site.site command had c.read_bytes-answer.ensures.told_stays loaded.limits loaded.site in
     record {
       known = inl ended.known;
       server =
           serves c.serve_edition.result.left _ c.args.name.now c.in-Ok.read.0 c.in-Ok-load_site.site asked front front'
           (g.C.Clock.told c.serve_edition.new.clock) status ready
-          (asked-only old read asked c.args.name.now c.read-answer.result c.in-Ok-load_site.site c.read-answer.ensures loaded.leaves) ended.shown
+          (asked-only old read asked c.args.name.now c.read_bytes-answer.result c.in-Ok-load_site.site c.read_bytes-answer.ensures loaded.leaves) ended.shown
           (subst (λ (site : SeenSite). IfSome c.serve_edition.result.left (ServedBy (record { name = c.args.name.now; config = c.in-Ok.read.0; site = site; store = asked; front = front }) (g.D.Store.seen c.serve_edition.new.store) front' (g.C.Clock.told c.serve_edition.new.clock) (g.K.Sink.seen c.args.out.now) (g.K.Sink.seen c.serve_edition.new.out) status)) c.in-Ok-new.ensures.ok ended.run);
       opened = ended.opened;
       unopened = λ none. record {
         front =
             leaves-front _ c.args.name.now c.in-Ok.read.0 c.in-Ok-load_site.site front front' status ready
-            (ap (λ (s : StoreSeen). s.told) (ended.store none) ∙ loaded.leaves.told ∙ c.read-answer.ensures.told_stays) (ended.front none);
+            (ap (λ (s : StoreSeen). s.told) (ended.store none) ∙ loaded.leaves.told ∙ c.read_bytes-answer.ensures.told_stays) (ended.front none);
         clock = ended.clock none;
       };
       misconfigured = λ one. absurd (omega (arith, ended.known, one));
       unread = λ three. absurd (omega (arith, ended.known, three));
       front_failed =
           λ four. unbound c.serve_edition.result.left _ c.args.name.now c.in-Ok.read.0 c.in-Ok-load_site.site front front' ready
-          (λ none. ap (λ (s : StoreSeen). s.told) (ended.store none) ∙ loaded.leaves.told ∙ c.read-answer.ensures.told_stays) (ended.unbound four);
+          (λ none. ap (λ (s : StoreSeen). s.told) (ended.store none) ∙ loaded.leaves.told ∙ c.read_bytes-answer.ensures.told_stays) (ended.unbound four);
       silent = ended.silent;
       site_refused = λ nine. absurd (omega (arith, ended.known, nine));
     }

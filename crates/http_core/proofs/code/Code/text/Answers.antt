@@ -16,6 +16,10 @@ pub returns-in-MovedPermanently : goal.returns-in-MovedPermanently
 unfolding digits
 returns-in-MovedPermanently c = sym (ap code_text c.in-MovedPermanently.is)
 
+pub returns-in-NotModified : goal.returns-in-NotModified
+unfolding digits
+returns-in-NotModified c = sym (ap code_text c.in-NotModified.is)
+
 pub returns-in-BadRequest : goal.returns-in-BadRequest
 unfolding digits
 returns-in-BadRequest c = sym (ap code_text c.in-BadRequest.is)
@@ -27,6 +31,10 @@ returns-in-NotFound c = sym (ap code_text c.in-NotFound.is)
 pub returns-in-MethodNotAllowed : goal.returns-in-MethodNotAllowed
 unfolding digits
 returns-in-MethodNotAllowed c = sym (ap code_text c.in-MethodNotAllowed.is)
+
+pub returns-in-PreconditionFailed : goal.returns-in-PreconditionFailed
+unfolding digits
+returns-in-PreconditionFailed c = sym (ap code_text c.in-PreconditionFailed.is)
 
 pub returns-in-ContentTooLarge : goal.returns-in-ContentTooLarge
 unfolding digits

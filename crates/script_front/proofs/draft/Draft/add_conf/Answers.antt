@@ -13,5 +13,5 @@ returns c =
     let text = c.args.text.now in
     on_ok_weaker c.add_pair.result (λ e.
     let more : c.add_pair.new.self ≡ d.conf ++ text ++ 10 ∷ [] = e in
-    rw (← c.self.view_is) (ap (λ conf. let draft : SeenDraft = record { past = d.history.past; conf = conf; others = drop 1 d.history.files } in draft) (more ∙ append_assoc d.conf text (10 ∷ []))))
+    rw (← c.self.view_is) (ap (λ conf. let draft : SeenDraft = record { past = d.history.past; conf = conf; filed = record { moment = d.moment; files = drop 1 d.history.files } } in draft) (more ∙ append_assoc d.conf text (10 ∷ []))))
     c.add_pair.ensures.ok

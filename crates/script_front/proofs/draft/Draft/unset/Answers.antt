@@ -15,5 +15,5 @@ returns c =
     let d = c.self.inside in
     let other : is_conf_name c.args.name.now ≡ false = sym c.if-is_conf_name.ensures in
     rw (← c.self.view_is, other, c.in_ok-unset.ensures.ok, c.text_of.ensures, c.as_slice.ensures)
-    (ap (λ others. let draft : SeenDraft = record { past = d.history.past; conf = d.conf; others = others } in draft)
+    (ap (λ others. let draft : SeenDraft = record { past = d.history.past; conf = d.conf; filed = record { moment = d.moment; files = others } } in draft)
     (others-unset d.history.files d.conf d.changed c.args.name.now c.self.invariant other))

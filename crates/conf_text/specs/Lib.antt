@@ -1,0 +1,4 @@
+pub mod First
+pub mod Line
+pub mod Parts
+pub mod Words

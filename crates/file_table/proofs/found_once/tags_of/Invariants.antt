@@ -1,0 +1,7 @@
+-- The tags so far are those of the files so far.
+use Rattle.std.proofs.Common.{◌≡◌, take}
+use Rattle.file_table.specs.SiteInside.{tags_of}
+use Rattle.file_table.proofs.found_once.tags_of.Given as goal
+
+abbrev pub invariant-loop-place : goal.invariant-loop-place
+invariant-loop-place l = l.tags ≡ tags_of (take l.place l.files)

@@ -1,0 +1,50 @@
+-- What conditions come to: statements above what requests are served.
+use Rattle.std.specs.Prelude.{◌≡◌, true, ℕ, List, Option, Some, None, slice_get, if◌then◌else◌}
+use Rattle.mpm_base.specs.declared.store.File.{File}
+use Rattle.http_read.specs.RequestParts.{Conditions, RequestParts, no_conditions}
+use Rattle.file_table.specs.Site.{SeenSite, no_marks}
+use Rattle.file_table.specs.Tag.{tag_of}
+use Rattle.http_core.specs.Conditions.{is_unchanged_since, names_file}
+use Rattle.http_core.specs.Served.{served_to, size_at}
+use Rattle.http_core.specs.declared.code.Code.TheVariants as code
+use Rattle.http_core.specs.declared.plan.FilePart.{FilePart}
+use Rattle.http_core.specs.declared.plan.Served.{Served}
+use Rattle.http_core.specs.declared.plan.Served.TheVariants as served
+
+-- the same request without its conditions; its Range goes with an If-Range
+abbrev pub without_conditions : RequestParts → RequestParts
+without_conditions r =
+    record r { range = if r.conditions.ranged_if then None else r.range; conditions = no_conditions }
+
+-- the same request without its conditions and its Range
+abbrev pub without_range : RequestParts → RequestParts
+without_range r = record r { range = None; conditions = no_conditions }
+
+-- the whole file at the place
+abbrev pub whole_file : SeenSite → ℕ → Served
+whole_file site place =
+    served.Whole (record { file = place; from = 0; to = size_at site place; size = size_at site place })
+
+-- the file at the place is one of the site, and without its conditions and its Range the request is sent the whole of it
+pub record AsksForFile (site : SeenSite) (r : RequestParts) (place : ℕ) (file : File) : Type 0 where
+  pub there : slice_get site.files place ≡ Some file
+  pub sent : served_to site (without_range r) ≡ whole_file site place
+
+-- the client has the file as it is: If-None-Match names the tag of its bytes, or each tag; where that doesn't stand, If-Modified-Since is a
+-- date that isn't before its last change
+abbrev pub HasFile : SeenSite → Conditions → File → Option (List (List ℕ)) → Type 0
+HasFile site c file None = is_unchanged_since site.marks file c.if_modified_since ≡ true
+HasFile site c file (Some words) = names_file site.marks file words ≡ true
+
+-- without marks no condition counts: what is served is what is served without them, and a Range counts where no If-Range stands. 304 and
+-- 412 answer only a request that is sent a whole file without its conditions and its Range; 304 only one that says that the client has that file
+-- as it is; and a part of a file is sent behind an If-Range only where that is the tag of the file's bytes
+pub record ConditionsCountForFiles : Type 0 where
+  pub unmarked : (site : SeenSite) (r : RequestParts) → site.marks ≡ no_marks → served_to site r ≡ served_to site (without_conditions r)
+  pub unmodified : (site : SeenSite) (r : RequestParts) (place : ℕ) → served_to site r ≡ served.Unmodified place
+      → (file : File) × AsksForFile site r place file × HasFile site r.conditions file r.conditions.if_none_match
+  pub failed : (site : SeenSite) (r : RequestParts) → served_to site r ≡ served.Refused code.PreconditionFailed
+      → (place : ℕ) × (file : File) × AsksForFile site r place file
+  pub part : (site : SeenSite) (r : RequestParts) (part : FilePart) → served_to site r ≡ served.Part part → r.conditions.ranged_if ≡ true
+      → (file : File) × (slice_get site.files part.file ≡ Some file) × (site.marks.tags ≡ true)
+      × (r.conditions.if_range ≡ Some (tag_of file.bytes))

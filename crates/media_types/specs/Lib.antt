@@ -1,0 +1,5 @@
+pub mod MediaType
+pub mod PairLaws
+pub mod PairsInside
+pub mod Places
+pub mod TablesInside
