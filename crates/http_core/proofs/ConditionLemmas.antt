@@ -1,6 +1,7 @@
 -- What conditions come to: what a request is served beside what it is served without them.
 use Rattle.std.proofs.Common.{◌≡◌, ℕ, ◌<◌, Bool, true, false, cond, not, ◌&&◌, ◌||◌, List, [], get_or, length, Option, None, Some, refl, sym, ap, subst, ◌∙◌}
 use Rattle.std.specs.Prelude.{codes, slice_get}
+use Rattle.std.specs.Option.{option_map}
 use Rattle.std.specs.Str.{bytes_eq}
 use Rattle.std.proofs.lemmas.Bool.{false≢true}
 use Rattle.std.proofs.lemmas.Option.{none-some, slice_get-get_or}
@@ -14,6 +15,7 @@ use Rattle.file_table.specs.Tag.{tag_of}
 use Rattle.file_table.specs.declared.found.Found.{Found}
 use Rattle.file_table.specs.declared.found.Found.TheVariants as resource
 use Rattle.file_table.specs.declared.marks.Marks.{Marks}
+use Rattle.http_core.specs.ConditionsInside.{is_that_tag}
 use Rattle.http_core.specs.ConditionLaws.{AsksForFile, ConditionsCountForFiles, HasFile, whole_file, without_conditions, without_range}
 use Rattle.http_core.specs.Conditions.{by_words, fails_match, has_marks, is_exactly, is_unchanged_since, is_unmodified, names_file, precondition, range_counts, range_on}
 use Rattle.http_core.specs.Range.{range_in_value, selection_of}
@@ -180,6 +182,27 @@ module _ (site : SeenSite) (r : RequestParts) (other : Served) where
 no_file : File
 no_file = record { name = []; bytes = []; second = 0 }
 
+-- ## Whether a Range counts, as it is looked up
+
+range_by : (site : SeenSite) (r : RequestParts) (place : ℕ) (file : Option File) (tag : Option (List ℕ)) (exact : Bool) → slice_get site.files place ≡ file
+    → place < length site.files → tag ≡ cond site.marks.tags (option_map (λ (f : File). tag_of f.bytes) file) None → exact ≡ is_that_tag tag r.conditions.if_range
+    → range_of_file site r file ≡ cond (not r.conditions.ranged_if || exact) r.range None
+range_by site r place None tag exact none within is_tag is_exact =
+    absurd (none-some (get_or site.files place no_file) (sym none ∙ slice_get-get_or site.files place no_file within))
+range_by site r place (Some f) tag exact there within is_tag is_exact =
+    ap (λ b. cond (not r.conditions.ranged_if || b) r.range None)
+    (sym (is_exact ∙ ap (λ t. is_that_tag t r.conditions.if_range) is_tag ∙ by_tags site.marks.tags))
+  where
+    by_tags : (b : Bool) → is_that_tag (cond b (Some (tag_of f.bytes)) None) r.conditions.if_range ≡ (b && is_exactly (tag_of f.bytes) r.conditions.if_range)
+    by_tags true = refl
+    by_tags false = refl
+
+pub range_counted : (site : SeenSite) (r : RequestParts) (place : ℕ) (tag : Option (List ℕ)) (exact : Bool) → place < length site.files
+    → tag ≡ cond site.marks.tags (option_map (λ (f : File). tag_of f.bytes) (slice_get site.files place)) None → exact ≡ is_that_tag tag r.conditions.if_range
+    → range_of_file site r (slice_get site.files place) ≡ cond (not r.conditions.ranged_if || exact) r.range None
+range_counted site r place tag exact within is_tag is_exact =
+    range_by site r place (slice_get site.files place) tag exact refl within is_tag is_exact
+
 -- a file of the site
 file_beside : (site : SeenSite) (r : RequestParts) (get : Bool) (place : ℕ) (file : Option File) → slice_get site.files place ≡ file → place < length site.files
     → Beside site r (served_by (verdict_of site r file) place (served_range place (size_at site place) (range_for get (size_at site place) (range_of_file site r file))))
@@ -228,11 +251,11 @@ conditions_count law = record {
   unmodified = λ site r place e.
       let b : Beside site r (served.Unmodified place) (served_to site (without_range r)) =
       subst (λ s. Beside site r s (served_to site (without_range r))) e (beside law site r) in
-      (b.0, record { there = b.1.0; sent = b.1.1.0 }, b.1.1.1);
+      (b.0, record { there = b.1; sent = b.2 }, b.3);
   failed = λ site r e.
       let b : Beside site r (served.Refused code.PreconditionFailed) (served_to site (without_range r)) =
       subst (λ s. Beside site r s (served_to site (without_range r))) e (beside law site r) in
-      (b.0, b.1.0, record { there = b.1.1.0; sent = b.1.1.1 });
+      (b.0, b.1, record { there = b.2; sent = b.3 });
   part = λ site r part e ranged.
       let b : Beside site r (served.Part part) (served_to site (without_range r)) =
       subst (λ s. Beside site r s (served_to site (without_range r))) e (beside law site r) in

@@ -4,7 +4,7 @@ ghost use Rattle.std.specs.Prelude.{◌≡◌, ◌<◌, Some, length, option_map
 ghost use Rattle.mpm_base.specs.declared.store.File.{File};
 ghost use Rattle.file_table.specs.declared.marks.Marks.{Marks as SeenMarks};
 ghost use Rattle.http_core.specs.Conditions as spec;
-ghost use Rattle.http_core.specs.ConditionsInside.{AreMarksOf};
+ghost use Rattle.http_core.specs.ConditionsInside.{AreMarksOf, is_that_tag};
 ghost use Rattle.http_core.specs.Served.{range_of_file, verdict_of};
 
 use file_table::{Site, entity_tag, last_change};
@@ -47,7 +47,7 @@ fn marks_of(site: &Site, file: u32) -> FileMarks<'_>
 
 /// Whether If-Match names the file; None where it doesn't stand.
 fn matches_file(request: &Request, marks: FileMarks<'_>) -> Option<bool>
-    ensures { (m : SeenMarks) (f : File) → AreMarksOf m (Some f) marks
+    ensures { (m : SeenMarks) (f : File) → AreMarksOf m (Some f) marks.entry
         → result ≡ option_map (spec.matches_file m f) request.now.conditions.if_match }
 {
     if request.if_match_has(b"", b"*")? {
@@ -61,7 +61,7 @@ fn matches_file(request: &Request, marks: FileMarks<'_>) -> Option<bool>
 
 /// Whether If-None-Match names the file; None where it doesn't stand.
 fn names_file(request: &Request, marks: FileMarks<'_>) -> Option<bool>
-    ensures { (m : SeenMarks) (f : File) → AreMarksOf m (Some f) marks
+    ensures { (m : SeenMarks) (f : File) → AreMarksOf m (Some f) marks.entry
         → result ≡ option_map (spec.names_file m f) request.now.conditions.if_none_match }
 {
     if request.if_none_match_has(b"", b"*")? {
@@ -88,7 +88,7 @@ fn date_in(value: Option<&[u8]>) -> Option<u64>
 
 /// Whether the file was changed behind the date.
 fn is_changed_since(marks: FileMarks<'_>, value: Option<&[u8]>) -> bool
-    ensures { (m : SeenMarks) (f : File) → AreMarksOf m (Some f) marks
+    ensures { (m : SeenMarks) (f : File) → AreMarksOf m (Some f) marks.entry
         → result ≡ spec.is_changed_since m f (option_map (λ v. v.now) value.entry) }
 {
     let Some(own) = marks.second else {
@@ -102,7 +102,7 @@ fn is_changed_since(marks: FileMarks<'_>, value: Option<&[u8]>) -> bool
 
 /// Whether there is a date behind which the file wasn't changed.
 fn is_unchanged_since(marks: FileMarks<'_>, value: Option<&[u8]>) -> bool
-    ensures { (m : SeenMarks) (f : File) → AreMarksOf m (Some f) marks
+    ensures { (m : SeenMarks) (f : File) → AreMarksOf m (Some f) marks.entry
         → result ≡ spec.is_unchanged_since m f (option_map (λ v. v.now) value.entry) }
 {
     let Some(own) = marks.second else {
@@ -116,7 +116,7 @@ fn is_unchanged_since(marks: FileMarks<'_>, value: Option<&[u8]>) -> bool
 
 /// Whether the file isn't the one that the client has in mind.
 fn fails_match(request: &Request, marks: FileMarks<'_>) -> bool
-    ensures { (m : SeenMarks) (f : File) → AreMarksOf m (Some f) marks
+    ensures { (m : SeenMarks) (f : File) → AreMarksOf m (Some f) marks.entry
         → result ≡ spec.fails_match m request.now.conditions f }
 {
     match matches_file(request, marks) {
@@ -127,7 +127,7 @@ fn fails_match(request: &Request, marks: FileMarks<'_>) -> bool
 
 /// Whether the client has the file as it is.
 fn is_unmodified(request: &Request, marks: FileMarks<'_>) -> bool
-    ensures { (m : SeenMarks) (f : File) → AreMarksOf m (Some f) marks
+    ensures { (m : SeenMarks) (f : File) → AreMarksOf m (Some f) marks.entry
         → result ≡ spec.is_unmodified m request.now.conditions f }
 {
     match names_file(request, marks) {
@@ -138,7 +138,7 @@ fn is_unmodified(request: &Request, marks: FileMarks<'_>) -> bool
 
 /// What the conditions say, by these marks of the file.
 fn verdict_by(request: &Request, marks: FileMarks<'_>) -> Verdict
-    ensures { (m : SeenMarks) (f : File) → AreMarksOf m (Some f) marks
+    ensures { (m : SeenMarks) (f : File) → AreMarksOf m (Some f) marks.entry
         → result ≡ spec.verdict_by_marks m request.now.conditions f }
 {
     if fails_match(request, marks) {
@@ -164,7 +164,10 @@ pub fn verdict_on(site: &Site, request: &Request, file: u32) -> Verdict
 }
 
 /// Whether the value is exactly the tag.
-fn is_exactly(tag: Option<&[u8]>, value: Option<&[u8]>) -> bool {
+fn is_exactly(tag: Option<&[u8]>, value: Option<&[u8]>) -> bool
+    ensures { result ≡ is_that_tag (option_map (λ t. t.now) tag.entry)
+        (option_map (λ v. v.now) value.entry) }
+{
     match (tag, value) {
         (Some(tag), Some(value)) => value == tag,
         _ => false,
@@ -177,9 +180,7 @@ pub fn range_on<'a>(site: &Site, request: &'a Request, file: u32) -> Option<&'a 
     ensures { option_map (λ range. range.now) result
         ≡ range_of_file site.now request.now (slice_get site.now.files file) }
 {
-    if request.ranged_if() && !is_exactly(entity_tag(site, file), request.if_range()) {
-        None
-    } else {
-        request.range()
-    }
+    let exact = is_exactly(entity_tag(site, file), request.if_range());
+    let counts = !request.ranged_if() | exact;
+    if counts { request.range() } else { None }
 }
