@@ -1,21 +1,10 @@
 //! The request line of what a connection received.
 ghost use Rattle.std.specs.Prelude.{◌≡◌, ◌==◌};
 ghost use Rattle.std.specs.List.{position_or_len};
-ghost use Rattle.http_read.specs.HeadLines as lines;
 ghost use Rattle.http_read.specs.Head.{head_window};
 ghost use Rattle.access_log.specs.RequestLine as spec;
 
-use http_read::{GREATEST_HEAD, place_of_byte};
-
-/// How long the line is without a CR at its end.
-fn line_len(line: &[u8]) -> usize
-    ensures { result ≡ lines.line_len line.now }
-{
-    match line {
-        [.., b'\r'] => line.len() - 1,
-        _ => line.len(),
-    }
-}
+use http_read::{GREATEST_HEAD, line_len, place_of_byte};
 
 /// The first line that isn't empty, without its end; of one that has none, what is there.
 fn first_filled(bytes: &[u8]) -> &[u8]

@@ -43,6 +43,7 @@ pub use authority::is_authority;
 pub use body::{BodyAnswer, BodyReader, cuts_never_matter, keeps_form, one_form};
 pub use head::{HeadAnswer, keeps_answer, next_head, one_answer, some_answer};
 pub use head_reader::HeadReader;
+pub use lines::line_len;
 pub use places::place_of_byte;
 pub use request::{BodyKind, Limits, Request};
 pub use requests::{keeps_spelling, one_spelling, some_spelling};

@@ -3,7 +3,7 @@ ghost use Rattle.std.specs.Prelude.{◌≡◌};
 ghost use Rattle.http_read.specs.HeadLines.{line_len};
 
 /// How long the line is without a CR at its end.
-pub(crate) fn line_len(line: &[u8]) -> usize
+pub fn line_len(line: &[u8]) -> usize
     ensures { result ≡ line_len line.now }
 {
     match line {

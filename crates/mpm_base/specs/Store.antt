@@ -86,15 +86,19 @@ pub record CountsAsk {T : Type 0} (counts counts' : StoreCounts) (answer : Resul
   pub faults : RisesWhere (answers_with is_failure answer) counts.faults counts'.faults
   pub refusals : RisesWhere (answers_with is_refusal answer) counts.refusals counts'.refusals
 
+-- what a read of at most so many bytes may answer, where what is read, which has bytes, is known and whether it is there
+abbrev pub MayReadAs : {T : Type 0} → (T → List ℕ) → Option (Option T) → ℕ → Result T StoreFault → Type 0
+MayReadAs bytes_of known most (Ok it) = (length (bytes_of it) ≤ most) × IfSome known (λ file. file ≡ Some it)
+MayReadAs bytes_of known most (Err fault.Missing) = IfSome known (λ file. file ≡ None)
+MayReadAs {T} bytes_of known most (Err (fault.Large size)) =
+    (most < size) × IfSome known (λ file. (it : T) × (file ≡ Some it) × (length (bytes_of it) ≡ size))
+MayReadAs bytes_of known most (Err fault.Many) = ⊥
+MayReadAs bytes_of known most (Err fault.Failed) = ⊤
+MayReadAs bytes_of known most (Err fault.NoMemory) = ⊤
+
 -- what a read may answer, where the file is known and whether it is
 abbrev pub MayRead : Option (Option Content) → ℕ → Result Content StoreFault → Type 0
-MayRead known most (Ok content) = (length content.bytes ≤ most) × IfSome known (λ file. file ≡ Some content)
-MayRead known most (Err fault.Missing) = IfSome known (λ file. file ≡ None)
-MayRead known most (Err (fault.Large size)) =
-    (most < size) × IfSome known (λ file. (content : Content) × (file ≡ Some content) × (length content.bytes ≡ size))
-MayRead known most (Err fault.Many) = ⊥
-MayRead known most (Err fault.Failed) = ⊤
-MayRead known most (Err fault.NoMemory) = ⊤
+MayRead = MayReadAs (λ content. content.bytes)
 
 -- what a read of at most so many bytes of the file of that name answered, and left of the store
 pub record ReadsFile (old new : StoreSeen) (name : List ℕ) (most : ℕ) (answer : Result Content StoreFault) : Type 0 where
@@ -104,13 +108,7 @@ pub record ReadsFile (old new : StoreSeen) (name : List ℕ) (most : ℕ) (answe
 
 -- what a read of the bytes alone may answer, where the file is known and whether it is
 abbrev pub MayReadBytes : Option (Option (List ℕ)) → ℕ → Result (List ℕ) StoreFault → Type 0
-MayReadBytes known most (Ok bytes) = (length bytes ≤ most) × IfSome known (λ file. file ≡ Some bytes)
-MayReadBytes known most (Err fault.Missing) = IfSome known (λ file. file ≡ None)
-MayReadBytes known most (Err (fault.Large size)) =
-    (most < size) × IfSome known (λ file. (bytes : List ℕ) × (file ≡ Some bytes) × (length bytes ≡ size))
-MayReadBytes known most (Err fault.Many) = ⊥
-MayReadBytes known most (Err fault.Failed) = ⊤
-MayReadBytes known most (Err fault.NoMemory) = ⊤
+MayReadBytes = MayReadAs (λ bytes. bytes)
 
 -- what a read of at most so many bytes of the file of that name answered, of the bytes alone, and left of the store
 pub record ReadsBytes (old new : StoreSeen) (name : List ℕ) (most : ℕ) (answer : Result (List ℕ) StoreFault) : Type 0 where
