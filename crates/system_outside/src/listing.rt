@@ -178,21 +178,49 @@ pub fn list<R: Files + AllocGlobal + Eprint + Clone + Drop>(
     ensures below { IfOk result (All (λ name. lies_under under.now name ≡ true)) }
 {
     let mut listing = Listing::begin(alloc, under)?;
+    list_all(rt, operator, alloc, under, most, &mut listing)?;
+    Ok(listing.finish())
+}
+
+/// Goes through one folder of the listing after the other, until none is left.
+fn list_all<R: Files + AllocGlobal + Eprint + Clone + Drop>(
+    rt: &R,
+    operator: &Operator<'_, R>,
+    alloc: Global,
+    under: &str,
+    most: u32,
+    listing: &mut Listing,
+) -> Result<(), StoreFault>
+    requires { IsListing under.now most listing.old }
+    ensures ok { OnOk result (IsListing under.now most listing.new) }
+    ensures fault { IfErr result IsListFault }
+{
     for _ in 0..u64::MAX {
-        let Some(folder) = listing.next_folder() else {
-            return Ok(listing.finish());
-        };
-        list_one(
-            rt,
-            operator,
-            alloc,
-            under,
-            folder.as_str(),
-            most,
-            &mut listing,
-        )?;
+        if !list_next(rt, operator, alloc, under, most, listing)? {
+            return Ok(());
+        }
     }
     Err(StoreFault::Failed)
+}
+
+/// Goes through the next folder of the listing, and answers whether there was one.
+fn list_next<R: Files + AllocGlobal + Eprint + Clone + Drop>(
+    rt: &R,
+    operator: &Operator<'_, R>,
+    alloc: Global,
+    under: &str,
+    most: u32,
+    listing: &mut Listing,
+) -> Result<bool, StoreFault>
+    requires { IsListing under.now most listing.old }
+    ensures ok { OnOk result (IsListing under.now most listing.new) }
+    ensures fault { IfErr result IsListFault }
+{
+    let Some(folder) = listing.next_folder() else {
+        return Ok(false);
+    };
+    list_one(rt, operator, alloc, under, folder.as_str(), most, listing)?;
+    Ok(true)
 }
 
 /// Adds what stands right in the folder, which is the one of the listing or lies below it.
