@@ -198,7 +198,7 @@ module _ (site : SeenSite) (r : RequestParts) (plain ranged : Served) where
   judged get place size f false b d marked fails is sent = counted get place size f (range_counts site.marks r.conditions f) refl sent.0
   judged get place size f true true d marked fails is sent = (marked, place, f, sent, means_other site r.conditions f r.conditions.if_match fails)
   judged get place size f true false false marked fails is sent = counted get place size f (range_counts site.marks r.conditions f) refl sent.0
-  judged get place size f true false true marked fails is sent = (marked, f, sent, has_file site r.conditions f r.conditions.if_none_match is)
+  judged get place size f true false true marked fails is sent = (marked, (f, sent, has_file site r.conditions f r.conditions.if_none_match is))
 
   either : (b : Bool) (x y : Served) → Beside site r x plain ranged → Beside site r y plain ranged → Beside site r (cond b x y) plain ranged
   either true x y h k = h
