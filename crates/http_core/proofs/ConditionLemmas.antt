@@ -196,7 +196,7 @@ module _ (site : SeenSite) (r : RequestParts) (plain ranged : Served) where
       → Beside site r (served_by (cond a (cond b verdict.Fails (cond d verdict.Unmodified verdict.Sends)) verdict.Sends) place
       (served_range place size (range_for get size (range_on site.marks r f)))) plain ranged
   judged get place size f false b d marked fails is sent = counted get place size f (range_counts site.marks r.conditions f) refl sent.0
-  judged get place size f true true d marked fails is sent = (marked, place, f, sent, means_other site r.conditions f r.conditions.if_match fails)
+  judged get place size f true true d marked fails is sent = (marked, (place, f, sent, means_other site r.conditions f r.conditions.if_match fails))
   judged get place size f true false false marked fails is sent = counted get place size f (range_counts site.marks r.conditions f) refl sent.0
   judged get place size f true false true marked fails is sent = (marked, (f, sent, has_file site r.conditions f r.conditions.if_none_match is))
 
@@ -295,9 +295,9 @@ conditions_count law = record {
   unmarked = unmarked;
   unmodified = λ site r place e.
       let b = beside_as law site r (served.Unmodified place) e in
-      (b.0, b.1, asks site r place b.1 b.2, b.3);
+      (b.0, (b.1.0, asks site r place b.1.0 b.1.1, b.1.2));
   failed = λ site r e.
       let b = beside_as law site r (served.Refused code.PreconditionFailed) e in
-      (b.0, b.1, b.2, asks site r b.1 b.2 b.3, b.4);
+      (b.0, (b.1.0, b.1.1, asks site r b.1.0 b.1.1 b.1.2, b.1.3));
   part = λ site r part e behind. beside_as law site r (served.Part part) e behind;
 }
