@@ -2,7 +2,7 @@
 ghost use Rattle.std.specs.Prelude.{IfOk};
 ghost use Rattle.conn_state.specs.Conn.{IsFresh};
 
-use crate::responses::digits_site;
+use crate::sites::site_named;
 use crate::test_conn::TestConn;
 use conn_state::{Ended, LastTurn};
 use file_table::Site;
@@ -11,10 +11,34 @@ use stand_ins::{Calls, ScriptLink, Wire};
 use std::alloc::Global;
 use std::str;
 use std::sync::Arc;
-use test_rows::{Marks, Sheet, number_of, text_of, words};
+use test_rows::{Marks, Sheet, listed_as, number_of, text_of, words};
 
 /// The second of the example in RFC 9110, section 5.6.7.
 pub const SECOND: u64 = 784_111_777;
+
+/// The causes by their names.
+const CAUSES: [(&str, Cause); 9] = [
+    ("ClientDone", Cause::ClientDone),
+    ("LastSent", Cause::LastSent),
+    ("KeepAliveLate", Cause::KeepAliveLate),
+    ("ReadLate", Cause::ReadLate),
+    ("WriteLate", Cause::WriteLate),
+    ("Retiring", Cause::Retiring),
+    ("LinkFailed", Cause::LinkFailed),
+    ("Stopped", Cause::Stopped),
+    ("NoMemory", Cause::NoMemory),
+];
+
+/// The tails by their names.
+const TAILS: [(&str, Tail); 7] = [
+    ("Direct", Tail::Direct),
+    ("Drained", Tail::Drained),
+    ("Sated", Tail::Sated),
+    ("Late", Tail::Late),
+    ("Failed", Tail::Failed),
+    ("Halted", Tail::Halted),
+    ("NoMemory", Tail::NoMemory),
+];
 
 /// The link of a client that sends the text as the wire says, the first read and the first write of which fail where the wire says so.
 fn link_of(alloc: Global, text: &[u8], wire: Arc<Wire>) -> Result<ScriptLink, NoMemory>
@@ -43,10 +67,8 @@ pub fn conn_of(
 
 /// The site of each connection.
 pub fn site_of(alloc: Global) -> Result<Arc<Site>, NoMemory> {
-    match digits_site(alloc, true) {
-        Ok(site) => Ok(Arc::new(alloc, site)?),
-        Err(_) => Err(NoMemory),
-    }
+    let site = site_named(alloc, "open")?;
+    Ok(Arc::new(alloc, site)?)
 }
 
 /// Shows what comes of each row of turns of a client that sends the text of the first row.
@@ -73,7 +95,10 @@ fn show_row(
     let mut conn = conn_of(alloc, site, text, &wire)?;
     show_each(sheet, &wire, &mut conn, turns);
     let ended = end_as(conn, end);
-    show_end(sheet, ended.as_ref(), end);
+    if ended.is_none() {
+        print!(sheet; "{end} => ");
+    }
+    show_end(sheet, ended.as_ref());
     Ok(())
 }
 
@@ -88,14 +113,16 @@ fn show_each(sheet: &mut Sheet, wire: &Wire, conn: &mut TestConn<ScriptLink>, tu
 fn end_as(conn: TestConn<ScriptLink>, end: &str) -> Option<Ended<ScriptLink>> {
     let (_, names) = words(end);
     let (cause, tail) = words(names);
-    conn.end(cause_named(cause), tail_named(tail))
+    let cause = listed_as(&CAUSES, cause).unwrap_or(Cause::NoMemory);
+    let tail = listed_as(&TAILS, tail).unwrap_or(Tail::NoMemory);
+    conn.end(cause, tail)
 }
 
-/// Shows what came of a connection that was to be ended so.
-fn show_end(sheet: &mut Sheet, ended: Option<&Ended<ScriptLink>>, end: &str) {
+/// Shows what came of a connection, or that it might not be ended.
+fn show_end(sheet: &mut Sheet, ended: Option<&Ended<ScriptLink>>) {
     match ended {
         Some(ended) => show_ended(sheet, ended),
-        None => println!(sheet; "{end} => may not be"),
+        None => sheet.println("may not be"),
     }
 }
 
@@ -162,27 +189,13 @@ pub fn show_bytes(sheet: &mut Sheet, name: &str, bytes: &[u8]) {
     }
 }
 
-/// Shows what comes of each client, and what else comes of it where its bytes are cut behind one of them: so many come first.
-pub fn show_cuts(sheet: &mut Sheet, alloc: Global, rows: &str) -> Result<(), NoMemory> {
+/// Shows what comes of the client of that text, and what else comes of it where its bytes are cut behind one of them: so many come first.
+pub fn show_client(sheet: &mut Sheet, alloc: Global, text: &[u8]) -> Result<(), NoMemory> {
     let site = site_of(alloc)?;
-    for row in rows.lines() {
-        let text = text_of(alloc, row, Marks::Heads)?;
-        print!(sheet; "{row} => ");
-        show_client(sheet, alloc, &site, text.as_slice())?;
-    }
-    Ok(())
-}
-
-/// Shows what comes of the client of that text, and what else comes of it where its bytes are cut.
-fn show_client(
-    sheet: &mut Sheet,
-    alloc: Global,
-    site: &Arc<Site>,
-    text: &[u8],
-) -> Result<(), NoMemory> {
-    let whole = talk_cut(alloc, site, text, 0)?;
-    show_talk(sheet, whole.as_ref());
-    show_others(sheet, alloc, site, text, whole.as_ref())
+    let whole = talk_cut(alloc, &site, text, 0)?;
+    sheet.print(" ");
+    show_end(sheet, whole.as_ref());
+    show_others(sheet, alloc, &site, text, whole.as_ref())
 }
 
 /// Shows what else than the whole comes of the client of that text where its bytes are cut.
@@ -209,15 +222,7 @@ fn show_cut(
 ) {
     if differ(ended, whole) {
         print!(sheet; "but {count} => ");
-        show_talk(sheet, ended);
-    }
-}
-
-/// Shows what came of a connection, or that it might not be ended.
-fn show_talk(sheet: &mut Sheet, ended: Option<&Ended<ScriptLink>>) {
-    match ended {
-        Some(ended) => show_ended(sheet, ended),
-        None => sheet.println("may not be"),
+        show_end(sheet, ended);
     }
 }
 
@@ -256,33 +261,5 @@ pub fn cause_after(turn: LastTurn) -> Cause {
         LastTurn::LinkFailed => Cause::LinkFailed,
         LastTurn::NoMemory => Cause::NoMemory,
         _ => Cause::Stopped,
-    }
-}
-
-/// The cause of that name.
-fn cause_named(name: &str) -> Cause {
-    match name {
-        "ClientDone" => Cause::ClientDone,
-        "LastSent" => Cause::LastSent,
-        "KeepAliveLate" => Cause::KeepAliveLate,
-        "ReadLate" => Cause::ReadLate,
-        "WriteLate" => Cause::WriteLate,
-        "Retiring" => Cause::Retiring,
-        "LinkFailed" => Cause::LinkFailed,
-        "Stopped" => Cause::Stopped,
-        _ => Cause::NoMemory,
-    }
-}
-
-/// The tail of that name.
-fn tail_named(name: &str) -> Tail {
-    match name {
-        "Direct" => Tail::Direct,
-        "Drained" => Tail::Drained,
-        "Sated" => Tail::Sated,
-        "Late" => Tail::Late,
-        "Failed" => Tail::Failed,
-        "Halted" => Tail::Halted,
-        _ => Tail::NoMemory,
     }
 }

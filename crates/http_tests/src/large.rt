@@ -2,7 +2,7 @@
 
 use crate::conns::{SECOND, cause_after, conn_of, show_bytes, site_of};
 use crate::long_link::{LinkUse, LongLink};
-use crate::responses::large_site;
+use crate::sites::large_site;
 use crate::test_conn::TestConn;
 use conn_state::{Ended, LastTurn};
 use file_table::Site;
@@ -18,15 +18,11 @@ const REQUEST: &[u8] = b"GET /large.bin HTTP/1.1\r\nHost: a\r\n\r\n";
 /// More turns than a file takes.
 const MOST_TURNS: u64 = 1_000_000;
 
-/// Shows what comes of each client that sends a front, a unit so many times, and a back.
-pub fn show_long(sheet: &mut Sheet, alloc: Global, rows: &str) -> Result<(), NoMemory> {
+/// Shows what comes of the client of the row, which sends a front, a unit so many times, and a back.
+pub fn show_long(sheet: &mut Sheet, alloc: Global, row: &str) -> Result<(), NoMemory> {
     let site = site_of(alloc)?;
-    for row in rows.lines() {
-        let link = long_link_of(alloc, row)?;
-        let conn = TestConn::new(alloc, Arc::try_clone(&site)?, link);
-        print!(sheet; "{row} => ");
-        show_talk(sheet, conn);
-    }
+    let link = long_link_of(alloc, row)?;
+    show_talk(sheet, TestConn::new(alloc, site, link));
     Ok(())
 }
 
@@ -44,12 +40,18 @@ pub fn show_calls(sheet: &mut Sheet, alloc: Global, rows: &str) -> Result<(), No
     let mut rows = rows.lines();
     let client = rows.next().unwrap_or("");
     for row in rows {
-        let file = text_of(alloc, row, Marks::Heads)?;
-        let site = site_of_file(alloc, &file)?;
-        let link = long_link_of(alloc, client)?;
-        print!(sheet; "{row} => ");
-        show_lingering(sheet, TestConn::new(alloc, site, link));
+        print!(sheet; "{row} =>");
+        show_called(sheet, alloc, client, row)?;
     }
+    Ok(())
+}
+
+/// Shows by which calls of its link the file of the row goes out to the client.
+fn show_called(sheet: &mut Sheet, alloc: Global, client: &str, row: &str) -> Result<(), NoMemory> {
+    let file = text_of(alloc, row, Marks::Heads)?;
+    let site = site_of_file(alloc, &file)?;
+    let link = long_link_of(alloc, client)?;
+    show_lingering(sheet, TestConn::new(alloc, site, link));
     Ok(())
 }
 
@@ -76,35 +78,27 @@ fn long_link_of(alloc: Global, row: &str) -> Result<LongLink, NoMemory> {
 /// Shows what came of a connection over such a link, and how the link was called.
 fn show_end(sheet: &mut Sheet, ended: Option<&Ended<LongLink>>) {
     let Some(ended) = ended else {
-        return sheet.println("may not be");
+        return sheet.println(" may not be");
     };
     let notes = ended.notes.len();
-    print!(sheet; "{:?} {:?}, {notes} notes", ended.cause, ended.tail);
+    print!(sheet; " {:?} {:?}, {notes} notes", ended.cause, ended.tail);
     show_bytes(sheet, ", sent", ended.link.sent());
-    show_use(sheet, ended.link.calls());
-}
-
-/// Shows how a link was called.
-fn show_use(sheet: &mut Sheet, calls: LinkUse) {
     let LinkUse {
         reads,
         room,
         writes,
-    } = calls;
+    } = ended.link.calls();
     println!(sheet; ", {writes} writes, {reads} reads of {room} bytes at most");
 }
 
-/// Shows what comes of each client that asks for a file of so many bytes, and whose link has room for so many bytes in each turn.
-pub fn show_slow(sheet: &mut Sheet, alloc: Global, rows: &str) -> Result<(), NoMemory> {
-    for row in rows.lines() {
-        let (size, room) = words(row);
-        let file = large_file(alloc, number_of(size))?;
-        let site = site_of_file(alloc, &file)?;
-        let wire = Arc::new(alloc, Wire::make())?;
-        let conn = conn_of(alloc, &site, REQUEST, &wire)?;
-        print!(sheet; "{row} => ");
-        show_turns(sheet, conn, &wire, number_of(room), &file);
-    }
+/// Shows what comes of a client that asks for a file of so many bytes, and whose link has room for so many bytes in each turn.
+pub fn show_slow(sheet: &mut Sheet, alloc: Global, row: &str) -> Result<(), NoMemory> {
+    let (size, room) = words(row);
+    let file = large_file(alloc, number_of(size))?;
+    let site = site_of_file(alloc, &file)?;
+    let wire = Arc::new(alloc, Wire::make())?;
+    let conn = conn_of(alloc, &site, REQUEST, &wire)?;
+    show_turns(sheet, conn, &wire, number_of(room), &file);
     Ok(())
 }
 
@@ -117,7 +111,7 @@ fn show_turns(
     file: &Octets,
 ) {
     let turns = send_slowly(&mut conn, wire, room);
-    print!(sheet; "{turns} turns, {:?}", conn.turn());
+    print!(sheet; " {turns} turns, {:?}", conn.turn());
     match conn.end(Cause::Stopped, Tail::Direct) {
         Some(ended) => show_sent(sheet, &ended, file),
         None => println!(sheet; ", may not be"),
@@ -136,10 +130,8 @@ fn large_file(alloc: Global, size: u64) -> Result<Octets, NoMemory> {
 
 /// A site of the file.
 fn site_of_file(alloc: Global, file: &Octets) -> Result<Arc<Site>, NoMemory> {
-    match large_site(alloc, file.as_slice()) {
-        Ok(site) => Ok(Arc::new(alloc, site)?),
-        Err(_) => Err(NoMemory),
-    }
+    let site = large_site(alloc, file.as_slice())?;
+    Ok(Arc::new(alloc, site)?)
 }
 
 /// Asks for the file, and sends it, in each turn as many bytes as there is room for. How many turns it took.
