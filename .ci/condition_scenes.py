@@ -74,6 +74,29 @@ def conditions_are_answered_by_tags_and_times():
 
 
 @scene
+def a_file_of_a_time_before_1970_was_changed_in_the_first_second():
+    first = "Thu, 01 Jan 1970 00:00:00 GMT"
+    whole = response("200 OK", "text/plain", A, f"Last-Modified: {first}", "Accept-Ranges: bytes")
+    same = f"HTTP/1.1 304 Not Modified\r\nDate: *\r\nLast-Modified: {first}\r\n\r\n".encode()
+    asked = [
+        (request("GET", "/a.txt"), whole),
+        (request("GET", "/a.txt", f"If-Modified-Since: {first}"), same),
+        (request("GET", "/a.txt", f"If-Unmodified-Since: {first}"), whole),
+    ]
+    with serving("LastModified On", files=FILES) as server:
+        path = f"{server.folder}/htdocs/a.txt"
+        date(path, -5)
+        expect("the second that the folder keeps", os.stat(path).st_mtime, -5)
+        expect("the answer to a restart", server.tell(b"graceful\n"), b"generation 1\n")
+        with connect(server.port) as client:
+            for sent, wanted in asked:
+                client.send(sent)
+                expect(f"what {sent} is answered", client.reply(), wanted)
+        server.stop()
+        server.expect_report("1 ClientDone Direct 200,304,200", children=6, generation=1)
+
+
+@scene
 def without_the_directives_no_condition_counts():
     fields = ["If-None-Match: *", 'If-Match: "x"', f"If-Modified-Since: {email.utils.formatdate(usegmt=True)}"]
     with serving(files=FILES) as server:
