@@ -69,13 +69,18 @@ fn show_other(sheet: &mut Sheet, answer: BodyAnswer, found: BodyAnswer, cut: usi
     }
 }
 
-/// Shows the last answer to a body of a gibibyte of the kind of the row, which begins as the row says.
-pub fn show_gibibyte(sheet: &mut Sheet, alloc: Global, row: &str) -> Result<(), NoMemory> {
-    let (kind, front) = row.split_once(": ").unwrap_or((row, ""));
-    let front = text_of(alloc, front, Marks::Heads)?;
+/// Shows the last answer to a body of a gibibyte of the kind of the row, which begins as the text of the row says behind the kind.
+pub fn show_gibibyte(
+    sheet: &mut Sheet,
+    alloc: Global,
+    row: &str,
+    text: &[u8],
+) -> Result<(), NoMemory> {
+    let (kind, _) = row.split_once(": ").unwrap_or((row, ""));
+    let front = &text[text.len().min(kind.len().saturating_add(2))..];
     let piece = text_of(alloc, "`4096 0123456789abcdef`", Marks::Heads)?;
     if front.len() <= piece.len() {
-        let answer = read_many(kind_of(kind), front.as_slice(), piece.as_slice(), 16383);
+        let answer = read_many(kind_of(kind), front, piece.as_slice(), 16383);
         println!(sheet; " {answer:?}");
     }
     Ok(())

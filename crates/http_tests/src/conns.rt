@@ -9,7 +9,6 @@ use file_table::Site;
 use mpm_base::{Cause, LinkCall, NoMemory, Octets, Tail};
 use stand_ins::{Calls, ScriptLink, Wire};
 use std::alloc::Global;
-use std::str;
 use std::sync::Arc;
 use test_rows::{Marks, Sheet, listed_as, number_of, text_of, words};
 
@@ -65,41 +64,35 @@ pub fn conn_of(
     Ok(TestConn::new(alloc, ours, link))
 }
 
-/// The site of each connection.
-pub fn site_of(alloc: Global) -> Result<Arc<Site>, NoMemory> {
-    let site = site_named(alloc, "open")?;
-    Ok(Arc::new(alloc, site)?)
-}
-
 /// Shows what comes of each row of turns of a client that sends the text of the first row.
 pub fn show_turns(sheet: &mut Sheet, alloc: Global, rows: &str) -> Result<(), NoMemory> {
-    let site = site_of(alloc)?;
-    let mut rows = rows.lines();
-    let text = text_of(alloc, rows.next().unwrap_or(""), Marks::Heads)?;
-    for row in rows {
-        show_row(sheet, alloc, &site, text.as_slice(), row)?;
-    }
-    Ok(())
+    let site = site_named(alloc, "open")?;
+    let (text, rows) = rows.split_once('\n').unwrap_or((rows, ""));
+    let text = text_of(alloc, text, Marks::Heads)?;
+    show_rows(sheet, alloc, &site, text.as_slice(), rows)
 }
 
-/// Shows what comes of the row of turns of a client that sends the text.
-fn show_row(
+/// Shows what comes of each row of turns of a client that sends the text.
+fn show_rows(
     sheet: &mut Sheet,
     alloc: Global,
     site: &Arc<Site>,
     text: &[u8],
-    row: &str,
+    rows: &str,
 ) -> Result<(), NoMemory> {
-    let (turns, end) = row.rsplit_once("; ").unwrap_or(("", row));
-    let wire = Arc::new(alloc, Wire::make())?;
-    let mut conn = conn_of(alloc, site, text, &wire)?;
-    show_each(sheet, &wire, &mut conn, turns);
-    let ended = end_as(conn, end);
-    if ended.is_none() {
-        print!(sheet; "{end} => ");
+    for row in rows.lines() {
+        let wire = Arc::new(alloc, Wire::make())?;
+        show_row(sheet, &wire, conn_of(alloc, site, text, &wire)?, row);
     }
-    show_end(sheet, ended.as_ref());
     Ok(())
+}
+
+/// Shows what comes of the row of turns of the connection.
+fn show_row(sheet: &mut Sheet, wire: &Wire, mut conn: TestConn<ScriptLink>, row: &str) {
+    let (turns, end) = row.rsplit_once("; ").unwrap_or(("", row));
+    show_each(sheet, wire, &mut conn, turns);
+    let ended = end_as(conn, end);
+    show_end(sheet, ended.as_ref(), end);
 }
 
 /// Shows what each turn of the connection answers.
@@ -118,11 +111,12 @@ fn end_as(conn: TestConn<ScriptLink>, end: &str) -> Option<Ended<ScriptLink>> {
     conn.end(cause, tail)
 }
 
-/// Shows what came of a connection, or that it might not be ended.
-fn show_end(sheet: &mut Sheet, ended: Option<&Ended<ScriptLink>>) {
+/// Shows what came of a connection, or that it might not be ended as the words say, where there are any.
+fn show_end(sheet: &mut Sheet, ended: Option<&Ended<ScriptLink>>, end: &str) {
     match ended {
         Some(ended) => show_ended(sheet, ended),
-        None => sheet.println("may not be"),
+        None if end.is_empty() => sheet.println("may not be"),
+        None => println!(sheet; "{end} => may not be"),
     }
 }
 
@@ -183,19 +177,30 @@ fn show_ended(sheet: &mut Sheet, ended: &Ended<ScriptLink>) {
 
 /// Shows the bytes under the name, in the same line; of more than 600 their number.
 pub fn show_bytes(sheet: &mut Sheet, name: &str, bytes: &[u8]) {
-    match str::from_utf8(bytes) {
-        Ok(text) if bytes.len() <= 600 => print!(sheet; "{name} {text:?}"),
-        _ => print!(sheet; "{name} {} bytes", bytes.len()),
+    if bytes.len() <= 600 {
+        sheet.bytes(name, bytes);
+    } else {
+        print!(sheet; "{name} {} bytes", bytes.len());
     }
 }
 
 /// Shows what comes of the client of that text, and what else comes of it where its bytes are cut behind one of them: so many come first.
 pub fn show_client(sheet: &mut Sheet, alloc: Global, text: &[u8]) -> Result<(), NoMemory> {
-    let site = site_of(alloc)?;
-    let whole = talk_cut(alloc, &site, text, 0)?;
+    let site = site_named(alloc, "open")?;
+    show_client_of(sheet, alloc, &site, text)
+}
+
+/// Shows the same, where this is the site.
+fn show_client_of(
+    sheet: &mut Sheet,
+    alloc: Global,
+    site: &Arc<Site>,
+    text: &[u8],
+) -> Result<(), NoMemory> {
+    let whole = talk_cut(alloc, site, text, 0)?;
     sheet.print(" ");
-    show_end(sheet, whole.as_ref());
-    show_others(sheet, alloc, &site, text, whole.as_ref())
+    show_end(sheet, whole.as_ref(), "");
+    show_others(sheet, alloc, site, text, whole.as_ref())
 }
 
 /// Shows what else than the whole comes of the client of that text where its bytes are cut.
@@ -207,8 +212,7 @@ fn show_others(
     whole: Option<&Ended<ScriptLink>>,
 ) -> Result<(), NoMemory> {
     for count in 1..text.len() {
-        let ended = talk_cut(alloc, site, text, count)?;
-        show_cut(sheet, count, ended.as_ref(), whole);
+        show_cut(sheet, alloc, site, text, count, whole)?;
     }
     Ok(())
 }
@@ -216,14 +220,18 @@ fn show_others(
 /// Shows what comes of a client of whose text so many bytes come first, if it is something else than the whole.
 fn show_cut(
     sheet: &mut Sheet,
+    alloc: Global,
+    site: &Arc<Site>,
+    text: &[u8],
     count: usize,
-    ended: Option<&Ended<ScriptLink>>,
     whole: Option<&Ended<ScriptLink>>,
-) {
-    if differ(ended, whole) {
+) -> Result<(), NoMemory> {
+    let ended = talk_cut(alloc, site, text, count)?;
+    if differ(ended.as_ref(), whole) {
         print!(sheet; "but {count} => ");
-        show_end(sheet, ended);
+        show_end(sheet, ended.as_ref(), "");
     }
+    Ok(())
 }
 
 /// Whether the two connections sent other bytes, or ended for other causes.

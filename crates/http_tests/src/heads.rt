@@ -23,6 +23,11 @@ fn code_of(answer: &HeadAnswer) -> u16 {
     }
 }
 
+/// The code of the head by these limits.
+fn head_code(alloc: Global, text: &[u8], limits: Limits) -> u16 {
+    code_of(&next_head(alloc, text, &limits))
+}
+
 /// The three limits that the words give.
 fn limits_of(text: &str) -> Limits {
     let mut words = text.split(' ');
@@ -40,7 +45,7 @@ fn limits_of(text: &str) -> Limits {
 /// then, and the code then where it is another one.
 pub fn show_head(sheet: &mut Sheet, alloc: Global, limits: &str, text: &[u8]) {
     let limits = limits_of(limits);
-    let code = code_of(&next_head(alloc, text, &limits));
+    let code = head_code(alloc, text, limits);
     print!(sheet; " {code}");
     if text.len() < 1_000_000 {
         let (found, end, looks) = read_by_byte(alloc, limits, text);
@@ -136,9 +141,8 @@ fn show_conditions(sheet: &mut Sheet, request: &Request) {
 pub fn show_hosts(sheet: &mut Sheet, alloc: Global) -> Result<(), NoMemory> {
     for byte in 0..=255u8 {
         let mut text = text_of(alloc, "GET / HTTP/1.1|Host: a", Marks::Heads)?;
-        text.add(&[byte])?;
-        text.add(b"b\r\n\r\n")?;
-        let code = code_of(&next_head(alloc, text.as_slice(), &LIMITS));
+        text.add_pair(&[byte], b"b\r\n\r\n")?;
+        let code = head_code(alloc, text.as_slice(), LIMITS);
         println!(sheet; "{byte} => {code}");
     }
     Ok(())

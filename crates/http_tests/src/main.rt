@@ -85,7 +85,6 @@ fn show_row(
     row: &str,
 ) -> Result<(), NoMemory> {
     match section.word {
-        "gibibyte" => bodies::show_gibibyte(sheet, alloc, row),
         "refusals" => responses::show_refusal(sheet, alloc, row),
         "long" => large::show_long(sheet, alloc, row),
         "slow" => large::show_slow(sheet, alloc, row),
@@ -104,6 +103,7 @@ fn show_text(
     let text = text_of(alloc, row, Marks::Heads)?;
     match section.word {
         "answers" => responses::show_answer(sheet, alloc, section.rest, text.as_slice()),
+        "gibibyte" => bodies::show_gibibyte(sheet, alloc, row, text.as_slice()),
         "cuts" => conns::show_client(sheet, alloc, text.as_slice()),
         _ => {
             show_read(sheet, alloc, section, text.as_slice());

@@ -10,7 +10,7 @@ use crate::sites::site_named;
 use file_table::{Site, bytes};
 use http_core::{Body, Plan, ask_of, continue_text, refusal, response};
 use http_read::{HeadAnswer, Request, next_head};
-use mpm_base::{Ask, NoMemory, Note, Octets, Page};
+use mpm_base::{Ask, NoMemory, Note, Octets};
 use std::alloc::Global;
 use test_rows::{Sheet, number_of, words};
 
@@ -38,20 +38,6 @@ fn add_body(site: &Site, body: &Body, text: &mut Octets) -> Result<(), NoMemory>
     }
 }
 
-/// A note of this second, code and page.
-fn note_of(date: u64, last: bool, code: u16, page: Option<Page>) -> Note
-    ensures date { result.date ≡ date }
-    ensures code { result.code ≡ code }
-{
-    Note {
-        date,
-        asked_close: last,
-        last,
-        code,
-        page,
-    }
-}
-
 /// The whole response of this plan.
 fn reply_of(alloc: Global, site: &Site, plan: &Plan, note: &Note) -> Result<Octets, NoMemory>
     requires date { IsSecond note.now.date }
@@ -76,7 +62,14 @@ fn answer_of(
 {
     let (ask, plan) = plan_of(alloc, site, request)?;
     let page = page_where(alloc, ask.page)?;
-    let note = note_of(date, last || ask.asked_close, ask.code, page);
+    let last = last || ask.asked_close;
+    let note = Note {
+        date,
+        asked_close: last,
+        last,
+        code: ask.code,
+        page,
+    };
     let text = reply_of(alloc, site, &plan, &note)?;
     Ok((ask.code, text))
 }
@@ -119,7 +112,13 @@ fn show_answer_of(
 fn refusal_of(alloc: Global, code: u16) -> Result<Octets, NoMemory>
     requires { refuses_head code ≡ true }
 {
-    let note = note_of(0, true, code, None);
+    let note = Note {
+        date: 0,
+        asked_close: true,
+        last: true,
+        code,
+        page: None,
+    };
     let reply = refusal(alloc, Octets::make(alloc), &note)?;
     let mut text = reply.head;
     if let Body::Own(own) = &reply.body {

@@ -8,6 +8,7 @@ use media_types::{MediaTypes, TypePair, TypePairs};
 use mpm_base::{Names, NoMemory, Octets, Second};
 use stand_ins::{Calls, Files};
 use std::alloc::Global;
+use std::sync::Arc;
 use test_rows::{Marks as TextMarks, number_of, text_of, words};
 
 /// An index, ten digits, a folder and an empty file: of each its name, the second of its last change, and its bytes, in which `|` stands for
@@ -114,9 +115,8 @@ fn add_pair(
     pairs.push(TypePair { extension, media })
 }
 
-/// The types that the word names: by the short table or the long one, with pairs, or with a character set.
-fn types_of(alloc: Global, word: &str) -> Result<MediaTypes, NoMemory> {
-    let mut types = MediaTypes::usual(alloc);
+/// Sets the types that the word names: by the short table or the long one, with pairs, or with a character set.
+fn set_types(alloc: Global, types: &mut MediaTypes, word: &str) -> Result<(), NoMemory> {
     types.long = word == "long";
     if word == "added" {
         add_pair(alloc, &mut types.added, "md", "text/markdown")?;
@@ -132,7 +132,7 @@ fn types_of(alloc: Global, word: &str) -> Result<MediaTypes, NoMemory> {
         )?;
         types.charset = Some(Octets::of(alloc, b"utf-8")?);
     }
-    Ok(types)
+    Ok(())
 }
 
 /// What the site is made of that the word names.
@@ -142,18 +142,17 @@ fn order_named(alloc: Global, word: &str) -> Result<SiteOrder, NoMemory>
     if word == "hosts" {
         return two_hosts(alloc);
     }
-    let types = types_of(alloc, word)?;
     let mut order = SiteOrder::one_host(alloc, "htdocs", "index.html", word != "hidden")?;
     order.marks = Marks {
         tags: matches!(word, "tags" | "marks"),
         times: matches!(word, "times" | "marks"),
     };
-    order.types = types;
+    set_types(alloc, &mut order.types, word)?;
     Ok(order)
 }
 
 /// The site of these files by the order.
-fn loaded(alloc: Global, files: Files, order: &SiteOrder) -> Result<Site, NoMemory>
+fn load_by(alloc: Global, files: Files, order: &SiteOrder) -> Result<Site, NoMemory>
     requires { IsLoadable order.now }
 {
     let mut store = MemStore::make(alloc, files, Calls::make(alloc));
@@ -163,19 +162,25 @@ fn loaded(alloc: Global, files: Files, order: &SiteOrder) -> Result<Site, NoMemo
     }
 }
 
+/// The site of these files, made as the word says.
+fn load_named(alloc: Global, files: Files, word: &str) -> Result<Site, NoMemory> {
+    let order = order_named(alloc, word)?;
+    load_by(alloc, files, &order)
+}
+
 /// The site that the word names: with files that have tags, times or both (`tags`, `times`, `marks`), with types by the short table, by the
 /// long one, with pairs or with a character set (`short`, `long`, `added`, `charset`), with two hosts (`hosts`), or of an index and ten
 /// digits, with the status page or without (`hidden`).
-pub fn site_named(alloc: Global, word: &str) -> Result<Site, NoMemory> {
-    let order = order_named(alloc, word)?;
+pub fn site_named(alloc: Global, word: &str) -> Result<Arc<Site>, NoMemory> {
     let files = files_of(alloc, list_named(word))?;
-    loaded(alloc, files, &order)
+    let site = load_named(alloc, files, word)?;
+    Ok(Arc::new(alloc, site)?)
 }
 
 /// A site of one file, `large.bin`, with these bytes.
-pub fn large_site(alloc: Global, bytes: &[u8]) -> Result<Site, NoMemory> {
-    let order = order_named(alloc, "large")?;
+pub fn large_site(alloc: Global, bytes: &[u8]) -> Result<Arc<Site>, NoMemory> {
     let mut files = Files::make(alloc);
     files.set("htdocs/large.bin", bytes)?;
-    loaded(alloc, files, &order)
+    let site = load_named(alloc, files, "large")?;
+    Ok(Arc::new(alloc, site)?)
 }
