@@ -193,10 +193,10 @@ fn play_with<'a, M: Room + Send + Sync, R: Threads + Wait + Sync>(
     listener: Listener<'a, M>,
 ) -> Result<(), NoMemory> {
     let mut players = workers;
-    if players.push(Player::Listens(listener)).is_err() {
-        return Err(NoMemory);
+    match players.push(Player::Listens(listener)) {
+        Ok(()) => play_on_threads(rt, players),
+        Err(failed) => Err(NoMemory::from(failed)),
     }
-    play_on_threads(rt, players)
 }
 
 /// The workers, each with its seat, its looks and what it rests with.
@@ -223,8 +223,8 @@ fn workers<'a, M: Room>(
         let Some(worker) = worker_of(alloc, hands, queue, seats, looks, rest) else {
             return Ok(players);
         };
-        if players.push(Player::Works(worker)).is_err() {
-            return Err(NoMemory);
+        if let Err(failed) = players.push(Player::Works(worker)) {
+            return Err(NoMemory::from(failed));
         }
     }
     Ok(players)
