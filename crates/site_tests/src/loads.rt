@@ -1,5 +1,5 @@
 //! Sites by example: how they are loaded.
-ghost use Rattle.std.specs.Prelude.{None};
+ghost use Rattle.std.specs.Prelude.{◌≡◌, [], None};
 
 use failing_stand_ins::MemStore;
 use file_table::{LoadFault, Site, SiteOrder, load};
@@ -136,7 +136,9 @@ fn add_large(alloc: Global, files: &mut Files, part: &str) -> Result<(), NoMemor
 }
 
 /// An empty file, which was changed in the second 0.
-pub fn empty(alloc: Global) -> Content {
+pub fn empty(alloc: Global) -> Content
+    ensures { result.bytes ≡ [] }
+{
     Content {
         bytes: Octets::make(alloc),
         second: Second::of(0),

@@ -1,5 +1,5 @@
 -- Three hosts make a site, each of whose roots is UTF-8.
-use Rattle.std.proofs.Common.{◌≡◌, ◌∷◌, ◌++◌, [], List, IsUtf8, length, ap, arith, subst, sym, ◌∙◌}
+use Rattle.std.proofs.Common.{◌≡◌, ◌∷◌, ◌++◌, [], List, IsUtf8, length, ap, arith, subst, sym, ◌∙◌, All}
 use Rattle.std.proofs.lemmas.List.Elements.{All-cons, All-nil}
 use Rattle.file_table.specs.Site.{IsLoadable}
 use Rattle.file_table.specs.declared.site_order.HostOrder.{HostOrder}
