@@ -9,7 +9,7 @@ use Rattle.rounds.specs.declared.ends.Rest.{Rest}
 use Rattle.listener.specs.FoldsInside.{ListensOn}
 use Rattle.listener.specs.ListenInside.{IsAtStart}
 use Rattle.listener_round.specs.FrontInside.{IsInStep, TookAll}
-use Rattle.rounds.specs.AtRest.{IsAtRest}
+use Rattle.board_book.specs.AtRest.{IsAtRest}
 use Rattle.rounds.specs.TableInside.{StandsInTime}
 use Rattle.listener_round.specs.StandingInside.{IsOpenedBy, KnowsLater}
 use Rattle.listener.specs.TurnsInside.{SeenListener}

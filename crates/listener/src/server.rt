@@ -15,10 +15,10 @@ ghost use Rattle.listener_round.specs.Folded.{whole_book, HasFolded};
 ghost use Rattle.listener.specs.Counted.{AsksOnce, KeepsClock};
 ghost use Rattle.listener_round.specs.Links.{EndsLinks};
 ghost use Rattle.listener.specs.Listen.{HasClosedAll, IsRunFrom};
-ghost use Rattle.rounds.specs.ClosedDown.{IsClosedDown};
+ghost use Rattle.board_book.specs.ClosedDown.{IsClosedDown};
 ghost use Rattle.listener_round.specs.FrontInside.{Follows, clients_known};
 ghost use Rattle.listener.specs.ListenInside.{IsUnopened};
-ghost use Rattle.rounds.specs.Timely.{AreTimely};
+ghost use Rattle.board_book.specs.Timely.{AreTimely};
 ghost use Rattle.listener.specs.Tells.{AllReceive};
 
 use crate::folding::{folds_join, show_for_folds};

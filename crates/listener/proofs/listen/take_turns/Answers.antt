@@ -9,7 +9,7 @@ use Rattle.listener_round.specs.ShareInside.{GoesOnInTime}
 use Rattle.conn_machine.specs.States.{is_halted, is_serving}
 use Rattle.listener_round.specs.StandingInside.{owed_at}
 use Rattle.listener.specs.TurnsInside.{listener_of}
-use Rattle.rounds.specs.Moments.{moment_for}
+use Rattle.board_book.specs.Moments.{moment_for}
 use Rattle.listener.proofs.CommandLemmas.{heeded-wait}
 use Rattle.listener.proofs.CountedEndLemmas.{alike-folded, alike-served, alike-started, asks-as, asks-more, asks-none, asks-wait, clock-behind, clock-broken, clock-idle, clock-on, clock-stays, clocks-broken, counts-ending, turns-broken}
 use Rattle.listener_round.proofs.CountedLemmas.{alike-same, counts-alike, counts-more, counts-unbroken, counts-until, same-counts, same-wait}

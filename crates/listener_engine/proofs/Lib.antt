@@ -1,0 +1,6 @@
+pub mod BroughtLemmas
+pub mod HearsLemmas
+pub mod OrderLemmas
+pub mod SilentLemmas
+pub mod StandingLemmas
+pub mod TakenLemmas

@@ -1,0 +1,159 @@
+//! How a round takes the connections that have arrived.
+//! Why it is so stands in docs/DECISIONS.md: 88, A share of the site comes first.
+ghost use Rattle.std.specs.Prelude.{◌≡◌, ◌∷◌, ◌++◌, [], IfErr, IfOk, MatchResult, OnErr, OnOk};
+ghost use Rattle.mpm_base.specs.Count.{next_count};
+ghost use Rattle.mpm_base.specs.Front.{TellsOn};
+ghost use Rattle.conn_state.specs.Known.{IsOfClient};
+ghost use Rattle.board_book.specs.Editions.{orders_in};
+ghost use Rattle.worker_group.specs.Service.{IsUp, RefusalLasts};
+ghost use Rattle.listener_turns.specs.Looks.{IsSeenIn};
+ghost use Rattle.listener_parts.specs.Did.{LeavesAlone};
+ghost use Rattle.listener_parts.specs.Taking as parts;
+ghost use Rattle.listener_parts.specs.Taking.{TakesLink};
+ghost use Rattle.listener_parts.specs.Times.{KeepsTime};
+ghost use Rattle.listener_round.specs.CountedInside.{CountsOn, CountsUntil, LacksLink};
+ghost use Rattle.listener_round.specs.FrontInside.{Follows, HandsOut, IsArrival, IsInStep, IsKnownOfFront, OnlyTakes, TellsAlike, TookAll};
+ghost use Rattle.listener_round.specs.HeardInside.{KeepsHeard};
+ghost use Rattle.listener_round.specs.OrdersInside.{ServesNewest};
+ghost use Rattle.listener_round.specs.Pace.{brought, taken};
+ghost use Rattle.listener_round.specs.RoundInside.{EndsTaking};
+ghost use Rattle.listener_round.specs.ShareInside.{HandsMany, MakesOneAtMost, TakesAllButOne, TakesHanded};
+ghost use Rattle.listener_engine.specs.Rounds.{FailsTaking, TakesSome, TakesSomeUntil};
+ghost use Rattle.listener_engine.specs.Watching.{WatchesOn};
+
+use crate::laws::show_whole_histories;
+use crate::listener_state::Listener;
+use board::BoardFault;
+use board_lock::Room;
+use conn_state::Known;
+use file_table::Site;
+use listener_round::LoadedEdition;
+use listener_turns::Look;
+use mpm_base::{Arrival, Bell, Front, Gate, Link, NoMemory};
+use std::sync::{Arc, Wait};
+
+/// A further share of the site of the edition. Refused where the site has as many shares as can be counted.
+fn share_of(edition: &LoadedEdition) -> Result<Arc<Site>, NoMemory>
+    ensures { IfOk result (λ site. site.value ≡ edition.now.site.value) }
+{
+    match Arc::try_clone(&edition.site) {
+        Ok(site) => Ok(site),
+        Err(_) => Err(NoMemory),
+    }
+}
+
+impl<'a, 'c, M: Room, L: Link, N: Known, B: Bell, G: Gate> Listener<'a, 'c, M, L, N, B, G> {
+    /// Takes the connections that have arrived, while a child admits one and a slot is vacant: the look behind which no further one could be
+    /// taken, the last turn. Before the front is asked for one there is a share of the site for it.
+    pub(crate) fn take_all<R: Wait, F: Front<L = L>>(
+        &mut self,
+        rt: &R,
+        front: &mut F,
+    ) -> Result<Look, BoardFault>
+        requires named { IsKnownOfFront N.known (F.seen front.old).told }
+        requires serves { ServesNewest N.known self.old.table.book self.old.edition }
+        requires up { IsUp self.old.table.book.state.going }
+        requires step { IsInStep (F.seen front.old).told self.old.table.book.state }
+        ensures takes { OnOk result (TakesSome self.old.table.view self.new.table.view) }
+        ensures until { IfErr result
+            (λ fault. TakesSomeUntil fault self.old.table.view self.new.table.view) }
+        ensures handed { OnOk result (TakesHanded 0 (F.seen front.old).told
+            (F.seen front.new).told self.old.table.book self.new.table.book) }
+        ensures cut { OnErr result (TakesAllButOne (F.seen front.old).told
+            (F.seen front.new).told self.old.table.book self.new.table.book) }
+        ensures timely { KeepsTime self.old.table.view self.new.table.view }
+        ensures rest { LeavesAlone (record self.old.table.book.state
+            { accepted = self.new.table.book.state.accepted }) self.new.table.book.state }
+        ensures step { OnOk result (IsInStep (F.seen front.new).told self.new.table.book.state) }
+        ensures seen { IfOk result (IsSeenIn self.new.table.book.state) }
+        ensures taken { OnOk result (TookAll (F.seen front.new).told self.new.table.book.state) }
+        ensures counts { let old = (F.seen front.old).counts in
+            let new = (F.seen front.new).counts in
+            MatchResult result
+            (λ look. CountsOn 0 old new self.old.table.book self.new.table.book)
+            (λ fault. CountsUntil old new self.old.table.book self.new.table.book) }
+        ensures wakes { (F.seen front.new).counts.wakes ≡ (F.seen front.old).counts.wakes }
+        ensures orders { orders_in self.new.table.book ≡ orders_in self.old.table.book }
+        ensures heard { KeepsHeard (F.seen front.old) (F.seen front.new) }
+        ensures follows { Follows (F.seen front.old) (F.seen front.new) }
+        ensures front { TellsOn OnlyTakes (F.seen front.old).told (F.seen front.new).told }
+        ensures watched { WatchesOn (F.seen front.old).told (F.seen front.new).told
+            self.old.table.view self.new.table.view }
+        ensures links { OnErr result
+            (HandsOut (F.seen front.new).told self.new.table.book.state) }
+        ensures others { self.new ≡ record self.old { table = self.new.table } }
+        ensures err { IfErr result (λ fault. RefusalLasts fault self.new.table.book) }
+    {
+        show_whole_histories();
+        for _ in rt.forever() {
+            let look = self.table.look(rt);
+            if look.accepts.is_none() {
+                return Ok(look);
+            }
+            let Ok(site) = share_of(&self.edition) else {
+                return Err(BoardFault::NoMemory);
+            };
+            match front.accept() {
+                Arrival::Some(link) => self.take(rt, front, link, site)?,
+                Arrival::None | Arrival::Failed => return Ok(look),
+            }
+        }
+        unreachable!()
+    }
+
+    /// Takes the connection of the link into the table, and has the front watch it under its name. Where the table refuses the
+    /// link the front turns it away, and where the front can't watch it its connection is closed.
+    fn take<R: Wait, F: Front<L = L>>(
+        &mut self,
+        rt: &R,
+        front: &mut F,
+        link: L,
+        site: Arc<Site>,
+    ) -> Result<(), BoardFault>
+        requires up { IsUp self.old.table.book.state.going }
+        requires arrival { IsArrival self.old.table.book.state.accepted (L.seen link).told }
+        requires tells { TellsAlike (F.seen front.old).told (L.seen link).told }
+        requires client { IsOfClient N.known (L.seen link).told }
+        requires site { site.value ≡ self.old.edition.site.value }
+        requires serves { ServesNewest N.known self.old.table.book self.old.edition }
+        requires healthy { (L.seen link).counts.faults ≡ 0 }
+        ensures takes { OnOk result (TakesLink (L.seen link).told (F.seen front.old)
+            (F.seen front.new) self.old.table.view self.new.table.view) }
+        ensures fails { IfErr result
+            (λ fault. parts.FailsTaking fault (L.seen link).told (F.seen front.old)
+            (F.seen front.new) self.old.table.view self.new.table.view) }
+        ensures until { IfErr result
+            (λ fault. FailsTaking fault self.old.table.view self.new.table.view) }
+        ensures makes { OnOk result (brought self.new.table.book.history
+            ≡ brought self.old.table.book.history ++ taken ∷ []) }
+        ensures made { OnErr result (MakesOneAtMost self.old.table.book self.new.table.book) }
+        ensures handed { TellsOn (HandsMany 0) (F.seen front.old).told (F.seen front.new).told }
+        ensures timely { KeepsTime self.old.table.view self.new.table.view }
+        ensures rest { LeavesAlone (record self.old.table.book.state
+            { accepted = self.new.table.book.state.accepted }) self.new.table.book.state }
+        ensures taken { OnOk result
+            (self.new.table.book.state.accepted ≡ next_count self.old.table.book.state.accepted) }
+        ensures counts { (F.seen front.new).counts ≡ (F.seen front.old).counts }
+        ensures orders { orders_in self.new.table.book ≡ orders_in self.old.table.book }
+        ensures lacks { OnErr result
+            (LacksLink self.old.table.book.state self.new.table.book.state) }
+        ensures step { OnOk result
+            (IsInStep (F.seen front.old).told self.new.table.book.state → IsInStep
+            (F.seen front.new).told self.new.table.book.state) }
+        ensures follows { Follows (F.seen front.old) (F.seen front.new) }
+        ensures front { TellsOn OnlyTakes (F.seen front.old).told (F.seen front.new).told }
+        ensures watched { WatchesOn (F.seen front.old).told (F.seen front.new).told
+            self.old.table.view self.new.table.view }
+        ensures links { OnErr result
+            (EndsTaking (L.seen link).told (F.seen front.old).told (F.seen front.new).told
+            self.old.table.book.state self.new.table.book.state) }
+        ensures others { self.new ≡ record self.old { table = self.new.table } }
+        ensures err { IfErr result (λ fault. RefusalLasts fault self.new.table.book) }
+    {
+        show_whole_histories();
+        self.table.show();
+        let alloc = self.alloc;
+        let limits = self.edition.limits;
+        self.table.take(rt, alloc, front, link, limits, site)
+    }
+}

@@ -1,0 +1,234 @@
+//! Orders, connections that are taken and handed over, what the next wait is told, and folds.
+ghost use Rattle.std.specs.Prelude.{◌≡◌, ◌<◌, [], None, false, true, IfErr, IfSome, OnOk};
+ghost use Rattle.board_book.specs.AtRest.{IsAtRest};
+ghost use Rattle.board_book.specs.Faults.{IsRefusedFor};
+ghost use Rattle.board_book.specs.Finds.{next_deadline_of};
+ghost use Rattle.conn_machine.specs.Shown.{totals_of};
+ghost use Rattle.conn_machine.specs.States.{is_serving};
+ghost use Rattle.conn_machine.specs.Table.{greatest_generation, is_not_past};
+ghost use Rattle.conn_machine.specs.declared.event.Commanded.TheVariants as commanded;
+ghost use Rattle.mpm_base.specs.Shape.{is_in_bounds};
+ghost use Rattle.conn_state.specs.Conn.{IsFresh};
+ghost use Rattle.conn_state.specs.Known.{IsOfClient};
+ghost use Rattle.listener_turns.specs.Looks.{IsSeenIn};
+ghost use Rattle.listener_parts.specs.Did.{Did, LeavesAlone, OnlySees};
+ghost use Rattle.listener_parts.specs.Orders.{DoesNoOrder, DoesOrder};
+ghost use Rattle.listener_parts.specs.Rounds.{IsStill};
+ghost use Rattle.listener_parts.specs.Times.{KeepsTime, is_ended_at};
+ghost use Rattle.conn_machine.specs.Frames.{frame_of};
+ghost use Rattle.listener_parts.specs.Taking.{FailsTaking, ServesNewest, TakesLink};
+
+use crate::table::Table;
+use board::BoardFault;
+use board::laws::{ended_connections_join, generations_keep_their_editions};
+use board_lock::Room;
+use conn_machine::laws_between_turns::own_events_tell_the_frame;
+use conn_machine::{BoxedShape, Commanded, Going, Refusal, Totals};
+use conn_state::Known;
+use file_table::Site;
+use http_read::Limits;
+use listener_hands::{hand_over, serve_here};
+use listener_parts::{Rest, fold_history, order, rest_of, take};
+use listener_turns::{Look, take_look, totals};
+use mpm_base::{Bell, Front, Gate, Link, Moment};
+use std::alloc::Global;
+use std::sync::{Arc, Wait};
+
+impl<'a, M: Room, L: Link, N: Known, B: Bell, G: Gate> Table<'a, M, L, N, B, G> {
+    /// How the server goes on.
+    pub fn going(&self) -> Going
+        ensures { result ≡ self.now.book.state.going }
+    {
+        self.going
+    }
+
+    /// The number of the newest generation.
+    pub fn newest(&self) -> u32
+        ensures { result ≡ self.now.book.state.newest }
+    {
+        self.newest
+    }
+
+    /// Begins a generation whose children have this shape.
+    pub fn begin<R: Wait>(&mut self, rt: &R, shape: BoxedShape) -> Result<(), BoardFault>
+        requires serving { is_serving self.old.book.state.going ≡ true }
+        requires newest { self.old.book.state.newest < greatest_generation }
+        requires shape { is_in_bounds shape ≡ true }
+        ensures does { OnOk result
+            (DoesOrder (commanded.Graceful shape) self.old.view self.new.view) }
+        ensures err { IfErr result (λ _. DoesNoOrder self.old.view self.new.view) }
+        ensures why { IfErr result (λ fault. IsRefusedFor fault self.new.book) }
+        ensures timely { KeepsTime self.old.view self.new.view }
+    {
+        own_events_tell_the_frame();
+        ended_connections_join();
+        generations_keep_their_editions();
+        match order(
+            rt,
+            self.hands.shared,
+            &mut self.pass,
+            Commanded::Graceful(shape),
+        ) {
+            Ok(()) => {
+                self.newest += 1;
+                Ok(())
+            }
+            Err(fault) => Err(fault),
+        }
+    }
+
+    /// Refuses a restart for the reason.
+    pub fn refuse<R: Wait>(&mut self, rt: &R, reason: Refusal) -> Result<(), BoardFault>
+        ensures does { OnOk result
+            (DoesOrder (commanded.Refused reason) self.old.view self.new.view) }
+        ensures err { IfErr result (λ _. DoesNoOrder self.old.view self.new.view) }
+        ensures why { IfErr result (λ fault. IsRefusedFor fault self.new.book) }
+        ensures timely { is_ended_at (frame_of self.old.book.state) ≡ false
+            → KeepsTime self.old.view self.new.view }
+    {
+        own_events_tell_the_frame();
+        ended_connections_join();
+        generations_keep_their_editions();
+        order(
+            rt,
+            self.hands.shared,
+            &mut self.pass,
+            Commanded::Refused(reason),
+        )
+    }
+
+    /// Takes no further connection, and lets those that are open go on until the moment, where there is one.
+    pub fn end<R: Wait>(&mut self, rt: &R, until: Option<Moment>) -> Result<(), BoardFault>
+        requires serving { is_serving self.old.book.state.going ≡ true }
+        requires until { is_not_past self.old.book.state.moment until ≡ true }
+        ensures does { OnOk result
+            (DoesOrder (commanded.GracefulStop until) self.old.view self.new.view) }
+        ensures err { IfErr result (λ _. DoesNoOrder self.old.view self.new.view) }
+        ensures why { IfErr result (λ fault. IsRefusedFor fault self.new.book) }
+        ensures timely { KeepsTime self.old.view self.new.view }
+    {
+        own_events_tell_the_frame();
+        ended_connections_join();
+        generations_keep_their_editions();
+        match order(
+            rt,
+            self.hands.shared,
+            &mut self.pass,
+            Commanded::GracefulStop(until),
+        ) {
+            Ok(()) => {
+                self.going = Going::Ending(until);
+                Ok(())
+            }
+            Err(fault) => Err(fault),
+        }
+    }
+
+    /// The numbers of a status.
+    pub fn totals<R: Wait>(&mut self, rt: &R) -> Totals
+        ensures did { Did [] None self.old.view self.new.view }
+        ensures rest { LeavesAlone self.old.book.state self.new.book.state }
+        ensures totals { result ≡ totals_of self.new.book.state }
+        ensures timely { KeepsTime self.old.view self.new.view }
+    {
+        own_events_tell_the_frame();
+        ended_connections_join();
+        generations_keep_their_editions();
+        totals(rt, self.hands.shared, &mut self.pass)
+    }
+
+    /// Looks whether a connection may be taken, and how the next wait may be.
+    pub fn look<R: Wait>(&mut self, rt: &R) -> Look
+        ensures did { Did [] None self.old.view self.new.view }
+        ensures rest { LeavesAlone self.old.book.state self.new.book.state }
+        ensures seen { IsSeenIn self.new.book.state result }
+        ensures timely { KeepsTime self.old.view self.new.view }
+    {
+        own_events_tell_the_frame();
+        ended_connections_join();
+        generations_keep_their_editions();
+        take_look(rt, self.hands.shared, &mut self.pass)
+    }
+
+    /// Takes the connection of the link, which the front has just handed out, and has the front watch it. Where the table refuses it the front
+    /// turns it away, and where the front can't watch it its connection is closed.
+    pub fn take<R: Wait, F: Front<L = L>>(
+        &mut self,
+        rt: &R,
+        alloc: Global,
+        front: &mut F,
+        link: L,
+        limits: Limits,
+        site: Arc<Site>,
+    ) -> Result<(), BoardFault>
+        requires fresh { IfSome (L.seen link).told IsFresh }
+        requires client { IsOfClient N.known (L.seen link).told }
+        requires arrival { IfSome (L.seen link).told
+            (λ t. t.rank ≡ self.old.book.state.accepted) }
+        requires serves { ServesNewest N.known self.old.view limits site.value }
+        ensures takes { OnOk result (TakesLink (L.seen link).told (F.seen front.old)
+            (F.seen front.new) self.old.view self.new.view) }
+        ensures fails { IfErr result
+            (λ fault. FailsTaking fault (L.seen link).told (F.seen front.old) (F.seen front.new)
+            self.old.view self.new.view) }
+        ensures rest { LeavesAlone (record self.old.book.state
+            { accepted = self.new.book.state.accepted }) self.new.book.state }
+        ensures timely { KeepsTime self.old.view self.new.view }
+    {
+        own_events_tell_the_frame();
+        ended_connections_join();
+        generations_keep_their_editions();
+        take(
+            rt,
+            alloc,
+            self.hands.shared,
+            &mut self.pass,
+            front,
+            link,
+            limits,
+            site,
+        )
+    }
+
+    /// What the next wait is told, by the last look.
+    pub fn rest(&mut self, look: Look) -> Rest
+        requires { IsSeenIn self.old.book.state look }
+        ensures did { Did [] None self.old.view self.new.view }
+        ensures rest { LeavesAlone self.old.book.state self.new.book.state }
+        ensures until { result.until ≡ next_deadline_of self.old.book.state }
+        ensures quiet { result.quiet ≡ true → IsStill self.old.view self.new.view }
+        ensures timely { KeepsTime self.old.view self.new.view }
+    {
+        own_events_tell_the_frame();
+        ended_connections_join();
+        generations_keep_their_editions();
+        rest_of(self.hands.shared, &mut self.pass, &self.credits, look)
+    }
+
+    /// Hands what is signalled to the workers, and serves it where they have no threads. Pass 0 does nothing in it.
+    pub fn hand_over<R: Wait>(&mut self, rt: &R)
+        ensures { self.new ≡ self.old }
+    {
+        hand_over(
+            rt,
+            self.hands,
+            &mut self.works.looks,
+            &mut self.works.lines,
+            &self.credits,
+        );
+        serve_here(rt, self.hands, &mut self.works.looks, &mut self.works.lines);
+    }
+
+    /// Folds the history, where it may be folded.
+    pub fn fold<R: Wait>(&mut self, rt: &R)
+        ensures sees { OnlySees self.old.view self.new.view }
+        ensures rest { LeavesAlone self.old.book.state self.new.book.state }
+        ensures still { IsAtRest self.old.book.state → self.new.view.seen ≡ self.old.view.seen }
+        ensures timely { KeepsTime self.old.view self.new.view }
+    {
+        own_events_tell_the_frame();
+        ended_connections_join();
+        generations_keep_their_editions();
+        fold_history(rt, self.hands.shared, &mut self.pass);
+    }
+}
