@@ -1,24 +1,28 @@
 -- How the server stops in a turn, and when it may.
-use Rattle.std.proofs.Common.{◌≡◌, Bool, true, false, not, ◌&&◌, [], ◌∷◌, map, if◌then◌else◌, None, Some, refl, sym, ap, ◌∙◌}
+use Rattle.std.proofs.Common.{◌≡◌, Bool, true, false, not, ◌&&◌, List, [], ◌∷◌, map, if◌then◌else◌, None, Some, refl, sym, ap, ◌∙◌}
 use Rattle.conn_machine.specs.declared.event.Commanded.TheVariants.{Stop}
+use Rattle.conn_machine.specs.declared.event.Entry.{Entry}
 use Rattle.conn_machine.specs.declared.event.Event.TheVariants as event
 use Rattle.conn_machine.specs.declared.event.Why.{Why}
 use Rattle.conn_machine.specs.declared.event.Why.TheVariants as why
 use Rattle.conn_machine.specs.declared.state.Going.TheVariants.{Halted}
 use Rattle.conn_machine.specs.declared.state.State.{State}
-use Rattle.conn_machine.specs.BetweenTurns.{OthersLeaveTheRestToTheListener}
+use Rattle.conn_machine.specs.BetweenTurns.{OthersLeaveTheRestToTheListener, QuietTablesAreTheListeners}
+use Rattle.conn_machine.specs.Runs.{after}
 use Rattle.conn_machine.specs.States.{is_halted}
 use Rattle.conn_machine.specs.Table.{is_allowed, next, stop_fits}
 use Rattle.table_rule.specs.declared.view.View.{View}
+use Rattle.board_book.specs.ClosedDown.{HasNoLive}
 use Rattle.board_turns.specs.Books.{state_of}
 use Rattle.board_turns.specs.Rests.{TurnsRestOn}
 use Rattle.board_turns.specs.Turns.{HadATurn, state_found}
 use Rattle.listener_parts.specs.Closing.{ClosesDown, IsHaltedWay, IsOwnReason, halts_for}
 use Rattle.listener_parts.specs.Did.{Did, LeavesAlone}
 use Rattle.listener_parts.specs.Letting.{LetsGo, gone_events}
-use Rattle.listener_parts.specs.Rounds.{RetiresSome}
-use Rattle.listener_parts.proofs.AloneLemmas.{others_alone, turn_alone}
+use Rattle.listener_parts.specs.Rounds.{OpenedWithNone, RetiresSome}
+use Rattle.listener_parts.proofs.AloneLemmas.{others_alone, state_behind, turn_alone}
 use Rattle.listener_parts.proofs.DidLemmas.{did_more, did_turn}
+use Rattle.listener_parts.proofs.DownLemmas.{down_found}
 use Rattle.listener_parts.proofs.RoundLemmas.{next_behind}
 
 pub stop_did : (reason : Why) (done : Bool) (old new : View) → HadATurn (if done then event.Command (Stop reason) ∷ [] else []) old new → new.row ≡ None
@@ -74,6 +78,24 @@ stop_may law rests reason true old new number own may turn stays = refl
 stop_may law rests reason false old new number own may turn stays =
     let same = allowed_still reason (state_of old) (state_of new) own (turn_alone law rests [] old new number tt turn) in
     let refused : is_allowed (state_of old) (event.Command (Stop reason)) ≡ false = sym same ∙ stays refl in
+    absurd (cc (refused, may))
+
+nothing_added : (s : State) (added : List Entry) → map (λ (e : Entry). e.event) added ≡ [] → after s added ≡ s
+nothing_added s [] none = refl
+nothing_added s (e ∷ added) none = absurd (cc)
+
+-- it may for the end of the front too where no connection is live: the turn finds what the pass had seen
+pub stop_alone : QuietTablesAreTheListeners → TurnsRestOn → (reason : Why) (done : Bool) (old new : View) → old.who.number ≡ 0 → OpenedWithNone old
+    → HasNoLive (state_of old) → is_allowed (state_of old) (event.Command (Stop reason)) ≡ true
+    → HadATurn (if done then event.Command (Stop reason) ∷ [] else []) old new → (done ≡ false → is_allowed (state_of new) (event.Command (Stop reason)) ≡ false)
+    → done ≡ true
+stop_alone law rests reason true old new number opened none may turn stays = refl
+stop_alone law rests reason false old new number opened none may (found, t) stays =
+    let same : state_of new ≡ state_of old =
+    state_behind rests found [] old new t ∙ nothing_added (state_found old found) t.added t.events_are
+    ∙ ap (state_found old) (down_found law found [] old new opened number none t) in
+    let refused : is_allowed (state_of old) (event.Command (Stop reason)) ≡ false =
+    ap (λ (s : State). is_allowed s (event.Command (Stop reason))) (sym same) ∙ stays refl in
     absurd (cc (refused, may))
 
 -- ## Going down

@@ -23,7 +23,9 @@ use board::Board;
 use board_lock::{Pass, Shared};
 use board_turns::turns_rest_on_these;
 use conn_machine::Why;
-use conn_machine::laws_between_turns::others_leave_the_rest_to_the_listener;
+use conn_machine::laws_between_turns::{
+    others_leave_the_rest_to_the_listener, quiet_tables_are_the_listeners,
+};
 use conn_state::Known;
 use listener_turns::{Due, Held, close, halt, hold, take_look};
 use mpm_base::{Cause, Link, Tail};
@@ -31,7 +33,8 @@ use std::sync::Wait;
 use worker_group::laws::connections_in_hand_may_be_closed;
 
 /// Stops the server for that, where it may stop: whether it did. It always does where it might for what the pass had seen, but for
-/// the end of its front, for which no connection may be live: that is seen in the turn. Takes no memory.
+/// the end of its front, for which no connection may be live: that is seen in the turn. Where none is live of what the pass had seen, nobody
+/// else adds an entry, so it does for the end of its front too. Takes no memory.
 pub fn stop<R: Wait, L: Link, N: Known>(
     rt: &R,
     shared: &Shared<Board<L, N>>,
@@ -58,9 +61,14 @@ pub fn stop<R: Wait, L: Link, N: Known>(
     ensures may { IsOwnReason why
         → is_allowed (state_of pass.old.seat.me.0) (event.Command (Stop why)) ≡ true
         → result ≡ true }
+    ensures alone { OpenedWithNone pass.old.seat.me.0
+        → HasNoLive (state_of pass.old.seat.me.0)
+        → is_allowed (state_of pass.old.seat.me.0) (event.Command (Stop why)) ≡ true
+        → result ≡ true }
 {
     turns_rest_on_these();
     others_leave_the_rest_to_the_listener();
+    quiet_tables_are_the_listeners();
     halt(rt, shared, pass, why)
 }
 

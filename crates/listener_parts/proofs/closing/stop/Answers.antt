@@ -1,5 +1,5 @@
 use Rattle.std.proofs.Common.{◌∙◌}
-use Rattle.listener_parts.proofs.StopLemmas.{stop_accepted, stop_did, stop_going, stop_may, stop_moment, stop_stays}
+use Rattle.listener_parts.proofs.StopLemmas.{stop_accepted, stop_alone, stop_did, stop_going, stop_may, stop_moment, stop_stays}
 use Rattle.listener_parts.proofs.closing.stop.Goals as goal
 
 pub returns-clause-did : goal.returns-clause-did
@@ -26,6 +26,11 @@ returns-clause-stays g c none =
 pub returns-clause-may : goal.returns-clause-may
 returns-clause-may g c own may =
     stop_may c.others_leave_the_rest_to_the_listener.ensures c.turns_rest_on_these.ensures c.args.why c.halt.result _ _ c.requires.listener.number own may
+    c.halt.ensures.turn c.halt.ensures.stays
+
+pub returns-clause-alone : goal.returns-clause-alone
+returns-clause-alone g c opened none may =
+    stop_alone c.quiet_tables_are_the_listeners.ensures c.turns_rest_on_these.ensures c.args.why c.halt.result _ _ c.requires.listener.number opened none may
     c.halt.ensures.turn c.halt.ensures.stays
 
 pub returns-clause-refused : goal.returns-clause-refused
