@@ -18,7 +18,7 @@ use Rattle.conn_machine.specs.States.{opening_state, unused_row}
 use Rattle.conn_state.specs.Known.{KnownOutside}
 use Rattle.table_rule.specs.declared.view.Origin.{Origin}
 use Rattle.table_rule.specs.declared.view.View.{View}
-use Rattle.table_rule.specs.Tie.{IsNew}
+use Rattle.table_rule.specs.Tie.{IsNew, origin_of}
 use Rattle.table_rule.specs.Views.{first_view}
 use Rattle.board_lock.specs.Passes.{IsFree, fresh_view}
 use Rattle.recycle_perch.specs.Resting.{IsFreeCarrier}
@@ -44,6 +44,13 @@ opens b slots children passes shape bounds some few base folded history is ended
   texts = ap (map line_of) ended;
   folded = folded ∙ ap opening_record (sym is);
 }
+
+-- the origin of its passes is that of so many slots, children and passes
+pub fresh_is : {S : Type 0} (b : SeenBoard) (slots children passes : ℕ) (shape : Shape) (k : ℕ) (me : Me S View) → b.book.base ≡ opening_state slots children shape
+    → b.book.passes ≡ passes → me ≡ (fresh_view (origin_of (ledger_of b)) k, []) → me ≡ (fresh_view (opening_origin slots children passes shape) k, [])
+fresh_is b slots children passes shape k me base is fresh =
+    let origin : origin_of (ledger_of b) ≡ opening_origin slots children passes shape = rw (base, is) refl in
+    subst (λ (o : Origin). me ≡ (fresh_view o k, [])) origin fresh
 
 -- ## The pass that listens
 
@@ -81,7 +88,7 @@ none_live zero = refl
 none_live (suc slots) = none_live slots
 
 module _ (slots children passes : ℕ) (shape : Shape) (v : View) (o : OpensAt (opening_origin slots children passes shape) v) where
-  state_is : state_of v ≡ opening_state slots children shape
+  pub state_is : state_of v ≡ opening_state slots children shape
   state_is = ap (λ l. state_of (record v { seen = l })) o.seen ∙ ap (λ (g : Origin). g.state) o.origin_is
 
   pub opens_live : HasNoLive (state_of v)
@@ -125,7 +132,7 @@ fresh_carrier {S} origin count i k me is sum =
 -- ## Lists
 
 -- an item between two lists
-at_between : {X : Type 0} (xs ys : List X) (x : X) → slice_get (xs ++ x ∷ ys) (length xs) ≡ Some x
+pub at_between : {X : Type 0} (xs ys : List X) (x : X) → slice_get (xs ++ x ∷ ys) (length xs) ≡ Some x
 at_between [] ys x = refl
 at_between (z ∷ xs) ys x = at_between xs ys x
 
@@ -141,8 +148,12 @@ pub last_at : {X : Type 0} (P : ℕ → X → Type 0) (old new : List X) (o : Op
 last_at P old new None e all = tt
 last_at P old new (Some x) e all = all (length new) x (ap (λ l. slice_get l (length new)) e ∙ at_between new [] x)
 
+-- the last item of a list
+pub at_end : {X : Type 0} (all rest : List X) (x : X) → all ≡ rest ++ x ∷ [] → slice_get all (length rest) ≡ Some x
+at_end all rest x is = ap (λ l. slice_get l (length rest)) is ∙ at_between rest [] x
+
 -- an item of a list that was turned round
-at_reverse : {X : Type 0} (xs : List X) (i k : ℕ) (x : X) → slice_get (reverse xs) i ≡ Some x → i + k + 1 ≡ length xs → slice_get xs k ≡ Some x
+pub at_reverse : {X : Type 0} (xs : List X) (i k : ℕ) (x : X) → slice_get (reverse xs) i ≡ Some x → i + k + 1 ≡ length xs → slice_get xs k ≡ Some x
 at_reverse xs i k x at sum =
     let less : i < length xs = omega (arith, sum) in
     let is : get_or xs (length xs - 1 - i) x ≡ x = sym (get_or-reverse xs i x less) ∙ get_or_from_slice_get (reverse xs) i x x at in

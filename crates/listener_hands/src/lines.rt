@@ -1,5 +1,5 @@
 //! The queues of the children, and the listener's seat at each.
-ghost use Rattle.std.specs.Prelude.{◌≡◌, ◌≤◌, ℕ, IfOk, Some, length, slice_get, vec_len};
+ghost use Rattle.std.specs.Prelude.{◌≡◌, ◌<◌, ◌≤◌, ◌+◌, ℕ, IfOk, Some, length, slice_get, vec_capacity, vec_len};
 ghost use Rattle.crossbeam_queue.specs.Passes.{IsPassOf};
 
 use board_lock::Room;
@@ -34,15 +34,41 @@ pub fn make_queues<M: Room, L: Link, N: Known>(
         → slice_get made.seats.items child ≡ Some seat
         → IsPassOf queue.ring seat) }
 {
-    let mut queues = Vec::new(alloc);
-    let mut seats = Vec::new(alloc);
+    let mut queues = Vec::with_capacity(alloc, children as usize)?;
+    let mut seats = Vec::with_capacity(alloc, children as usize)?;
     for _ in 0..children {
         let (queue, seat) = make_queue::<M, L, N>(alloc)?;
-        if queues.push(queue).is_err() || seats.push(seat).is_err() {
-            return Err(NoMemory);
-        }
+        add_queue(&mut queues, &mut seats, queue, seat);
     }
     Ok(Queues { queues, seats })
+}
+
+/// Puts a queue, and its seat, behind all others.
+fn add_queue<M: Room, L: Link, N: Known>(
+    queues: &mut Vec<FdQueue<Pair<M, L, N>>>,
+    seats: &mut Vec<FdSeat<Pair<M, L, N>>>,
+    queue: FdQueue<Pair<M, L, N>>,
+    seat: FdSeat<Pair<M, L, N>>,
+)
+    requires room { vec_len queues.old < vec_capacity queues.old }
+    requires seat_room { vec_len seats.old < vec_capacity seats.old }
+    requires long { vec_len queues.old ≡ vec_len seats.old }
+    requires mine { IsPassOf queue.ring seat }
+    requires own { (child : ℕ) (q : _) (s : _)
+        → slice_get queues.old.items child ≡ Some q
+        → slice_get seats.old.items child ≡ Some s
+        → IsPassOf q.ring s }
+    ensures queues { vec_len queues.new ≡ vec_len queues.old + 1 }
+    ensures seats { vec_len seats.new ≡ vec_len seats.old + 1 }
+    ensures room { vec_capacity queues.new ≡ vec_capacity queues.old }
+    ensures seat_room { vec_capacity seats.new ≡ vec_capacity seats.old }
+    ensures own { (child : ℕ) (q : _) (s : _)
+        → slice_get queues.new.items child ≡ Some q
+        → slice_get seats.new.items child ≡ Some s
+        → IsPassOf q.ring s }
+{
+    queues.push_reserved(queue);
+    seats.push_reserved(seat);
 }
 
 /// An empty queue, with one seat.
@@ -81,14 +107,14 @@ pub fn make_lines<'a, M: Room, L: Link, N: Known>(
 {
     let mut seats = seats;
     seats.reverse();
-    let mut lines = Vec::new(alloc);
+    let Ok(mut lines) = Vec::with_capacity(alloc, queues.len()) else {
+        return Err(NoMemory);
+    };
     for queue in queues {
         let Some(seat) = seats.pop() else {
-            return Err(NoMemory);
+            unreachable!()
         };
-        if lines.push(Line { queue, seat }).is_err() {
-            return Err(NoMemory);
-        }
+        lines.push_reserved(Line { queue, seat });
     }
     Ok(lines)
 }

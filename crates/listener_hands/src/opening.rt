@@ -3,6 +3,7 @@ ghost use Rattle.std.specs.Prelude.{◌≡◌, ◌+◌, ◌≤◌, ℕ, IfOk, So
 ghost use Rattle.mpm_base.specs.Shape.{is_in_bounds};
 ghost use Rattle.board_book.specs.ClosedDown.{HasNoLive};
 ghost use Rattle.conn_machine.specs.Sound.{IsSound};
+ghost use Rattle.conn_machine.specs.States.{opening_state};
 ghost use Rattle.board_turns.specs.Books.{state_of};
 ghost use Rattle.board_turns.specs.Turns.{IsListener};
 ghost use Rattle.listener_parts.specs.Rounds.{OpenedWithNone};
@@ -43,6 +44,8 @@ pub fn open<L: Link, N: Known>(
     ensures listener { IfOk result (λ o. IsListener o.pass.seat.me) }
     ensures opens { IfOk result
         (λ o. OpensAt (opening_origin slots children passes shape) o.pass.seat.me.0) }
+    ensures state { IfOk result
+        (λ o. state_of o.pass.seat.me.0 ≡ opening_state slots children shape) }
     ensures opened { IfOk result (λ o. OpenedWithNone o.pass.seat.me.0) }
     ensures none { IfOk result (λ o. HasNoLive (state_of o.pass.seat.me.0)) }
     ensures sound { IfOk result (λ o. IsSound o.pass.seat.me.0.origin.state) }

@@ -1,4 +1,4 @@
-use Rattle.std.proofs.Common.{◌≡◌, ℕ, ap, ◌∙◌}
+use Rattle.std.proofs.Common.{◌≡◌, ℕ, IfSome, ap, subst, sym, ◌∙◌}
 use Rattle.std.specs.Prelude.{slice_get}
 use Rattle.listener_hands.specs.Opened.{IsNumberedBelow}
 use Rattle.listener_hands.proofs.OpeningLemmas.{at_first, last_at}
@@ -19,4 +19,5 @@ returns-clause-own g c =
 
 pub returns-clause-last : goal.returns-clause-last
 returns-clause-last g c =
-    last_at (λ i carrier. IsNumberedBelow c.args.count i carrier.seat.me) _ c.pop.new.self.items c.pop.result c.pop.ensures.items c.requires.numbered
+    subst (λ n. IfSome c.pop.result (λ carrier. IsNumberedBelow c.args.count n carrier.seat.me)) (sym c.pop.new.self.ok.0)
+    (last_at (λ i carrier. IsNumberedBelow c.args.count i carrier.seat.me) _ c.pop.new.self.items c.pop.result c.pop.ensures.items c.requires.numbered)
