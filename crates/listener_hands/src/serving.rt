@@ -2,10 +2,11 @@
 ghost use Rattle.std.specs.Prelude.{◌≡◌, ◌≤◌, vec_len};
 ghost use Rattle.recycle_perch.specs.Looking.{AreOf};
 
+use crate::handing::hand_over;
 use crate::lines::Line;
 use board_lock::Room;
 use conn_state::Known;
-use listener_parts::Workers;
+use listener_parts::{Credits, Workers};
 use mpm_base::{Bell, Gate, Link};
 use recycle_perch::Looks;
 use std::sync::Wait;
@@ -54,6 +55,14 @@ pub struct WorksHere<'a, 'b, M: Room, L: Link, N: Known, B: Bell, G: Gate> {
     pub lines: Vec<Line<'a, M, L, N>>,
     ghost looks_of: { AreOf hands.now.perch.now.places looks },
     ghost few: { vec_len lines ≤ 32 },
+}
+
+impl<M: Room, L: Link, N: Known, B: Bell, G: Gate> WorksHere<'_, '_, M, L, N, B, G> {
+    /// Hands what is signalled to the workers, and serves it for them.
+    pub fn hand_over<R: Wait>(&mut self, rt: &R, credits: &Credits) {
+        hand_over(rt, self.hands, &mut self.looks, &mut self.lines, credits);
+        serve_here(rt, self.hands, &mut self.looks, &mut self.lines);
+    }
 }
 
 impl<M: Room, L: Link, N: Known, B: Bell, G: Gate> Workers for WorksHere<'_, '_, M, L, N, B, G> {

@@ -96,7 +96,7 @@ own_more : (p : ℕ) (a b : List Entry) → own_events p (a ++ b) ≡ own_events
 own_more p a b = ap (map (λ (e : Entry). e.event)) (filter-append (is_of_pass p) a b) ∙ map-append (λ (e : Entry). e.event) (entries_of p a) (entries_of p b)
 
 -- others' entries are none of the pass
-own_seen : (p : ℕ) (seen history : List Entry) → HasSeen p seen history → own_events p history ≡ own_events p seen ++ []
+pub own_seen : (p : ℕ) (seen history : List Entry) → HasSeen p seen history → own_events p history ≡ own_events p seen ++ []
 own_seen p seen history others =
     ap (own_events p) others.1 ∙ own_more p seen others.0 ∙ ap (λ l. own_events p seen ++ map (λ (e : Entry). e.event) l) others.2
 

@@ -188,6 +188,7 @@ pub fn close_down<R: Wait, L: Link, N: Known, W: Workers>(
     ensures own { pass.new.seat.table_id ≡ pass.old.seat.table_id }
     ensures listener { IsListener pass.new.seat.me }
     ensures down { ClosesDown pass.old.seat.me.0 pass.new.seat.me.0 }
+    ensures credits { AreCredits credits.new pass.new.seat.me.0 }
     ensures rest { StandsAs (state_of pass.old.seat.me.0) (state_of pass.new.seat.me.0) }
     ensures closed { IsClosedDown (state_of pass.new.seat.me.0) }
 {

@@ -1,6 +1,6 @@
 //! How a server goes down.
 ghost use Rattle.std.specs.Prelude.{◌≡◌, [], None, Some, false, true, if◌then◌else◌};
-ghost use Rattle.board_book.specs.ClosedDown.{IsClosedDown};
+ghost use Rattle.board_book.specs.ClosedDown.{HasNoLive, IsClosedDown};
 ghost use Rattle.conn_machine.specs.States.{is_halted};
 ghost use Rattle.conn_machine.specs.Table.{is_allowed};
 ghost use Rattle.conn_machine.specs.declared.event.Commanded.TheVariants.{Stop};
@@ -12,11 +12,11 @@ ghost use Rattle.conn_machine.specs.Frames.{frame_of};
 ghost use Rattle.listener_parts.specs.Did.{Did, LeavesAlone, StandsAs};
 ghost use Rattle.listener_hands.specs.Closed.{ClosesAs};
 
+use crate::kept::going_behind;
+use crate::laws::table_rests_on_these;
 use crate::table::Table;
 use board::Board;
-use board::laws::{ended_connections_join, generations_keep_their_editions};
 use board_lock::Room;
-use conn_machine::laws_between_turns::own_events_tell_the_frame;
 use conn_machine::{Going, Why};
 use conn_state::Known;
 use listener_hands::close;
@@ -38,16 +38,16 @@ impl<'a, M: Room, L: Link, N: Known, B: Bell, G: Gate> Table<'a, M, L, N, B, G> 
         ensures may { IsOwnReason why
             → is_allowed self.old.book.state (event.Command (Stop why)) ≡ true
             → result ≡ true }
+        ensures alone { HasNoLive self.old.book.state
+            → is_allowed self.old.book.state (event.Command (Stop why)) ≡ true
+            → result ≡ true }
         ensures timely { is_ended_at (frame_of self.old.book.state) ≡ false
             → KeepsTime self.old.view self.new.view }
     {
-        own_events_tell_the_frame();
-        ended_connections_join();
-        generations_keep_their_editions();
+        table_rests_on_these();
+        let going = self.going;
         let stopped = stop(rt, self.hands.shared, &mut self.pass, why);
-        if stopped {
-            self.going = Going::Halted(why);
-        }
+        self.going = going_behind(going, Going::Halted(why), stopped);
         stopped
     }
 
@@ -59,9 +59,7 @@ impl<'a, M: Room, L: Link, N: Known, B: Bell, G: Gate> Table<'a, M, L, N, B, G> 
         ensures closed { IsClosedDown self.new.book.state }
         ensures timely { KeepsTime self.old.view self.new.view }
     {
-        own_events_tell_the_frame();
-        ended_connections_join();
-        generations_keep_their_editions();
+        table_rests_on_these();
         close_down(
             rt,
             self.hands.shared,

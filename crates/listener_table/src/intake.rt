@@ -18,16 +18,15 @@ ghost use Rattle.listener_parts.specs.Times.{KeepsTime, is_ended_at};
 ghost use Rattle.conn_machine.specs.Frames.{frame_of};
 ghost use Rattle.listener_parts.specs.Taking.{FailsTaking, ServesNewest, TakesLink};
 
+use crate::kept::{going_behind, newest_behind};
+use crate::laws::table_rests_on_these;
 use crate::table::Table;
 use board::BoardFault;
-use board::laws::{ended_connections_join, generations_keep_their_editions};
 use board_lock::Room;
-use conn_machine::laws_between_turns::own_events_tell_the_frame;
 use conn_machine::{BoxedShape, Commanded, Going, Refusal, Totals};
 use conn_state::Known;
 use file_table::Site;
 use http_read::Limits;
-use listener_hands::{hand_over, serve_here};
 use listener_parts::{Rest, fold_history, order, rest_of, take};
 use listener_turns::{Look, take_look, totals};
 use mpm_base::{Bell, Front, Gate, Link, Moment};
@@ -60,21 +59,16 @@ impl<'a, M: Room, L: Link, N: Known, B: Bell, G: Gate> Table<'a, M, L, N, B, G> 
         ensures why { IfErr result (λ fault. IsRefusedFor fault self.new.book) }
         ensures timely { KeepsTime self.old.view self.new.view }
     {
-        own_events_tell_the_frame();
-        ended_connections_join();
-        generations_keep_their_editions();
-        match order(
+        table_rests_on_these();
+        let newest = self.newest;
+        let begun = order(
             rt,
             self.hands.shared,
             &mut self.pass,
             Commanded::Graceful(shape),
-        ) {
-            Ok(()) => {
-                self.newest += 1;
-                Ok(())
-            }
-            Err(fault) => Err(fault),
-        }
+        );
+        self.newest = newest_behind(newest, begun.is_ok());
+        begun
     }
 
     /// Refuses a restart for the reason.
@@ -86,9 +80,7 @@ impl<'a, M: Room, L: Link, N: Known, B: Bell, G: Gate> Table<'a, M, L, N, B, G> 
         ensures timely { is_ended_at (frame_of self.old.book.state) ≡ false
             → KeepsTime self.old.view self.new.view }
     {
-        own_events_tell_the_frame();
-        ended_connections_join();
-        generations_keep_their_editions();
+        table_rests_on_these();
         order(
             rt,
             self.hands.shared,
@@ -107,21 +99,16 @@ impl<'a, M: Room, L: Link, N: Known, B: Bell, G: Gate> Table<'a, M, L, N, B, G> 
         ensures why { IfErr result (λ fault. IsRefusedFor fault self.new.book) }
         ensures timely { KeepsTime self.old.view self.new.view }
     {
-        own_events_tell_the_frame();
-        ended_connections_join();
-        generations_keep_their_editions();
-        match order(
+        table_rests_on_these();
+        let going = self.going;
+        let ends = order(
             rt,
             self.hands.shared,
             &mut self.pass,
             Commanded::GracefulStop(until),
-        ) {
-            Ok(()) => {
-                self.going = Going::Ending(until);
-                Ok(())
-            }
-            Err(fault) => Err(fault),
-        }
+        );
+        self.going = going_behind(going, Going::Ending(until), ends.is_ok());
+        ends
     }
 
     /// The numbers of a status.
@@ -131,9 +118,7 @@ impl<'a, M: Room, L: Link, N: Known, B: Bell, G: Gate> Table<'a, M, L, N, B, G> 
         ensures totals { result ≡ totals_of self.new.book.state }
         ensures timely { KeepsTime self.old.view self.new.view }
     {
-        own_events_tell_the_frame();
-        ended_connections_join();
-        generations_keep_their_editions();
+        table_rests_on_these();
         totals(rt, self.hands.shared, &mut self.pass)
     }
 
@@ -144,9 +129,7 @@ impl<'a, M: Room, L: Link, N: Known, B: Bell, G: Gate> Table<'a, M, L, N, B, G> 
         ensures seen { IsSeenIn self.new.book.state result }
         ensures timely { KeepsTime self.old.view self.new.view }
     {
-        own_events_tell_the_frame();
-        ended_connections_join();
-        generations_keep_their_editions();
+        table_rests_on_these();
         take_look(rt, self.hands.shared, &mut self.pass)
     }
 
@@ -175,9 +158,7 @@ impl<'a, M: Room, L: Link, N: Known, B: Bell, G: Gate> Table<'a, M, L, N, B, G> 
             { accepted = self.new.book.state.accepted }) self.new.book.state }
         ensures timely { KeepsTime self.old.view self.new.view }
     {
-        own_events_tell_the_frame();
-        ended_connections_join();
-        generations_keep_their_editions();
+        table_rests_on_these();
         take(
             rt,
             alloc,
@@ -199,9 +180,7 @@ impl<'a, M: Room, L: Link, N: Known, B: Bell, G: Gate> Table<'a, M, L, N, B, G> 
         ensures quiet { result.quiet ≡ true → IsStill self.old.view self.new.view }
         ensures timely { KeepsTime self.old.view self.new.view }
     {
-        own_events_tell_the_frame();
-        ended_connections_join();
-        generations_keep_their_editions();
+        table_rests_on_these();
         rest_of(self.hands.shared, &mut self.pass, &self.credits, look)
     }
 
@@ -209,14 +188,7 @@ impl<'a, M: Room, L: Link, N: Known, B: Bell, G: Gate> Table<'a, M, L, N, B, G> 
     pub fn hand_over<R: Wait>(&mut self, rt: &R)
         ensures { self.new ≡ self.old }
     {
-        hand_over(
-            rt,
-            self.hands,
-            &mut self.works.looks,
-            &mut self.works.lines,
-            &self.credits,
-        );
-        serve_here(rt, self.hands, &mut self.works.looks, &mut self.works.lines);
+        self.works.hand_over(rt, &self.credits);
     }
 
     /// Folds the history, where it may be folded.
@@ -226,9 +198,7 @@ impl<'a, M: Room, L: Link, N: Known, B: Bell, G: Gate> Table<'a, M, L, N, B, G> 
         ensures still { IsAtRest self.old.book.state → self.new.view.seen ≡ self.old.view.seen }
         ensures timely { KeepsTime self.old.view self.new.view }
     {
-        own_events_tell_the_frame();
-        ended_connections_join();
-        generations_keep_their_editions();
+        table_rests_on_these();
         fold_history(rt, self.hands.shared, &mut self.pass);
     }
 }

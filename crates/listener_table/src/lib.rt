@@ -7,6 +7,8 @@
 
 mod down;
 mod intake;
+mod kept;
+mod laws;
 mod round;
 mod table;
 

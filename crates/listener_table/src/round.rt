@@ -11,20 +11,17 @@ ghost use Rattle.listener_parts.specs.Letting.{LetsGo, LetsGoOfConns, LetsGoUnti
 ghost use Rattle.listener_parts.specs.Times.{KeepsTime, MayPassTo, MaySignal};
 ghost use Rattle.listener_parts.specs.Rounds.{IsRestedFor, PassesTime, RetiresSome, Signals, SignalsSome, StartsAtFirst, StartsEach, TicksAtOnce};
 
+use crate::kept::moment_behind;
+use crate::laws::table_rests_on_these;
 use crate::table::Table;
 use board::BoardFault;
-use board::laws::{ended_connections_join, generations_keep_their_editions};
 use board_lock::Room;
-use board_turns::turns_rest_on_these;
-use conn_machine::laws_between_turns::{
-    others_leave_the_rest_to_the_listener, own_events_tell_the_frame,
-};
 use conn_state::Known;
 use listener_parts::{
     let_go_of_conns, let_time_pass, retire_all, signal, start_first, start_further,
 };
 use listener_turns::take_look;
-use mpm_base::{Bell, GREATEST_MOMENT, Gate, Link, Moment};
+use mpm_base::{Bell, Gate, Link, Moment};
 use std::sync::Wait;
 
 impl<'a, M: Room, L: Link, N: Known, B: Bell, G: Gate> Table<'a, M, L, N, B, G> {
@@ -52,17 +49,11 @@ impl<'a, M: Room, L: Link, N: Known, B: Bell, G: Gate> Table<'a, M, L, N, B, G> 
         ensures timely { MayPassTo (moment_for moment) (frame_of self.old.book.state)
             → KeepsTime self.old.view self.new.view }
     {
-        own_events_tell_the_frame();
-        ended_connections_join();
-        generations_keep_their_editions();
+        table_rests_on_these();
         let present = self.moment;
-        match let_time_pass(rt, self.hands.shared, &mut self.pass, present, moment) {
-            Ok(()) => {
-                self.moment = present.max(moment.min(GREATEST_MOMENT));
-                Ok(())
-            }
-            Err(fault) => Err(fault),
-        }
+        let passed = let_time_pass(rt, self.hands.shared, &mut self.pass, present, moment);
+        self.moment = moment_behind(present, moment, passed.is_ok());
+        passed
     }
 
     /// Signals each of the slots that the table has.
@@ -74,9 +65,7 @@ impl<'a, M: Room, L: Link, N: Known, B: Bell, G: Gate> Table<'a, M, L, N, B, G> 
         ensures timely { MaySignal (frame_of self.old.book.state)
             → KeepsTime self.old.view self.new.view }
     {
-        own_events_tell_the_frame();
-        ended_connections_join();
-        generations_keep_their_editions();
+        table_rests_on_these();
         signal(rt, self.hands.shared, &mut self.pass, slots)
     }
 
@@ -92,9 +81,7 @@ impl<'a, M: Room, L: Link, N: Known, B: Bell, G: Gate> Table<'a, M, L, N, B, G> 
         ensures lasts { IfErr result (λ fault. Lasts fault self.new.book.state) }
         ensures timely { KeepsTime self.old.view self.new.view }
     {
-        own_events_tell_the_frame();
-        ended_connections_join();
-        generations_keep_their_editions();
+        table_rests_on_these();
         let_go_of_conns(rt, self.hands.shared, &mut self.pass, all_signalled)
     }
 
@@ -104,9 +91,7 @@ impl<'a, M: Room, L: Link, N: Known, B: Bell, G: Gate> Table<'a, M, L, N, B, G> 
         ensures rest { StandsAs self.old.book.state self.new.book.state }
         ensures timely { KeepsTime self.old.view self.new.view }
     {
-        own_events_tell_the_frame();
-        ended_connections_join();
-        generations_keep_their_editions();
+        table_rests_on_these();
         retire_all(
             rt,
             self.hands.shared,
@@ -128,9 +113,7 @@ impl<'a, M: Room, L: Link, N: Known, B: Bell, G: Gate> Table<'a, M, L, N, B, G> 
             → is_staffed self.new.book.state ≡ true }
         ensures timely { KeepsTime self.old.view self.new.view }
     {
-        own_events_tell_the_frame();
-        ended_connections_join();
-        generations_keep_their_editions();
+        table_rests_on_these();
         let look = take_look(rt, self.hands.shared, &mut self.pass);
         !look.going.is_serving() && !look.staffed
     }
@@ -143,10 +126,7 @@ impl<'a, M: Room, L: Link, N: Known, B: Bell, G: Gate> Table<'a, M, L, N, B, G> 
         ensures why { IfErr result (λ fault. IsRefusedFor fault self.new.book) }
         ensures timely { KeepsTime self.old.view self.new.view }
     {
-        own_events_tell_the_frame();
-        others_leave_the_rest_to_the_listener();
-        ended_connections_join();
-        generations_keep_their_editions();
+        table_rests_on_these();
         start_first(rt, self.hands.shared, &mut self.pass, &mut self.credits)
     }
 
@@ -158,11 +138,7 @@ impl<'a, M: Room, L: Link, N: Known, B: Bell, G: Gate> Table<'a, M, L, N, B, G> 
         ensures why { IfErr result (λ fault. IsRefusedFor fault self.new.book) }
         ensures timely { KeepsTime self.old.view self.new.view }
     {
-        turns_rest_on_these();
-        own_events_tell_the_frame();
-        others_leave_the_rest_to_the_listener();
-        ended_connections_join();
-        generations_keep_their_editions();
+        table_rests_on_these();
         start_further(rt, self.hands.shared, &mut self.pass, &mut self.credits)
     }
 }

@@ -10,12 +10,10 @@ ghost use Rattle.listener_parts.specs.Rounds.{OpenedWithNone};
 ghost use Rattle.listener_table.specs.Table.{table_of};
 ghost use Rattle.listener_turns.specs.Folds.{HasDropped};
 
+use crate::laws::table_rests_on_these;
 use board::Board;
 use board_lock::{Pass, Room};
-use board_turns::turns_rest_on_these;
 use conn_machine::Going;
-use conn_machine::laws::events_keep_states_sound;
-use conn_machine::laws_of_runs::made_histories_are_runs;
 use conn_state::Known;
 use listener_hands::WorksHere;
 use listener_parts::Credits;
@@ -78,15 +76,16 @@ impl<'a, M: Room, L: Link, N: Known, B: Bell, G: Gate> Table<'a, M, L, N, B, G> 
     }
 
     /// What holds of each table: each entry that pass 0 has seen was made by its pass as it might be, from a sound state on, so the state behind
-    /// them is sound; and it has no connection. Does nothing.
+    /// them is sound; pass 0 has no connection, and no pass had one as the server opened. Does nothing.
     pub fn show(&self)
+        ensures number { self.now.view.who.number ≡ 0 }
+        ensures none { self.now.view.row ≡ None }
+        ensures no_conns { OpenedWithNone self.now.view }
         ensures made { AreMade self.now.book.base self.now.book.folded self.now.book.history }
         ensures opened { IsSound self.now.book.base }
         ensures sound { IsSound self.now.book.state }
         ensures row { row_in 0 self.now.book ≡ None }
     {
-        turns_rest_on_these();
-        events_keep_states_sound();
-        made_histories_are_runs();
+        table_rests_on_these();
     }
 }
