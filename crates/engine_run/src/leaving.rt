@@ -1,5 +1,6 @@
 //! What a board shows that comes out of the lock behind a run.
 ghost use Rattle.std.specs.Prelude.{◌≡◌, ℕ, List, Some};
+ghost use Rattle.board_turns.specs.Books.{state_of};
 ghost use Rattle.board.specs.Board.{AreOfOutside, EndedOfOutside};
 ghost use Rattle.board_book.specs.ClosedDown.{IsClosedDown};
 ghost use Rattle.board_book.specs.Timely.{AreTimely};
@@ -35,11 +36,11 @@ pub(crate) fn leave<R: Wait, M: Room, L: Link, N: Known, B: Bell, G: Gate>(
     listener: Listener<'_, '_, M, L, N, B, G>,
     numbers: RunNumbers,
 ) -> ServedRun<L>
-    requires origin { listener.table.view.origin ≡ opened_origin numbers }
-    requires down { IsClosedDown listener.table.book.state }
-    requires timely { IsInTime listener.table.view }
+    requires origin { listener.table.origin ≡ opened_origin numbers }
+    requires down { IsClosedDown (state_of listener.table) }
+    requires timely { IsInTime listener.table }
     ensures written { result.written ≡ listener.written }
-    ensures closes { ClosesAs N.known listener.table.view result.board }
+    ensures closes { ClosesAs N.known listener.table result.board }
     ensures run { (before : HasFolded numbers result.board.book) → IsRunFrom numbers result.board }
     ensures closed { (before : HasFolded numbers result.board.book)
         → IsClosedDown result.board.book.state

@@ -5,6 +5,7 @@
 //! (`specs/Turns.antt`).
 //! Why it is so stands in docs/DECISIONS.md: 90, Front, clock and store stand beside the listener; 140, Parts of the listener's round.
 ghost use Rattle.std.specs.Prelude.{◌≡◌, IfSome};
+ghost use Rattle.board_turns.specs.Books.{book_of, state_of};
 ghost use Rattle.mpm_base.specs.Front.{after_hush};
 ghost use Rattle.listener_round.specs.FrontInside.{IsKnownOfFront, ListensAsServed};
 ghost use Rattle.listener.specs.Counted.{AsksOnce};
@@ -49,20 +50,20 @@ pub(crate) fn listen<
     out: &mut K,
 )
     requires named { IsKnownOfFront N.known (F.seen front.old).told }
-    requires may { MayListen N.known (listener_of listener.old.table.view (F.seen front.old)
+    requires may { MayListen N.known (listener_of listener.old.table (F.seen front.old)
         (C.told clock.old) listener.old.ready listener.old.edition (D.seen store.old)
         listener.old.config (K.seen out.old) listener.old.written) }
-    ensures listened { let first = listener_of listener.old.table.view (F.seen front.old)
+    ensures listened { let first = listener_of listener.old.table (F.seen front.old)
         (C.told clock.old) listener.old.ready listener.old.edition (D.seen store.old)
         listener.old.config (K.seen out.old) listener.old.written in
-        let now = listener_of listener.new.table.view (F.seen front.new)
+        let now = listener_of listener.new.table (F.seen front.new)
         (C.told clock.new) listener.new.ready listener.new.edition (D.seen store.new)
         listener.new.config (K.seen out.new) listener.new.written in
         HasListened first now }
     ensures counts { CountsToEnd (F.seen front.old).counts (F.seen front.new).counts
-        listener.old.table.book listener.new.table.book }
+        (book_of listener.old.table) (book_of listener.new.table) }
     ensures clock { KeepsClockFrom (C.greatest clock.old) (C.greatest clock.new)
-        listener.old.table.book.state listener.new.table.book.state }
+        (state_of listener.old.table) (state_of listener.new.table) }
     ensures asked { AsksOnce (F.seen front.old).counts.wakes (F.seen front.new).counts.wakes
         (C.asked clock.old) (C.asked clock.new) }
 {
@@ -82,7 +83,7 @@ fn hush<M: Room, L: Link, F: Front<L = L>, N: Known, B: Bell, G: Gate>(
     front: &mut F,
 )
     requires listens { IfSome (F.seen front.old).told
-        (ListensAsServed listener.now.table.book.state) }
+        (ListensAsServed (state_of listener.now.table)) }
     ensures { F.seen front.new ≡ after_hush (F.seen front.old) }
 {
     if !listener.table.going().is_serving() {
@@ -114,20 +115,20 @@ fn take_turns<
     out: &mut K,
 ) -> Result<End, BoardFault>
     requires named { IsKnownOfFront N.known (F.seen front.old).told }
-    requires may { MayListen N.known (listener_of listener.old.table.view (F.seen front.old)
+    requires may { MayListen N.known (listener_of listener.old.table (F.seen front.old)
         (C.told clock.old) listener.old.ready listener.old.edition (D.seen store.old)
         listener.old.config (K.seen out.old) listener.old.written) }
-    ensures over { let first = listener_of listener.old.table.view (F.seen front.old)
+    ensures over { let first = listener_of listener.old.table (F.seen front.old)
         (C.told clock.old) listener.old.ready listener.old.edition (D.seen store.old)
         listener.old.config (K.seen out.old) listener.old.written in
-        let now = listener_of listener.new.table.view (F.seen front.new)
+        let now = listener_of listener.new.table (F.seen front.new)
         (C.told clock.new) listener.new.ready listener.new.edition (D.seen store.new)
         listener.new.config (K.seen out.new) listener.new.written in
         AreOver result first now }
     ensures counts { TurnsCount result (F.seen front.old).counts (F.seen front.new).counts
-        listener.old.table.book listener.new.table.book }
+        (book_of listener.old.table) (book_of listener.new.table) }
     ensures clock { ClocksOn result (C.greatest clock.old) (C.greatest clock.new)
-        listener.old.table.book.state listener.new.table.book.state }
+        (state_of listener.old.table) (state_of listener.new.table) }
     ensures asked { AsksOnce (F.seen front.old).counts.wakes (F.seen front.new).counts.wakes
         (C.asked clock.old) (C.asked clock.new) }
 {

@@ -1,6 +1,7 @@
 //! One turn of the listener, and what comes before the first one.
 //! Why it is so stands in docs/DECISIONS.md: 90, Front, clock and store stand beside the listener; 140, Parts of the listener's round.
 ghost use Rattle.std.specs.Prelude.{◌≡◌, [], None, Some, true, IfErr, IfOk, IfSome, MatchResult, OnErr, OnOk};
+ghost use Rattle.board_turns.specs.Books.{book_of, state_of};
 ghost use Rattle.conn_machine.specs.States.{is_staffed};
 ghost use Rattle.conn_machine.specs.declared.state.Going.TheVariants.{Serving};
 ghost use Rattle.board_book.specs.AtRest.{IsAtRest};
@@ -36,15 +37,15 @@ pub(crate) fn start<R: Wait, M: Room, L: Link, N: Known, B: Bell, G: Gate>(
     listener: &mut Listener<'_, '_, M, L, N, B, G>,
     rt: &R,
 ) -> Result<(), BoardFault>
-    requires going { listener.old.table.book.state.going ≡ Serving }
-    ensures first { StartsAtFirst listener.old.table.view listener.new.table.view }
-    ensures stands { StandsAs listener.old.table.book.state listener.new.table.book.state }
-    ensures staffed { OnOk result (is_staffed listener.new.table.book.state ≡ true) }
-    ensures rests { OnOk result (RestsAs listener.new.rest listener.new.table.view) }
-    ensures timely { KeepsTime listener.old.table.view listener.new.table.view }
+    requires going { (state_of listener.old.table).going ≡ Serving }
+    ensures first { StartsAtFirst listener.old.table listener.new.table }
+    ensures stands { StandsAs (state_of listener.old.table) (state_of listener.new.table) }
+    ensures staffed { OnOk result (is_staffed (state_of listener.new.table) ≡ true) }
+    ensures rests { OnOk result (RestsAs listener.new.rest listener.new.table) }
+    ensures timely { KeepsTime listener.old.table listener.new.table }
     ensures others { listener.new ≡ record listener.old
         { table = listener.new.table; rest = listener.new.rest } }
-    ensures err { IfErr result (λ fault. RefusalLasts fault listener.new.table.book) }
+    ensures err { IfErr result (λ fault. RefusalLasts fault (book_of listener.new.table)) }
 {
     own_events_tell_the_frame();
     listener.table.show();
@@ -77,33 +78,33 @@ pub(crate) fn listen_turn<
     out: &mut K,
 ) -> Result<Option<End>, BoardFault>
     requires named { IsKnownOfFront N.known (F.seen front.old).told }
-    requires may { MayTurn N.known (listener_of listener.old.table.view (F.seen front.old)
+    requires may { MayTurn N.known (listener_of listener.old.table (F.seen front.old)
         (C.told clock.old) listener.old.ready listener.old.edition (D.seen store.old)
         listener.old.config (K.seen out.old) listener.old.written) }
-    requires rests { RestsAs listener.old.rest listener.old.table.view }
-    ensures goes_on { let old = listener_of listener.old.table.view (F.seen front.old)
+    requires rests { RestsAs listener.old.rest listener.old.table }
+    ensures goes_on { let old = listener_of listener.old.table (F.seen front.old)
         (C.told clock.old) listener.old.ready listener.old.edition (D.seen store.old)
         listener.old.config (K.seen out.old) listener.old.written in
-        let new = listener_of listener.new.table.view (F.seen front.new)
+        let new = listener_of listener.new.table (F.seen front.new)
         (C.told clock.new) listener.new.ready listener.new.edition (D.seen store.new)
         listener.new.config (K.seen out.new) listener.new.written in
         GoesOnFrom N.known listener.old.rest listener.new.rest old new result }
-    ensures may { let new = listener_of listener.new.table.view (F.seen front.new)
+    ensures may { let new = listener_of listener.new.table (F.seen front.new)
         (C.told clock.new) listener.new.ready listener.new.edition (D.seen store.new)
         listener.new.config (K.seen out.new) listener.new.written in
         IfOk result (λ ended. ended ≡ None → MayTurn N.known new) }
     ensures rests { IfOk result
-        (λ ended. ended ≡ None → RestsAs listener.new.rest listener.new.table.view) }
+        (λ ended. ended ≡ None → RestsAs listener.new.rest listener.new.table) }
     ensures counts { let old = (F.seen front.old).counts in
         let new = (F.seen front.new).counts in
         MatchResult result
-        (λ ended. CountsOn (owed_at ended) old new listener.old.table.book
-        listener.new.table.book)
-        (λ fault. CountsUntil old new listener.old.table.book listener.new.table.book) }
+        (λ ended. CountsOn (owed_at ended) old new (book_of listener.old.table)
+        (book_of listener.new.table))
+        (λ fault. CountsUntil old new (book_of listener.old.table) (book_of listener.new.table)) }
     ensures clock { OnOk result (ClocksAt (C.greatest clock.old) (C.greatest clock.new)
-        listener.old.table.book.state listener.new.table.book.state) }
+        (state_of listener.old.table) (state_of listener.new.table)) }
     ensures behind { OnErr result (ClocksBehind (C.greatest clock.old) (C.greatest clock.new)
-        listener.old.table.book.state listener.new.table.book.state) }
+        (state_of listener.old.table) (state_of listener.new.table)) }
     ensures asked { AsksOnce (F.seen front.old).counts.wakes (F.seen front.new).counts.wakes
         (C.asked clock.old) (C.asked clock.new) }
     ensures named { IsKnownOfFront N.known (F.seen front.new).told }
@@ -139,12 +140,12 @@ fn end_of<R: Wait, M: Room, L: Link, N: Known, B: Bell, G: Gate>(
     rt: &R,
     woke: Woke,
 ) -> Option<End>
-    ensures did { Did [] None listener.old.table.view listener.new.table.view }
-    ensures alone { LeavesAlone listener.old.table.book.state listener.new.table.book.state }
-    ensures timely { KeepsTime listener.old.table.view listener.new.table.view }
+    ensures did { Did [] None listener.old.table listener.new.table }
+    ensures alone { LeavesAlone (state_of listener.old.table) (state_of listener.new.table) }
+    ensures timely { KeepsTime listener.old.table listener.new.table }
     ensures woken { is_woken woke ≡ true → listener.new ≡ listener.old }
     ensures goes_on { is_woken woke ≡ true → result ≡ None }
-    ensures ends { IfSome result (EndsBy woke listener.new.table.book.state) }
+    ensures ends { IfSome result (EndsBy woke (state_of listener.new.table)) }
     ensures failed { wait_failed woke ≡ true → result ≡ Some end.Failed }
     ensures others { listener.new ≡ record listener.old { table = listener.new.table } }
 {
@@ -168,11 +169,11 @@ fn serve<R: Wait, M: Room, L: Link, N: Known, B: Bell, G: Gate>(
     listener: &mut Listener<'_, '_, M, L, N, B, G>,
     rt: &R,
 )
-    ensures sees { OnlySees listener.old.table.view listener.new.table.view }
-    ensures alone { LeavesAlone listener.old.table.book.state listener.new.table.book.state }
-    ensures still { IsAtRest listener.old.table.book.state
-        → listener.new.table.view.seen ≡ listener.old.table.view.seen }
-    ensures timely { KeepsTime listener.old.table.view listener.new.table.view }
+    ensures sees { OnlySees listener.old.table listener.new.table }
+    ensures alone { LeavesAlone (state_of listener.old.table) (state_of listener.new.table) }
+    ensures still { IsAtRest (state_of listener.old.table)
+        → listener.new.table.seen ≡ listener.old.table.seen }
+    ensures timely { KeepsTime listener.old.table listener.new.table }
     ensures others { listener.new ≡ record listener.old { table = listener.new.table } }
 {
     if !listener.rest.quiet {

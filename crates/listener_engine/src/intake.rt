@@ -1,6 +1,7 @@
 //! How a round takes the connections that have arrived.
 //! Why it is so stands in docs/DECISIONS.md: 88, A share of the site comes first.
 ghost use Rattle.std.specs.Prelude.{◌≡◌, ◌∷◌, ◌++◌, [], IfErr, IfOk, MatchResult, OnErr, OnOk};
+ghost use Rattle.board_turns.specs.Books.{book_of, state_of};
 ghost use Rattle.mpm_base.specs.Count.{next_count};
 ghost use Rattle.mpm_base.specs.Front.{TellsOn};
 ghost use Rattle.conn_state.specs.Known.{IsOfClient};
@@ -51,38 +52,38 @@ impl<'a, 'c, M: Room, L: Link, N: Known, B: Bell, G: Gate> Listener<'a, 'c, M, L
         front: &mut F,
     ) -> Result<Look, BoardFault>
         requires named { IsKnownOfFront N.known (F.seen front.old).told }
-        requires serves { ServesNewest N.known self.old.table.book self.old.edition }
-        requires up { IsUp self.old.table.book.state.going }
-        requires step { IsInStep (F.seen front.old).told self.old.table.book.state }
-        ensures takes { OnOk result (TakesSome self.old.table.view self.new.table.view) }
+        requires serves { ServesNewest N.known (book_of self.old.table) self.old.edition }
+        requires up { IsUp (state_of self.old.table).going }
+        requires step { IsInStep (F.seen front.old).told (state_of self.old.table) }
+        ensures takes { OnOk result (TakesSome self.old.table self.new.table) }
         ensures until { IfErr result
-            (λ fault. TakesSomeUntil fault self.old.table.view self.new.table.view) }
+            (λ fault. TakesSomeUntil fault self.old.table self.new.table) }
         ensures handed { OnOk result (TakesHanded 0 (F.seen front.old).told
-            (F.seen front.new).told self.old.table.book self.new.table.book) }
+            (F.seen front.new).told (book_of self.old.table) (book_of self.new.table)) }
         ensures cut { OnErr result (TakesAllButOne (F.seen front.old).told
-            (F.seen front.new).told self.old.table.book self.new.table.book) }
-        ensures timely { KeepsTime self.old.table.view self.new.table.view }
-        ensures rest { LeavesAlone (record self.old.table.book.state
-            { accepted = self.new.table.book.state.accepted }) self.new.table.book.state }
-        ensures step { OnOk result (IsInStep (F.seen front.new).told self.new.table.book.state) }
-        ensures seen { IfOk result (IsSeenIn self.new.table.book.state) }
-        ensures taken { OnOk result (TookAll (F.seen front.new).told self.new.table.book.state) }
+            (F.seen front.new).told (book_of self.old.table) (book_of self.new.table)) }
+        ensures timely { KeepsTime self.old.table self.new.table }
+        ensures rest { LeavesAlone (record (state_of self.old.table)
+            { accepted = (state_of self.new.table).accepted }) (state_of self.new.table) }
+        ensures step { OnOk result (IsInStep (F.seen front.new).told (state_of self.new.table)) }
+        ensures seen { IfOk result (IsSeenIn (state_of self.new.table)) }
+        ensures taken { OnOk result (TookAll (F.seen front.new).told (state_of self.new.table)) }
         ensures counts { let old = (F.seen front.old).counts in
             let new = (F.seen front.new).counts in
             MatchResult result
-            (λ look. CountsOn 0 old new self.old.table.book self.new.table.book)
-            (λ fault. CountsUntil old new self.old.table.book self.new.table.book) }
+            (λ look. CountsOn 0 old new (book_of self.old.table) (book_of self.new.table))
+            (λ fault. CountsUntil old new (book_of self.old.table) (book_of self.new.table)) }
         ensures wakes { (F.seen front.new).counts.wakes ≡ (F.seen front.old).counts.wakes }
-        ensures orders { orders_in self.new.table.book ≡ orders_in self.old.table.book }
+        ensures orders { orders_in (book_of self.new.table) ≡ orders_in (book_of self.old.table) }
         ensures heard { KeepsHeard (F.seen front.old) (F.seen front.new) }
         ensures follows { Follows (F.seen front.old) (F.seen front.new) }
         ensures front { TellsOn OnlyTakes (F.seen front.old).told (F.seen front.new).told }
         ensures watched { WatchesOn (F.seen front.old).told (F.seen front.new).told
-            self.old.table.view self.new.table.view }
+            self.old.table self.new.table }
         ensures links { OnErr result
-            (HandsOut (F.seen front.new).told self.new.table.book.state) }
+            (HandsOut (F.seen front.new).told (state_of self.new.table)) }
         ensures others { self.new ≡ record self.old { table = self.new.table } }
-        ensures err { IfErr result (λ fault. RefusalLasts fault self.new.table.book) }
+        ensures err { IfErr result (λ fault. RefusalLasts fault (book_of self.new.table)) }
     {
         show_whole_histories();
         for _ in rt.forever() {
@@ -110,45 +111,45 @@ impl<'a, 'c, M: Room, L: Link, N: Known, B: Bell, G: Gate> Listener<'a, 'c, M, L
         link: L,
         site: Arc<Site>,
     ) -> Result<(), BoardFault>
-        requires up { IsUp self.old.table.book.state.going }
-        requires arrival { IsArrival self.old.table.book.state.accepted (L.seen link).told }
+        requires up { IsUp (state_of self.old.table).going }
+        requires arrival { IsArrival (state_of self.old.table).accepted (L.seen link).told }
         requires tells { TellsAlike (F.seen front.old).told (L.seen link).told }
         requires client { IsOfClient N.known (L.seen link).told }
         requires site { site.value ≡ self.old.edition.site.value }
-        requires serves { ServesNewest N.known self.old.table.book self.old.edition }
+        requires serves { ServesNewest N.known (book_of self.old.table) self.old.edition }
         requires healthy { (L.seen link).counts.faults ≡ 0 }
         ensures takes { OnOk result (TakesLink (L.seen link).told (F.seen front.old)
-            (F.seen front.new) self.old.table.view self.new.table.view) }
+            (F.seen front.new) self.old.table self.new.table) }
         ensures fails { IfErr result
             (λ fault. parts.FailsTaking fault (L.seen link).told (F.seen front.old)
-            (F.seen front.new) self.old.table.view self.new.table.view) }
+            (F.seen front.new) self.old.table self.new.table) }
         ensures until { IfErr result
-            (λ fault. FailsTaking fault self.old.table.view self.new.table.view) }
-        ensures makes { OnOk result (brought self.new.table.book.history
-            ≡ brought self.old.table.book.history ++ taken ∷ []) }
-        ensures made { OnErr result (MakesOneAtMost self.old.table.book self.new.table.book) }
+            (λ fault. FailsTaking fault self.old.table self.new.table) }
+        ensures makes { OnOk result (brought self.new.table.seen
+            ≡ brought self.old.table.seen ++ taken ∷ []) }
+        ensures made { OnErr result (MakesOneAtMost (book_of self.old.table) (book_of self.new.table)) }
         ensures handed { TellsOn (HandsMany 0) (F.seen front.old).told (F.seen front.new).told }
-        ensures timely { KeepsTime self.old.table.view self.new.table.view }
-        ensures rest { LeavesAlone (record self.old.table.book.state
-            { accepted = self.new.table.book.state.accepted }) self.new.table.book.state }
+        ensures timely { KeepsTime self.old.table self.new.table }
+        ensures rest { LeavesAlone (record (state_of self.old.table)
+            { accepted = (state_of self.new.table).accepted }) (state_of self.new.table) }
         ensures taken { OnOk result
-            (self.new.table.book.state.accepted ≡ next_count self.old.table.book.state.accepted) }
+            ((state_of self.new.table).accepted ≡ next_count (state_of self.old.table).accepted) }
         ensures counts { (F.seen front.new).counts ≡ (F.seen front.old).counts }
-        ensures orders { orders_in self.new.table.book ≡ orders_in self.old.table.book }
+        ensures orders { orders_in (book_of self.new.table) ≡ orders_in (book_of self.old.table) }
         ensures lacks { OnErr result
-            (LacksLink self.old.table.book.state self.new.table.book.state) }
+            (LacksLink (state_of self.old.table) (state_of self.new.table)) }
         ensures step { OnOk result
-            (IsInStep (F.seen front.old).told self.new.table.book.state → IsInStep
-            (F.seen front.new).told self.new.table.book.state) }
+            (IsInStep (F.seen front.old).told (state_of self.new.table) → IsInStep
+            (F.seen front.new).told (state_of self.new.table)) }
         ensures follows { Follows (F.seen front.old) (F.seen front.new) }
         ensures front { TellsOn OnlyTakes (F.seen front.old).told (F.seen front.new).told }
         ensures watched { WatchesOn (F.seen front.old).told (F.seen front.new).told
-            self.old.table.view self.new.table.view }
+            self.old.table self.new.table }
         ensures links { OnErr result
             (EndsTaking (L.seen link).told (F.seen front.old).told (F.seen front.new).told
-            self.old.table.book.state self.new.table.book.state) }
+            (state_of self.old.table) (state_of self.new.table)) }
         ensures others { self.new ≡ record self.old { table = self.new.table } }
-        ensures err { IfErr result (λ fault. RefusalLasts fault self.new.table.book) }
+        ensures err { IfErr result (λ fault. RefusalLasts fault (book_of self.new.table)) }
     {
         show_whole_histories();
         self.table.show();

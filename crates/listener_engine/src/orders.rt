@@ -8,6 +8,7 @@
 //! Why it is so stands in docs/DECISIONS.md: 93, Which command line stops a server; 96, A restart that comes too late; 98, Lines that ask
 //! for nothing; 110, Where a command line is answered.
 ghost use Rattle.std.specs.Prelude.{◌≡◌, ◌&&◌, ◌≤◌, [], ◌∷◌, ◌+◌, None, Some, true, false, IfErr, IfOk, IfSome, MatchResult, OnErr, OnOk};
+ghost use Rattle.board_turns.specs.Books.{book_of, state_of};
 ghost use Rattle.mpm_base.specs.Count.{NeverFalls, Rises};
 ghost use Rattle.mpm_base.specs.Front.{Answers, TellsOn};
 ghost use Rattle.mpm_base.specs.declared.script_line.CommandWord.TheVariants as word;
@@ -66,39 +67,39 @@ impl<'a, 'c, M: Room, L: Link, N: Known, B: Bell, G: Gate> Listener<'a, 'c, M, L
         front: &mut F,
         out: &mut K,
     ) -> Result<bool, BoardFault>
-        requires knows { KnowsComing N.known self.old.table.book self.old.config
+        requires knows { KnowsComing N.known (book_of self.old.table) self.old.config
             (D.seen store.old).told }
-        requires serves { ServesNewest N.known self.old.table.book self.old.edition }
-        requires up { IsUp self.old.table.book.state.going }
-        requires step { IsInStep (F.seen front.old).told self.old.table.book.state }
+        requires serves { ServesNewest N.known (book_of self.old.table) self.old.edition }
+        requires up { IsUp (state_of self.old.table).going }
+        requires step { IsInStep (F.seen front.old).told (state_of self.old.table) }
         requires heeded { IfSome (F.seen front.old).told HasNoneToHeed }
-        requires in_time { StandsInTime self.old.table.book.state }
-        ensures does { OnOk result (DoesOrders self.old.table.view self.new.table.view) }
+        requires in_time { StandsInTime (state_of self.old.table) }
+        ensures does { OnOk result (DoesOrders self.old.table self.new.table) }
         ensures until { IfErr result
-            (λ fault. DoesUntil fault self.old.table.view self.new.table.view) }
+            (λ fault. DoesUntil fault self.old.table self.new.table) }
         ensures asks { MatchResult result
             (λ asked. DoesAsked (stop_if asked) (F.seen front.old).told (F.seen front.new).told
-            self.old.table.book self.new.table.book)
+            (book_of self.old.table) (book_of self.new.table))
             (λ fault. DoesAllButOne (F.seen front.old).told (F.seen front.new).told
-            self.old.table.book self.new.table.book) }
+            (book_of self.old.table) (book_of self.new.table)) }
         ensures hushes { OnOk result
             (TellsOn HushesFor (F.seen front.old).told (F.seen front.new).told) }
-        ensures timely { KeepsTime self.old.table.view self.new.table.view }
-        ensures in_time { StandsInTime self.new.table.book.state }
+        ensures timely { KeepsTime self.old.table self.new.table }
+        ensures in_time { StandsInTime (state_of self.new.table) }
         ensures stands { let old = standing self.old.edition.stop_ms
-            (D.seen store.old) (F.seen front.old) self.old.table.view in
+            (D.seen store.old) (F.seen front.old) self.old.table in
             let new = standing self.new.edition.stop_ms
-            (D.seen store.new) (F.seen front.new) self.new.table.view in
+            (D.seen store.new) (F.seen front.new) self.new.table in
             MatchResult result
             (λ asked. StandsOn self.old.config 0 (owed_by asked) old new)
             (λ fault. StandsBroken self.old.config old new) }
         ensures knows { OnOk result
-            (KnowsComing N.known self.new.table.book self.new.config (D.seen store.new).told) }
-        ensures serves { ServesNewest N.known self.new.table.book self.new.edition }
-        ensures up { IsUp self.new.table.book.state.going }
-        ensures moment { self.new.table.book.state.moment ≡ self.old.table.book.state.moment }
-        ensures accepted { self.new.table.book.state.accepted ≡ self.old.table.book.state.accepted }
-        ensures step { IsInStep (F.seen front.new).told self.new.table.book.state }
+            (KnowsComing N.known (book_of self.new.table) self.new.config (D.seen store.new).told) }
+        ensures serves { ServesNewest N.known (book_of self.new.table) self.new.edition }
+        ensures up { IsUp (state_of self.new.table).going }
+        ensures moment { (state_of self.new.table).moment ≡ (state_of self.old.table).moment }
+        ensures accepted { (state_of self.new.table).accepted ≡ (state_of self.old.table).accepted }
+        ensures step { IsInStep (F.seen front.new).told (state_of self.new.table) }
         ensures asked { IfOk result
             (λ asked. asked ≡ true → Rises (F.seen front.old).counts.words.stop
             (F.seen front.new).counts.words.stop × IfSome (F.seen front.new).told HasOneToHeed) }
@@ -109,13 +110,13 @@ impl<'a, 'c, M: Room, L: Link, N: Known, B: Bell, G: Gate> Listener<'a, 'c, M, L
         ensures counts { let old = (F.seen front.old).counts in
             let new = (F.seen front.new).counts in
             MatchResult result
-            (λ asked. CountsOn (owed_by asked) old new self.old.table.book self.new.table.book)
-            (λ fault. CountsUntil old new self.old.table.book self.new.table.book) }
+            (λ asked. CountsOn (owed_by asked) old new (book_of self.old.table) (book_of self.new.table))
+            (λ fault. CountsUntil old new (book_of self.old.table) (book_of self.new.table)) }
         ensures heard { let old = hearing (standing self.old.edition.stop_ms
-            (D.seen store.old) (F.seen front.old) self.old.table.view)
+            (D.seen store.old) (F.seen front.old) self.old.table)
             (K.seen out.old) self.old.written in
             let new = hearing (standing self.new.edition.stop_ms
-            (D.seen store.new) (F.seen front.new) self.new.table.view)
+            (D.seen store.new) (F.seen front.new) self.new.table)
             (K.seen out.new) self.new.written in
             MatchResult result
             (λ asked. Hears self.old.config [] (last_if asked) old new)
@@ -124,10 +125,10 @@ impl<'a, 'c, M: Room, L: Link, N: Known, B: Bell, G: Gate> Listener<'a, 'c, M, L
         ensures follows { Follows (F.seen front.old) (F.seen front.new) }
         ensures front { TellsOn OnlyReads (F.seen front.old).told (F.seen front.new).told }
         ensures watched { WatchesOn (F.seen front.old).told (F.seen front.new).told
-            self.old.table.view self.new.table.view }
+            self.old.table self.new.table }
         ensures others { self.new ≡ record self.old
             { table = self.new.table; edition = self.new.edition; written = self.new.written } }
-        ensures err { IfErr result (λ fault. RefusalLasts fault self.new.table.book) }
+        ensures err { IfErr result (λ fault. RefusalLasts fault (book_of self.new.table)) }
     {
         show_whole_histories();
         let mut answer = None;
@@ -159,14 +160,14 @@ impl<'a, 'c, M: Room, L: Link, N: Known, B: Bell, G: Gate> Listener<'a, 'c, M, L
         front: &mut F,
         out: &mut K,
     ) -> bool
-        ensures did { Did [] None self.old.table.view self.new.table.view }
-        ensures rest { LeavesAlone self.old.table.book.state self.new.table.book.state }
-        ensures orders { orders_in self.new.table.book ≡ orders_in self.old.table.book }
-        ensures timely { KeepsTime self.old.table.view self.new.table.view }
+        ensures did { Did [] None self.old.table self.new.table }
+        ensures rest { LeavesAlone (state_of self.old.table) (state_of self.new.table) }
+        ensures orders { orders_in (book_of self.new.table) ≡ orders_in (book_of self.old.table) }
+        ensures timely { KeepsTime self.old.table self.new.table }
         ensures answers { Answers (F.seen front.old) (F.seen front.new)
-            (status_answer (totals_of self.new.table.book.state)) }
+            (status_answer (totals_of (state_of self.new.table))) }
         ensures writes { WritesAll (K.seen out.old) (K.seen out.new)
-            (open_line (totals_of self.new.table.book.state)) result }
+            (open_line (totals_of (state_of self.new.table))) result }
         ensures faults { NeverFalls (K.seen out.old).faults (K.seen out.new).faults }
         ensures others { self.new ≡ record self.old { table = self.new.table } }
     {
@@ -183,37 +184,37 @@ impl<'a, 'c, M: Room, L: Link, N: Known, B: Bell, G: Gate> Listener<'a, 'c, M, L
         rt: &R,
         store: &mut D,
     ) -> Result<AnswerText, BoardFault>
-        requires knows { KnowsComing N.known self.old.table.book self.old.config
+        requires knows { KnowsComing N.known (book_of self.old.table) self.old.config
             (D.seen store.old).told }
-        requires serves { ServesNewest N.known self.old.table.book self.old.edition }
-        requires up { IsUp self.old.table.book.state.going }
-        requires in_time { StandsInTime self.old.table.book.state }
-        ensures does { OnOk result (DoesOrders self.old.table.view self.new.table.view) }
+        requires serves { ServesNewest N.known (book_of self.old.table) self.old.edition }
+        requires up { IsUp (state_of self.old.table).going }
+        requires in_time { StandsInTime (state_of self.old.table) }
+        ensures does { OnOk result (DoesOrders self.old.table self.new.table) }
         ensures makes { OnOk result (MakesOrders (word.Graceful ∷ [])
-            self.old.table.book self.new.table.book) }
+            (book_of self.old.table) (book_of self.new.table)) }
         ensures answers { IfOk result (AnswersRestart self.old.config (D.seen store.old)
-            self.old.table.view self.new.table.view) }
-        ensures timely { KeepsTime self.old.table.view self.new.table.view }
-        ensures in_time { StandsInTime self.new.table.book.state }
+            self.old.table self.new.table) }
+        ensures timely { KeepsTime self.old.table self.new.table }
+        ensures in_time { StandsInTime (state_of self.new.table) }
         ensures stands { OnOk result (StandsBehind self.old.config word.Graceful
-            (λ f. standing self.old.edition.stop_ms (D.seen store.old) f self.old.table.view)
-            (λ f. standing self.new.edition.stop_ms (D.seen store.new) f self.new.table.view)) }
+            (λ f. standing self.old.edition.stop_ms (D.seen store.old) f self.old.table)
+            (λ f. standing self.new.edition.stop_ms (D.seen store.new) f self.new.table)) }
         ensures broken { OnErr result (BreaksBehind self.old.config word.Graceful
-            (λ f. standing self.old.edition.stop_ms (D.seen store.old) f self.old.table.view)
-            (λ f. standing self.new.edition.stop_ms (D.seen store.new) f self.new.table.view)) }
+            (λ f. standing self.old.edition.stop_ms (D.seen store.old) f self.old.table)
+            (λ f. standing self.new.edition.stop_ms (D.seen store.new) f self.new.table)) }
         ensures knows { OnOk result
-            (KnowsComing N.known self.new.table.book self.new.config (D.seen store.new).told) }
-        ensures serves { ServesNewest N.known self.new.table.book self.new.edition }
-        ensures going { self.new.table.book.state.going ≡ self.old.table.book.state.going }
+            (KnowsComing N.known (book_of self.new.table) self.new.config (D.seen store.new).told) }
+        ensures serves { ServesNewest N.known (book_of self.new.table) self.new.edition }
+        ensures going { (state_of self.new.table).going ≡ (state_of self.old.table).going }
         ensures orders { OnOk result
-            (orders_in self.new.table.book ≡ orders_in self.old.table.book + 1) }
-        ensures moment { self.new.table.book.state.moment ≡ self.old.table.book.state.moment }
-        ensures accepted { self.new.table.book.state.accepted ≡ self.old.table.book.state.accepted }
-        ensures err { OnErr result (DoesNoOrder self.old.table.view self.new.table.view) }
+            (orders_in (book_of self.new.table) ≡ orders_in (book_of self.old.table) + 1) }
+        ensures moment { (state_of self.new.table).moment ≡ (state_of self.old.table).moment }
+        ensures accepted { (state_of self.new.table).accepted ≡ (state_of self.old.table).accepted }
+        ensures err { OnErr result (DoesNoOrder self.old.table self.new.table) }
         ensures kept_edition { OnErr result (self.new.edition ≡ self.old.edition) }
         ensures others { self.new ≡ record self.old
             { table = self.new.table; edition = self.new.edition } }
-        ensures why { IfErr result (λ fault. IsRefusedFor fault self.new.table.book) }
+        ensures why { IfErr result (λ fault. IsRefusedFor fault (book_of self.new.table)) }
     {
         show_whole_histories();
         self.table.show();
@@ -238,8 +239,8 @@ impl<'a, 'c, M: Room, L: Link, N: Known, B: Bell, G: Gate> Listener<'a, 'c, M, L
 
     /// Whether a generation may begin: the server takes connections, and there is a number for one.
     fn may_begin(&self) -> bool
-        ensures may { result ≡ spec.may_begin self.now.table.book.state }
-        ensures in_range { self.now.table.book.state.newest ≤ greatest_generation }
+        ensures may { result ≡ spec.may_begin (state_of self.now.table) }
+        ensures in_range { (state_of self.now.table).newest ≤ greatest_generation }
     {
         let newest = self.table.newest();
         self.table.going().is_serving() && newest < GREATEST_GENERATION
@@ -247,18 +248,18 @@ impl<'a, 'c, M: Room, L: Link, N: Known, B: Bell, G: Gate> Listener<'a, 'c, M, L
 
     /// Begins a generation by the plan: from now on connections are taken for it alone. Refused where memory lacks for that.
     fn begin<R: Wait>(&mut self, rt: &R, plan: Plan) -> Result<AnswerText, BoardFault>
-        requires may { spec.may_begin self.old.table.book.state ≡ true }
+        requires may { spec.may_begin (state_of self.old.table) ≡ true }
         ensures carries { OnOk result
-            (Carries plan self.old.table.view self.new.table.view self.old.edition
+            (Carries plan self.old.table self.new.table self.old.edition
             self.new.edition) }
         ensures answers { IfOk result
-            (AnswersPlan self.old.table.view self.new.table.view) }
-        ensures timely { KeepsTime self.old.table.view self.new.table.view }
-        ensures err { OnErr result (DoesNoOrder self.old.table.view self.new.table.view) }
+            (AnswersPlan self.old.table self.new.table) }
+        ensures timely { KeepsTime self.old.table self.new.table }
+        ensures err { OnErr result (DoesNoOrder self.old.table self.new.table) }
         ensures kept_edition { OnErr result (self.new.edition ≡ self.old.edition) }
         ensures others { self.new ≡ record self.old
             { table = self.new.table; edition = self.new.edition } }
-        ensures why { IfErr result (λ fault. IsRefusedFor fault self.new.table.book) }
+        ensures why { IfErr result (λ fault. IsRefusedFor fault (book_of self.new.table)) }
     {
         show_whole_histories();
         self.table.show();
@@ -285,14 +286,14 @@ impl<'a, 'c, M: Room, L: Link, N: Known, B: Bell, G: Gate> Listener<'a, 'c, M, L
         reason: Refusal,
         answer: AnswerText,
     ) -> Result<AnswerText, BoardFault>
-        ensures refuses { OnOk result (Refuses reason self.old.table.view self.new.table.view) }
+        ensures refuses { OnOk result (Refuses reason self.old.table self.new.table) }
         ensures says { IfOk result (λ says. says ≡ answer) }
-        ensures timely { is_ended_at (frame_of self.old.table.book.state) ≡ false
-            → KeepsTime self.old.table.view self.new.table.view }
-        ensures err { OnErr result (DoesNoOrder self.old.table.view self.new.table.view) }
+        ensures timely { is_ended_at (frame_of (state_of self.old.table)) ≡ false
+            → KeepsTime self.old.table self.new.table }
+        ensures err { OnErr result (DoesNoOrder self.old.table self.new.table) }
         ensures kept_edition { OnErr result (self.new.edition ≡ self.old.edition) }
         ensures others { self.new ≡ record self.old { table = self.new.table } }
-        ensures why { IfErr result (λ fault. IsRefusedFor fault self.new.table.book) }
+        ensures why { IfErr result (λ fault. IsRefusedFor fault (book_of self.new.table)) }
     {
         show_whole_histories();
         self.table.refuse(rt, reason)?;
@@ -302,39 +303,39 @@ impl<'a, 'c, M: Room, L: Link, N: Known, B: Bell, G: Gate> Listener<'a, 'c, M, L
     /// Takes no further connection, and lets those that are open go on until the time of the newest generation's configuration is over.
     /// Where the server takes none any more nothing is done. Whether it ends for that.
     fn end<R: Wait, F: Front<L = L>>(&mut self, rt: &R, front: &mut F) -> Result<bool, BoardFault>
-        requires up { IsUp self.old.table.book.state.going }
-        requires step { IsInStep (F.seen front.old).told self.old.table.book.state }
-        requires in_time { StandsInTime self.old.table.book.state }
-        ensures does { OnOk result (DoesOrders self.old.table.view self.new.table.view) }
+        requires up { IsUp (state_of self.old.table).going }
+        requires step { IsInStep (F.seen front.old).told (state_of self.old.table) }
+        requires in_time { StandsInTime (state_of self.old.table) }
+        ensures does { OnOk result (DoesOrders self.old.table self.new.table) }
         ensures makes { OnOk result
-            (MakesOrders (end_if (is_serving self.old.table.book.state.going))
-            self.old.table.book self.new.table.book) }
-        ensures ends { OnOk result (DoesEnding (is_serving self.old.table.book.state.going)
-            self.old.table.view self.new.table.view) }
-        ensures timely { KeepsTime self.old.table.view self.new.table.view }
-        ensures in_time { StandsInTime self.new.table.book.state }
+            (MakesOrders (end_if (is_serving (state_of self.old.table).going))
+            (book_of self.old.table) (book_of self.new.table)) }
+        ensures ends { OnOk result (DoesEnding (is_serving (state_of self.old.table).going)
+            self.old.table self.new.table) }
+        ensures timely { KeepsTime self.old.table self.new.table }
+        ensures in_time { StandsInTime (state_of self.new.table) }
         ensures stands { OnOk result (EndingStands self.old.config self.old.edition.stop_ms
-            (F.seen front.old) (F.seen front.new) self.old.table.view self.new.table.view) }
+            (F.seen front.old) (F.seen front.new) self.old.table self.new.table) }
         ensures broken { OnErr result (EndingBreaks self.old.config self.old.edition.stop_ms
-            (F.seen front.old) (F.seen front.new) self.old.table.view self.new.table.view) }
-        ensures up { IsUp self.new.table.book.state.going }
-        ensures newest { self.new.table.book.state.newest ≡ self.old.table.book.state.newest }
-        ensures moment { self.new.table.book.state.moment ≡ self.old.table.book.state.moment }
-        ensures accepted { self.new.table.book.state.accepted ≡ self.old.table.book.state.accepted }
-        ensures orders { orders_in self.new.table.book ≡ orders_in self.old.table.book }
-        ensures step { IsInStep (F.seen front.new).told self.new.table.book.state }
+            (F.seen front.old) (F.seen front.new) self.old.table self.new.table) }
+        ensures up { IsUp (state_of self.new.table).going }
+        ensures newest { (state_of self.new.table).newest ≡ (state_of self.old.table).newest }
+        ensures moment { (state_of self.new.table).moment ≡ (state_of self.old.table).moment }
+        ensures accepted { (state_of self.new.table).accepted ≡ (state_of self.old.table).accepted }
+        ensures orders { orders_in (book_of self.new.table) ≡ orders_in (book_of self.old.table) }
+        ensures step { IsInStep (F.seen front.new).told (state_of self.new.table) }
         ensures hushed { MayHush (F.seen front.old) (F.seen front.new) }
-        ensures hushes { OnOk result (IsHushedIf (is_serving self.old.table.book.state.going)
+        ensures hushes { OnOk result (IsHushedIf (is_serving (state_of self.old.table).going)
             (F.seen front.old) (F.seen front.new)) }
         ensures begins { IfOk result
-            (λ begins. begins ≡ is_serving self.old.table.book.state.going) }
-        ensures ended { OnOk result (is_serving self.new.table.book.state.going ≡ false) }
-        ensures serving { OnErr result (is_serving self.old.table.book.state.going ≡ true) }
+            (λ begins. begins ≡ is_serving (state_of self.old.table).going) }
+        ensures ended { OnOk result (is_serving (state_of self.new.table).going ≡ false) }
+        ensures serving { OnErr result (is_serving (state_of self.old.table).going ≡ true) }
         ensures kept { OnErr result (F.seen front.new ≡ F.seen front.old) }
-        ensures err { OnErr result (DoesNoOrder self.old.table.view self.new.table.view) }
+        ensures err { OnErr result (DoesNoOrder self.old.table self.new.table) }
         ensures kept_edition { OnErr result (self.new.edition ≡ self.old.edition) }
         ensures others { self.new ≡ record self.old { table = self.new.table } }
-        ensures why { IfErr result (λ fault. IsRefusedFor fault self.new.table.book) }
+        ensures why { IfErr result (λ fault. IsRefusedFor fault (book_of self.new.table)) }
     {
         show_whole_histories();
         self.table.show();

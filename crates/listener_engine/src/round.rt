@@ -7,6 +7,7 @@
 //! Why it is so stands in docs/DECISIONS.md: 73, What a round adds; 90, Front, clock and store stand beside the listener; 97, Where a graceful
 //! stop ends.
 ghost use Rattle.std.specs.Prelude.{◌≡◌, ◌≤◌, None, false, max, IfOk, IfErr, IfSome, MatchResult, OnErr, OnOk};
+ghost use Rattle.board_turns.specs.Books.{book_of, state_of};
 ghost use Rattle.mpm_base.specs.Front.{TellsOn};
 ghost use Rattle.conn_machine.specs.States.{is_at_its_end, is_over};
 ghost use Rattle.board_book.specs.Moments.{moment_for};
@@ -51,80 +52,80 @@ impl<'a, 'c, M: Room, L: Link, N: Known, B: Bell, G: Gate> Listener<'a, 'c, M, L
         moment: Moment,
     ) -> Result<Option<End>, BoardFault>
         requires named { IsKnownOfFront N.known (F.seen front.old).told }
-        requires knows { KnowsComing N.known self.old.table.book self.old.config
+        requires knows { KnowsComing N.known (book_of self.old.table) self.old.config
             (D.seen store.old).told }
-        requires serves { ServesNewest N.known self.old.table.book self.old.edition }
-        requires up { IsUp self.old.table.book.state.going }
-        requires step { IsInStep (F.seen front.old).told self.old.table.book.state }
+        requires serves { ServesNewest N.known (book_of self.old.table) self.old.edition }
+        requires up { IsUp (state_of self.old.table).going }
+        requires step { IsInStep (F.seen front.old).told (state_of self.old.table) }
         requires heeded { IfSome (F.seen front.old).told HasNoneToHeed }
-        requires in_time { StandsInTime self.old.table.book.state }
+        requires in_time { StandsInTime (state_of self.old.table) }
         ensures round { IfOk result
-            (λ ended. RoundEnds ended (moment_for moment) self.old.ready self.old.table.view
-            self.new.table.view) }
+            (λ ended. RoundEnds ended (moment_for moment) self.old.ready self.old.table
+            self.new.table) }
         ensures broken { IfErr result
-            (λ fault. BreaksOff fault (moment_for moment) self.old.ready self.old.table.view
-            self.new.table.view) }
+            (λ fault. BreaksOff fault (moment_for moment) self.old.ready self.old.table
+            self.new.table) }
         ensures share { MatchResult result
             (λ ended. MakesShare ended moment self.old.ready (F.seen front.old).told
-            (F.seen front.new).told self.old.table.book self.new.table.book)
+            (F.seen front.new).told (book_of self.old.table) (book_of self.new.table))
             (λ fault. CutsShare moment self.old.ready (F.seen front.old).told
-            (F.seen front.new).told self.old.table.book self.new.table.book) }
+            (F.seen front.new).told (book_of self.old.table) (book_of self.new.table)) }
         ensures hushes { OnOk result
             (TellsOn HushesFor (F.seen front.old).told (F.seen front.new).told) }
-        ensures timely { KeepsTime self.old.table.view self.new.table.view }
-        ensures at_once { PassesAtOnce (moment_for moment) self.old.table.view self.new.table.view }
-        ensures goes_on { IfOk result (λ ended. EndsInTime ended self.new.table.book.state) }
-        ensures before { OnErr result (is_at_its_end self.new.table.book.state ≡ false) }
+        ensures timely { KeepsTime self.old.table self.new.table }
+        ensures at_once { PassesAtOnce (moment_for moment) self.old.table self.new.table }
+        ensures goes_on { IfOk result (λ ended. EndsInTime ended (state_of self.new.table)) }
+        ensures before { OnErr result (is_at_its_end (state_of self.new.table) ≡ false) }
         ensures stands { let old = standing self.old.edition.stop_ms
-            (D.seen store.old) (F.seen front.old) self.old.table.view in
+            (D.seen store.old) (F.seen front.old) self.old.table in
             let new = standing self.new.edition.stop_ms
-            (D.seen store.new) (F.seen front.new) self.new.table.view in
+            (D.seen store.new) (F.seen front.new) self.new.table in
             MatchResult result
             (λ ended. StandsOn self.old.config 0 (owed_at ended) old new)
             (λ fault. StandsBroken self.old.config old new) }
         ensures knows { OnOk result
-            (KnowsComing N.known self.new.table.book self.new.config (D.seen store.new).told) }
-        ensures serves { OnOk result (ServesNewest N.known self.new.table.book self.new.edition) }
-        ensures up { IsUp self.new.table.book.state.going }
+            (KnowsComing N.known (book_of self.new.table) self.new.config (D.seen store.new).told) }
+        ensures serves { OnOk result (ServesNewest N.known (book_of self.new.table) self.new.edition) }
+        ensures up { IsUp (state_of self.new.table).going }
         ensures moment { OnOk result
-            (self.new.table.book.state.moment ≡ max self.old.table.book.state.moment
+            ((state_of self.new.table).moment ≡ max (state_of self.old.table).moment
             (moment_for moment)) }
         ensures stays { OnErr result
-            (self.new.table.book.state.moment ≤ max self.old.table.book.state.moment
+            ((state_of self.new.table).moment ≤ max (state_of self.old.table).moment
             (moment_for moment)) }
         ensures counts { let old = (F.seen front.old).counts in
             let new = (F.seen front.new).counts in
             MatchResult result
-            (λ ended. CountsOn (owed_at ended) old new self.old.table.book self.new.table.book)
-            (λ fault. CountsUntil old new self.old.table.book self.new.table.book) }
+            (λ ended. CountsOn (owed_at ended) old new (book_of self.old.table) (book_of self.new.table))
+            (λ fault. CountsUntil old new (book_of self.old.table) (book_of self.new.table)) }
         ensures heard { let old = hearing (standing self.old.edition.stop_ms
-            (D.seen store.old) (F.seen front.old) self.old.table.view)
+            (D.seen store.old) (F.seen front.old) self.old.table)
             (K.seen out.old) self.old.written in
             let new = hearing (standing self.new.edition.stop_ms
-            (D.seen store.new) (F.seen front.new) self.new.table.view)
+            (D.seen store.new) (F.seen front.new) self.new.table)
             (K.seen out.new) self.new.written in
-            let made = made_first moment self.old.ready self.old.table.book in
+            let made = made_first moment self.old.ready (book_of self.old.table) in
             MatchResult result
             (λ ended. Hears self.old.config made (last_at ended) old new)
             (λ fault. HearsUntil self.old.config made old new) }
         ensures wakes { (F.seen front.new).counts.wakes ≡ (F.seen front.old).counts.wakes }
-        ensures step { OnOk result (IsInStep (F.seen front.new).told self.new.table.book.state) }
+        ensures step { OnOk result (IsInStep (F.seen front.new).told (state_of self.new.table)) }
         ensures ends { IfOk result
             (λ ended. ComesTo ended self.new.rest (F.seen front.old) (F.seen front.new)
-            self.new.table.book.state) }
+            (state_of self.new.table)) }
         ensures rests { IfOk result
-            (λ ended. ended ≡ None → RestsAs self.new.rest self.new.table.view) }
+            (λ ended. ended ≡ None → RestsAs self.new.rest self.new.table) }
         ensures unheeded { OnErr result (IfSome (F.seen front.new).told HasNoneToHeed) }
         ensures follows { Follows (F.seen front.old) (F.seen front.new) }
         ensures front { TellsOn OnlyReadsAndTakes (F.seen front.old).told (F.seen front.new).told }
         ensures watched { WatchesOn (F.seen front.old).told (F.seen front.new).told
-            self.old.table.view self.new.table.view }
+            self.old.table self.new.table }
         ensures listens { IfSome (F.seen front.new).told
-            (ListensAsServed self.new.table.book.state) }
-        ensures links { OnErr result (HandsOut (F.seen front.new).told self.new.table.book.state) }
+            (ListensAsServed (state_of self.new.table)) }
+        ensures links { OnErr result (HandsOut (F.seen front.new).told (state_of self.new.table)) }
         ensures ready { self.new.ready ≡ self.old.ready }
         ensures config { self.new.config ≡ self.old.config }
-        ensures err { IfErr result (λ fault. RefusalLasts fault self.new.table.book) }
+        ensures err { IfErr result (λ fault. RefusalLasts fault (book_of self.new.table)) }
     {
         others_leave_the_rest_to_the_listener();
         show_whole_histories();
@@ -152,7 +153,7 @@ impl<'a, 'c, M: Room, L: Link, N: Known, B: Bell, G: Gate> Listener<'a, 'c, M, L
     /// Whether the time of a graceful stop is over.
     fn is_overdue(&self) -> bool
         ensures { result
-            ≡ is_over self.now.table.book.state.moment self.now.table.book.state.going }
+            ≡ is_over (state_of self.now.table).moment (state_of self.now.table).going }
     {
         self.table.going().is_over(self.table.moment())
     }

@@ -1,24 +1,14 @@
--- What is seen of the listener's table, and what it keeps between two calls.
+-- What the listener's table keeps between two calls.
 use Rattle.std.specs.Prelude.{◌≡◌, ℕ, List, None, Option}
 use Rattle.atomic_table.specs.Table.{Me}
 use Rattle.conn_machine.specs.declared.state.Going.{Going}
 use Rattle.conn_machine.specs.Sound.{IsSound}
 use Rattle.conn_state.specs.Known.{KnownOutside}
 use Rattle.table_rule.specs.declared.view.View.{View}
-use Rattle.board_book.specs.Book.{SeenBook}
-use Rattle.board_turns.specs.Books.{book_of, state_of}
+use Rattle.board_turns.specs.Books.{state_of}
 use Rattle.board_turns.specs.Turns.{IsListener}
 use Rattle.listener_turns.specs.Folds.{HasDropped}
 use Rattle.listener_parts.specs.Rounds.{AreCredits, OpenedWithNone}
-
--- the view of pass 0, and the book of all that it has seen
-pub record SeenTable : Type 0 where
-  pub view : View
-  pub book : SeenBook
-
--- the same, of its view
-abbrev pub table_of : View → SeenTable
-table_of v = record { view = v; book = book_of v }
 
 -- pass 0 has no turn and no connection; the credits are those that it gave; no pass had a connection as the server opened, in a sound state; what its folds
 -- dropped is known; and what it keeps of the state is what it alone changes

@@ -1,6 +1,7 @@
 //! How a server goes down.
 ghost use Rattle.std.specs.Prelude.{◌≡◌, [], None, Some, false, true, if◌then◌else◌};
 ghost use Rattle.board_book.specs.ClosedDown.{HasNoLive, IsClosedDown};
+ghost use Rattle.board_turns.specs.Books.{state_of};
 ghost use Rattle.conn_machine.specs.States.{is_halted};
 ghost use Rattle.conn_machine.specs.Table.{is_allowed};
 ghost use Rattle.conn_machine.specs.declared.event.Commanded.TheVariants.{Stop};
@@ -27,22 +28,22 @@ use std::sync::Wait;
 impl<'a, M: Room, L: Link, N: Known, B: Bell, G: Gate> Table<'a, M, L, N, B, G> {
     /// Stops the server for the reason, where it may: whether it did.
     pub fn stop<R: Wait>(&mut self, rt: &R, why: Why) -> bool
-        ensures did { Did (if result then halts_for (Some why) else []) None self.old.view
-            self.new.view }
-        ensures going { result ≡ true → self.new.book.state.going ≡ Halted why }
-        ensures moment { self.new.book.state.moment ≡ self.old.book.state.moment }
-        ensures accepted { self.new.book.state.accepted ≡ self.old.book.state.accepted }
-        ensures stays { result ≡ false → LeavesAlone self.old.book.state self.new.book.state }
+        ensures did { Did (if result then halts_for (Some why) else []) None self.old
+            self.new }
+        ensures going { result ≡ true → (state_of self.new).going ≡ Halted why }
+        ensures moment { (state_of self.new).moment ≡ (state_of self.old).moment }
+        ensures accepted { (state_of self.new).accepted ≡ (state_of self.old).accepted }
+        ensures stays { result ≡ false → LeavesAlone (state_of self.old) (state_of self.new) }
         ensures refused { result ≡ false
-            → is_allowed self.new.book.state (event.Command (Stop why)) ≡ false }
+            → is_allowed (state_of self.new) (event.Command (Stop why)) ≡ false }
         ensures may { IsOwnReason why
-            → is_allowed self.old.book.state (event.Command (Stop why)) ≡ true
+            → is_allowed (state_of self.old) (event.Command (Stop why)) ≡ true
             → result ≡ true }
-        ensures alone { HasNoLive self.old.book.state
-            → is_allowed self.old.book.state (event.Command (Stop why)) ≡ true
+        ensures alone { HasNoLive (state_of self.old)
+            → is_allowed (state_of self.old) (event.Command (Stop why)) ≡ true
             → result ≡ true }
-        ensures timely { is_ended_at (frame_of self.old.book.state) ≡ false
-            → KeepsTime self.old.view self.new.view }
+        ensures timely { is_ended_at (frame_of (state_of self.old)) ≡ false
+            → KeepsTime self.old self.new }
     {
         table_rests_on_these();
         let going = self.going;
@@ -53,11 +54,11 @@ impl<'a, M: Room, L: Link, N: Known, B: Bell, G: Gate> Table<'a, M, L, N, B, G> 
 
     /// Closes each connection that waits, has the workers end, and lets go of each child, once the server has stopped.
     pub fn close_down<R: Wait>(&mut self, rt: &R)
-        requires { is_halted self.old.book.state.going ≡ true }
-        ensures down { ClosesDown self.old.view self.new.view }
-        ensures rest { StandsAs self.old.book.state self.new.book.state }
-        ensures closed { IsClosedDown self.new.book.state }
-        ensures timely { KeepsTime self.old.view self.new.view }
+        requires { is_halted (state_of self.old).going ≡ true }
+        ensures down { ClosesDown self.old self.new }
+        ensures rest { StandsAs (state_of self.old) (state_of self.new) }
+        ensures closed { IsClosedDown (state_of self.new) }
+        ensures timely { KeepsTime self.old self.new }
     {
         table_rests_on_these();
         close_down(
@@ -71,8 +72,8 @@ impl<'a, M: Room, L: Link, N: Known, B: Bell, G: Gate> Table<'a, M, L, N, B, G> 
 
     /// The board, once no connection is live, and each child is gone.
     pub fn close<R: Wait>(self, rt: &R) -> Board<L, N>
-        requires { IsClosedDown self.book.state }
-        ensures { ClosesAs N.known self.view result }
+        requires { IsClosedDown (state_of self) }
+        ensures { ClosesAs N.known self result }
     {
         let Table {
             hands,

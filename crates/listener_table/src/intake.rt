@@ -3,6 +3,7 @@ ghost use Rattle.std.specs.Prelude.{◌≡◌, ◌<◌, [], None, false, true, I
 ghost use Rattle.board_book.specs.AtRest.{IsAtRest};
 ghost use Rattle.board_book.specs.Faults.{IsRefusedFor};
 ghost use Rattle.board_book.specs.Finds.{next_deadline_of};
+ghost use Rattle.board_turns.specs.Books.{book_of, state_of};
 ghost use Rattle.conn_machine.specs.Shown.{totals_of};
 ghost use Rattle.conn_machine.specs.States.{is_serving};
 ghost use Rattle.conn_machine.specs.Table.{greatest_generation, is_not_past};
@@ -36,28 +37,28 @@ use std::sync::{Arc, Wait};
 impl<'a, M: Room, L: Link, N: Known, B: Bell, G: Gate> Table<'a, M, L, N, B, G> {
     /// How the server goes on.
     pub fn going(&self) -> Going
-        ensures { result ≡ self.now.book.state.going }
+        ensures { result ≡ (state_of self.now).going }
     {
         self.going
     }
 
     /// The number of the newest generation.
     pub fn newest(&self) -> u32
-        ensures { result ≡ self.now.book.state.newest }
+        ensures { result ≡ (state_of self.now).newest }
     {
         self.newest
     }
 
     /// Begins a generation whose children have this shape.
     pub fn begin<R: Wait>(&mut self, rt: &R, shape: BoxedShape) -> Result<(), BoardFault>
-        requires serving { is_serving self.old.book.state.going ≡ true }
-        requires newest { self.old.book.state.newest < greatest_generation }
+        requires serving { is_serving (state_of self.old).going ≡ true }
+        requires newest { (state_of self.old).newest < greatest_generation }
         requires shape { is_in_bounds shape ≡ true }
         ensures does { OnOk result
-            (DoesOrder (commanded.Graceful shape) self.old.view self.new.view) }
-        ensures err { IfErr result (λ _. DoesNoOrder self.old.view self.new.view) }
-        ensures why { IfErr result (λ fault. IsRefusedFor fault self.new.book) }
-        ensures timely { KeepsTime self.old.view self.new.view }
+            (DoesOrder (commanded.Graceful shape) self.old self.new) }
+        ensures err { IfErr result (λ _. DoesNoOrder self.old self.new) }
+        ensures why { IfErr result (λ fault. IsRefusedFor fault (book_of self.new)) }
+        ensures timely { KeepsTime self.old self.new }
     {
         table_rests_on_these();
         let newest = self.newest;
@@ -74,11 +75,11 @@ impl<'a, M: Room, L: Link, N: Known, B: Bell, G: Gate> Table<'a, M, L, N, B, G> 
     /// Refuses a restart for the reason.
     pub fn refuse<R: Wait>(&mut self, rt: &R, reason: Refusal) -> Result<(), BoardFault>
         ensures does { OnOk result
-            (DoesOrder (commanded.Refused reason) self.old.view self.new.view) }
-        ensures err { IfErr result (λ _. DoesNoOrder self.old.view self.new.view) }
-        ensures why { IfErr result (λ fault. IsRefusedFor fault self.new.book) }
-        ensures timely { is_ended_at (frame_of self.old.book.state) ≡ false
-            → KeepsTime self.old.view self.new.view }
+            (DoesOrder (commanded.Refused reason) self.old self.new) }
+        ensures err { IfErr result (λ _. DoesNoOrder self.old self.new) }
+        ensures why { IfErr result (λ fault. IsRefusedFor fault (book_of self.new)) }
+        ensures timely { is_ended_at (frame_of (state_of self.old)) ≡ false
+            → KeepsTime self.old self.new }
     {
         table_rests_on_these();
         order(
@@ -91,13 +92,13 @@ impl<'a, M: Room, L: Link, N: Known, B: Bell, G: Gate> Table<'a, M, L, N, B, G> 
 
     /// Takes no further connection, and lets those that are open go on until the moment, where there is one.
     pub fn end<R: Wait>(&mut self, rt: &R, until: Option<Moment>) -> Result<(), BoardFault>
-        requires serving { is_serving self.old.book.state.going ≡ true }
-        requires until { is_not_past self.old.book.state.moment until ≡ true }
+        requires serving { is_serving (state_of self.old).going ≡ true }
+        requires until { is_not_past (state_of self.old).moment until ≡ true }
         ensures does { OnOk result
-            (DoesOrder (commanded.GracefulStop until) self.old.view self.new.view) }
-        ensures err { IfErr result (λ _. DoesNoOrder self.old.view self.new.view) }
-        ensures why { IfErr result (λ fault. IsRefusedFor fault self.new.book) }
-        ensures timely { KeepsTime self.old.view self.new.view }
+            (DoesOrder (commanded.GracefulStop until) self.old self.new) }
+        ensures err { IfErr result (λ _. DoesNoOrder self.old self.new) }
+        ensures why { IfErr result (λ fault. IsRefusedFor fault (book_of self.new)) }
+        ensures timely { KeepsTime self.old self.new }
     {
         table_rests_on_these();
         let going = self.going;
@@ -113,10 +114,10 @@ impl<'a, M: Room, L: Link, N: Known, B: Bell, G: Gate> Table<'a, M, L, N, B, G> 
 
     /// The numbers of a status.
     pub fn totals<R: Wait>(&mut self, rt: &R) -> Totals
-        ensures did { Did [] None self.old.view self.new.view }
-        ensures rest { LeavesAlone self.old.book.state self.new.book.state }
-        ensures totals { result ≡ totals_of self.new.book.state }
-        ensures timely { KeepsTime self.old.view self.new.view }
+        ensures did { Did [] None self.old self.new }
+        ensures rest { LeavesAlone (state_of self.old) (state_of self.new) }
+        ensures totals { result ≡ totals_of (state_of self.new) }
+        ensures timely { KeepsTime self.old self.new }
     {
         table_rests_on_these();
         totals(rt, self.hands.shared, &mut self.pass)
@@ -124,10 +125,10 @@ impl<'a, M: Room, L: Link, N: Known, B: Bell, G: Gate> Table<'a, M, L, N, B, G> 
 
     /// Looks whether a connection may be taken, and how the next wait may be.
     pub fn look<R: Wait>(&mut self, rt: &R) -> Look
-        ensures did { Did [] None self.old.view self.new.view }
-        ensures rest { LeavesAlone self.old.book.state self.new.book.state }
-        ensures seen { IsSeenIn self.new.book.state result }
-        ensures timely { KeepsTime self.old.view self.new.view }
+        ensures did { Did [] None self.old self.new }
+        ensures rest { LeavesAlone (state_of self.old) (state_of self.new) }
+        ensures seen { IsSeenIn (state_of self.new) result }
+        ensures timely { KeepsTime self.old self.new }
     {
         table_rests_on_these();
         take_look(rt, self.hands.shared, &mut self.pass)
@@ -147,16 +148,16 @@ impl<'a, M: Room, L: Link, N: Known, B: Bell, G: Gate> Table<'a, M, L, N, B, G> 
         requires fresh { IfSome (L.seen link).told IsFresh }
         requires client { IsOfClient N.known (L.seen link).told }
         requires arrival { IfSome (L.seen link).told
-            (λ t. t.rank ≡ self.old.book.state.accepted) }
-        requires serves { ServesNewest N.known self.old.view limits site.value }
+            (λ t. t.rank ≡ (state_of self.old).accepted) }
+        requires serves { ServesNewest N.known self.old limits site.value }
         ensures takes { OnOk result (TakesLink (L.seen link).told (F.seen front.old)
-            (F.seen front.new) self.old.view self.new.view) }
+            (F.seen front.new) self.old self.new) }
         ensures fails { IfErr result
             (λ fault. FailsTaking fault (L.seen link).told (F.seen front.old) (F.seen front.new)
-            self.old.view self.new.view) }
-        ensures rest { LeavesAlone (record self.old.book.state
-            { accepted = self.new.book.state.accepted }) self.new.book.state }
-        ensures timely { KeepsTime self.old.view self.new.view }
+            self.old self.new) }
+        ensures rest { LeavesAlone (record (state_of self.old)
+            { accepted = (state_of self.new).accepted }) (state_of self.new) }
+        ensures timely { KeepsTime self.old self.new }
     {
         table_rests_on_these();
         take(
@@ -173,12 +174,12 @@ impl<'a, M: Room, L: Link, N: Known, B: Bell, G: Gate> Table<'a, M, L, N, B, G> 
 
     /// What the next wait is told, by the last look.
     pub fn rest(&mut self, look: Look) -> Rest
-        requires { IsSeenIn self.old.book.state look }
-        ensures did { Did [] None self.old.view self.new.view }
-        ensures rest { LeavesAlone self.old.book.state self.new.book.state }
-        ensures until { result.until ≡ next_deadline_of self.old.book.state }
-        ensures quiet { result.quiet ≡ true → IsStill self.old.view self.new.view }
-        ensures timely { KeepsTime self.old.view self.new.view }
+        requires { IsSeenIn (state_of self.old) look }
+        ensures did { Did [] None self.old self.new }
+        ensures rest { LeavesAlone (state_of self.old) (state_of self.new) }
+        ensures until { result.until ≡ next_deadline_of (state_of self.old) }
+        ensures quiet { result.quiet ≡ true → IsStill self.old self.new }
+        ensures timely { KeepsTime self.old self.new }
     {
         table_rests_on_these();
         rest_of(self.hands.shared, &mut self.pass, &self.credits, look)
@@ -193,10 +194,10 @@ impl<'a, M: Room, L: Link, N: Known, B: Bell, G: Gate> Table<'a, M, L, N, B, G> 
 
     /// Folds the history, where it may be folded.
     pub fn fold<R: Wait>(&mut self, rt: &R)
-        ensures sees { OnlySees self.old.view self.new.view }
-        ensures rest { LeavesAlone self.old.book.state self.new.book.state }
-        ensures still { IsAtRest self.old.book.state → self.new.view.seen ≡ self.old.view.seen }
-        ensures timely { KeepsTime self.old.view self.new.view }
+        ensures sees { OnlySees self.old self.new }
+        ensures rest { LeavesAlone (state_of self.old) (state_of self.new) }
+        ensures still { IsAtRest (state_of self.old) → self.new.seen ≡ self.old.seen }
+        ensures timely { KeepsTime self.old self.new }
     {
         table_rests_on_these();
         fold_history(rt, self.hands.shared, &mut self.pass);

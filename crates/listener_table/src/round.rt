@@ -3,6 +3,7 @@ ghost use Rattle.std.specs.Prelude.{◌≡◌, [], None, false, length, max, IfE
 ghost use Rattle.board_book.specs.Faults.{IsRefusedFor};
 ghost use Rattle.board_book.specs.Finds.{startable};
 ghost use Rattle.board_book.specs.Moments.{moment_for};
+ghost use Rattle.board_turns.specs.Books.{book_of, state_of};
 ghost use Rattle.board_turns.specs.Carries.{Lasts};
 ghost use Rattle.conn_machine.specs.Frames.{frame_of};
 ghost use Rattle.conn_machine.specs.States.{is_serving, is_staffed};
@@ -27,7 +28,7 @@ use std::sync::Wait;
 impl<'a, M: Room, L: Link, N: Known, B: Bell, G: Gate> Table<'a, M, L, N, B, G> {
     /// The present moment.
     pub fn moment(&self) -> Moment
-        ensures { result ≡ self.now.book.state.moment }
+        ensures { result ≡ (state_of self.now).moment }
     {
         self.moment
     }
@@ -35,19 +36,19 @@ impl<'a, M: Room, L: Link, N: Known, B: Bell, G: Gate> Table<'a, M, L, N, B, G> 
     /// Lets time pass to the moment, where that is later, and lets go of late connections before and behind that. Behind a rest nothing is
     /// done before.
     pub fn pass_time<R: Wait>(&mut self, rt: &R, moment: Moment) -> Result<(), BoardFault>
-        ensures passes { OnOk result (PassesTime (moment_for moment) self.old.view self.new.view) }
-        ensures refused { OnErr result (LetsGo IsLateWay self.old.view self.new.view) }
-        ensures why { IfErr result (λ fault. IsRefusedFor fault self.new.book) }
+        ensures passes { OnOk result (PassesTime (moment_for moment) self.old self.new) }
+        ensures refused { OnErr result (LetsGo IsLateWay self.old self.new) }
+        ensures why { IfErr result (λ fault. IsRefusedFor fault (book_of self.new)) }
         ensures at_once { OnOk result
-            (IsRestedFor (moment_for moment) self.old.view
-            → TicksAtOnce (moment_for moment) self.old.view self.new.view) }
+            (IsRestedFor (moment_for moment) self.old
+            → TicksAtOnce (moment_for moment) self.old self.new) }
         ensures moment { OnOk result
-            (self.new.book.state.moment ≡ max self.old.book.state.moment (moment_for moment)) }
-        ensures rest { LeavesAlone (record self.old.book.state
-            { moment = self.new.book.state.moment }) self.new.book.state }
-        ensures stays { OnErr result (LeavesAlone self.old.book.state self.new.book.state) }
-        ensures timely { MayPassTo (moment_for moment) (frame_of self.old.book.state)
-            → KeepsTime self.old.view self.new.view }
+            ((state_of self.new).moment ≡ max (state_of self.old).moment (moment_for moment)) }
+        ensures rest { LeavesAlone (record (state_of self.old)
+            { moment = (state_of self.new).moment }) (state_of self.new) }
+        ensures stays { OnErr result (LeavesAlone (state_of self.old) (state_of self.new)) }
+        ensures timely { MayPassTo (moment_for moment) (frame_of (state_of self.old))
+            → KeepsTime self.old self.new }
     {
         table_rests_on_these();
         let present = self.moment;
@@ -58,12 +59,12 @@ impl<'a, M: Room, L: Link, N: Known, B: Bell, G: Gate> Table<'a, M, L, N, B, G> 
 
     /// Signals each of the slots that the table has.
     pub fn signal<R: Wait>(&mut self, rt: &R, slots: &[u32]) -> Result<(), BoardFault>
-        ensures signals { OnOk result (Signals slots.now self.old.view self.new.view) }
-        ensures some { OnErr result (SignalsSome slots.now self.old.view self.new.view) }
-        ensures why { IfErr result (λ fault. IsRefusedFor fault self.new.book) }
-        ensures rest { LeavesAlone self.old.book.state self.new.book.state }
-        ensures timely { MaySignal (frame_of self.old.book.state)
-            → KeepsTime self.old.view self.new.view }
+        ensures signals { OnOk result (Signals slots.now self.old self.new) }
+        ensures some { OnErr result (SignalsSome slots.now self.old self.new) }
+        ensures why { IfErr result (λ fault. IsRefusedFor fault (book_of self.new)) }
+        ensures rest { LeavesAlone (state_of self.old) (state_of self.new) }
+        ensures timely { MaySignal (frame_of (state_of self.old))
+            → KeepsTime self.old self.new }
     {
         table_rests_on_these();
         signal(rt, self.hands.shared, &mut self.pass, slots)
@@ -75,11 +76,11 @@ impl<'a, M: Room, L: Link, N: Known, B: Bell, G: Gate> Table<'a, M, L, N, B, G> 
         rt: &R,
         all_signalled: bool,
     ) -> Result<(), BoardFault>
-        ensures gone { OnOk result (LetsGoOfConns self.old.view self.new.view) }
-        ensures until { IfErr result (λ fault. LetsGoUntil fault self.old.view self.new.view) }
-        ensures rest { LeavesAlone self.old.book.state self.new.book.state }
-        ensures lasts { IfErr result (λ fault. Lasts fault self.new.book.state) }
-        ensures timely { KeepsTime self.old.view self.new.view }
+        ensures gone { OnOk result (LetsGoOfConns self.old self.new) }
+        ensures until { IfErr result (λ fault. LetsGoUntil fault self.old self.new) }
+        ensures rest { LeavesAlone (state_of self.old) (state_of self.new) }
+        ensures lasts { IfErr result (λ fault. Lasts fault (state_of self.new)) }
+        ensures timely { KeepsTime self.old self.new }
     {
         table_rests_on_these();
         let_go_of_conns(rt, self.hands.shared, &mut self.pass, all_signalled)
@@ -87,9 +88,9 @@ impl<'a, M: Room, L: Link, N: Known, B: Bell, G: Gate> Table<'a, M, L, N, B, G> 
 
     /// Lets go of each child that stops and has no live connection, until one of which a permit is out.
     pub fn retire_all<R: Wait>(&mut self, rt: &R)
-        ensures retires { RetiresSome self.old.view self.new.view }
-        ensures rest { StandsAs self.old.book.state self.new.book.state }
-        ensures timely { KeepsTime self.old.view self.new.view }
+        ensures retires { RetiresSome self.old self.new }
+        ensures rest { StandsAs (state_of self.old) (state_of self.new) }
+        ensures timely { KeepsTime self.old self.new }
     {
         table_rests_on_these();
         retire_all(
@@ -104,14 +105,14 @@ impl<'a, M: Room, L: Link, N: Known, B: Bell, G: Gate> Table<'a, M, L, N, B, G> 
     /// Whether a graceful stop is at its end, or the server has stopped: it takes no connections, and each child is gone. Where it isn't so some
     /// child is there, or it takes connections.
     pub fn is_gone<R: Wait>(&mut self, rt: &R) -> bool
-        ensures did { Did [] None self.old.view self.new.view }
-        ensures rest { LeavesAlone self.old.book.state self.new.book.state }
-        ensures gone { result ≡ true → is_serving self.new.book.state.going ≡ false }
-        ensures empty { result ≡ true → is_staffed self.new.book.state ≡ false }
+        ensures did { Did [] None self.old self.new }
+        ensures rest { LeavesAlone (state_of self.old) (state_of self.new) }
+        ensures gone { result ≡ true → is_serving (state_of self.new).going ≡ false }
+        ensures empty { result ≡ true → is_staffed (state_of self.new) ≡ false }
         ensures staffed { result ≡ false
-            → is_serving self.new.book.state.going ≡ false
-            → is_staffed self.new.book.state ≡ true }
-        ensures timely { KeepsTime self.old.view self.new.view }
+            → is_serving (state_of self.new).going ≡ false
+            → is_staffed (state_of self.new) ≡ true }
+        ensures timely { KeepsTime self.old self.new }
     {
         table_rests_on_these();
         let look = take_look(rt, self.hands.shared, &mut self.pass);
@@ -120,11 +121,11 @@ impl<'a, M: Room, L: Link, N: Known, B: Bell, G: Gate> Table<'a, M, L, N, B, G> 
 
     /// Starts the first children, all in one turn, and gives each its credit.
     pub fn start_first<R: Wait>(&mut self, rt: &R) -> Result<(), BoardFault>
-        ensures first { StartsAtFirst self.old.view self.new.view }
-        ensures rest { StandsAs self.old.book.state self.new.book.state }
-        ensures all { OnOk result (startable self.new.book.state ≡ None) }
-        ensures why { IfErr result (λ fault. IsRefusedFor fault self.new.book) }
-        ensures timely { KeepsTime self.old.view self.new.view }
+        ensures first { StartsAtFirst self.old self.new }
+        ensures rest { StandsAs (state_of self.old) (state_of self.new) }
+        ensures all { OnOk result (startable (state_of self.new) ≡ None) }
+        ensures why { IfErr result (λ fault. IsRefusedFor fault (book_of self.new)) }
+        ensures timely { KeepsTime self.old self.new }
     {
         table_rests_on_these();
         start_first(rt, self.hands.shared, &mut self.pass, &mut self.credits)
@@ -132,11 +133,11 @@ impl<'a, M: Room, L: Link, N: Known, B: Bell, G: Gate> Table<'a, M, L, N, B, G> 
 
     /// Starts children while fewer run than should, and gives each its credit.
     pub fn start_further<R: Wait>(&mut self, rt: &R) -> Result<(), BoardFault>
-        ensures starts { StartsEach self.old.view self.new.view }
-        ensures rest { StandsAs self.old.book.state self.new.book.state }
-        ensures all { OnOk result (startable self.new.book.state ≡ None) }
-        ensures why { IfErr result (λ fault. IsRefusedFor fault self.new.book) }
-        ensures timely { KeepsTime self.old.view self.new.view }
+        ensures starts { StartsEach self.old self.new }
+        ensures rest { StandsAs (state_of self.old) (state_of self.new) }
+        ensures all { OnOk result (startable (state_of self.new) ≡ None) }
+        ensures why { IfErr result (λ fault. IsRefusedFor fault (book_of self.new)) }
+        ensures timely { KeepsTime self.old self.new }
     {
         table_rests_on_these();
         start_further(rt, self.hands.shared, &mut self.pass, &mut self.credits)

@@ -1,13 +1,13 @@
 //! The table.
 ghost use Rattle.std.specs.Prelude.{◌≡◌, ℕ, None, length, slice_index};
-ghost use Rattle.board_turns.specs.Books.{state_of};
+ghost use Rattle.board_turns.specs.Books.{book_of, state_of};
 ghost use Rattle.board_turns.specs.Turns.{IsListener};
+ghost use Rattle.conn_machine.specs.Folds.{opening_record};
 ghost use Rattle.conn_machine.specs.Made.{AreMade};
 ghost use Rattle.conn_machine.specs.Sound.{IsSound};
 ghost use Rattle.conn_machine.specs.declared.state.Going.TheVariants.{Serving};
 ghost use Rattle.board_book.specs.Book.{row_in};
 ghost use Rattle.listener_parts.specs.Rounds.{OpenedWithNone};
-ghost use Rattle.listener_table.specs.Table.{table_of};
 ghost use Rattle.listener_turns.specs.Folds.{HasDropped};
 
 use crate::laws::table_rests_on_these;
@@ -34,11 +34,12 @@ pub struct Table<'a, M: Room, L: Link, N: Known, B: Bell, G: Gate> {
 
 impl<'a, M: Room, L: Link, N: Known, B: Bell, G: Gate> Model for Table<'a, M, L, N, B, G> {
     ghost use Rattle.std.specs.Prelude.{◌≡◌};
-    ghost use Rattle.listener_table.specs.Table.{IsTable, SeenTable, table_of};
+    ghost use Rattle.table_rule.specs.declared.view.View.{View};
+    ghost use Rattle.listener_table.specs.Table.{IsTable};
 
-    ghost Value = { SeenTable };
+    ghost Value = { View };
 
-    ghost view = { λ t. table_of t.pass.seat.me.0 };
+    ghost view = { λ t. t.pass.seat.me.0 };
 
     ghost invariant = { λ t. (t.pass.seat.table_id ≡ M.table)
         × IsTable N.known t.pass.seat.me t.credits t.moment t.newest t.going };
@@ -62,7 +63,7 @@ impl<'a, M: Room, L: Link, N: Known, B: Bell, G: Gate> Table<'a, M, L, N, B, G> 
         requires opened { OpenedWithNone pass.seat.me.0 }
         requires sound { IsSound pass.seat.me.0.origin.state }
         requires dropped { HasDropped N.known pass.seat.me.0 }
-        ensures { result ≡ table_of pass.seat.me.0 }
+        ensures { result ≡ pass.seat.me.0 }
     {
         Table {
             hands,
@@ -78,13 +79,13 @@ impl<'a, M: Room, L: Link, N: Known, B: Bell, G: Gate> Table<'a, M, L, N, B, G> 
     /// What holds of each table: each entry that pass 0 has seen was made by its pass as it might be, from a sound state on, so the state behind
     /// them is sound; pass 0 has no connection, and no pass had one as the server opened. Does nothing.
     pub fn show(&self)
-        ensures number { self.now.view.who.number ≡ 0 }
-        ensures none { self.now.view.row ≡ None }
-        ensures no_conns { OpenedWithNone self.now.view }
-        ensures made { AreMade self.now.book.base self.now.book.folded self.now.book.history }
-        ensures opened { IsSound self.now.book.base }
-        ensures sound { IsSound self.now.book.state }
-        ensures row { row_in 0 self.now.book ≡ None }
+        ensures number { self.now.who.number ≡ 0 }
+        ensures none { self.now.row ≡ None }
+        ensures no_conns { OpenedWithNone self.now }
+        ensures made { AreMade self.now.origin.state (opening_record self.now.origin.passes) self.now.seen }
+        ensures opened { IsSound self.now.origin.state }
+        ensures sound { IsSound (state_of self.now) }
+        ensures row { row_in 0 (book_of self.now) ≡ None }
     {
         table_rests_on_these();
     }

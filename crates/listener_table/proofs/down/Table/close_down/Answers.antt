@@ -1,6 +1,7 @@
 use Rattle.std.proofs.Common.{subst, sym, true, ◌∙◌, ◌≡◌}
 use Rattle.conn_machine.specs.States.{is_halted}
-use Rattle.listener_table.specs.Table.{SeenTable}
+use Rattle.table_rule.specs.declared.view.View.{View}
+use Rattle.board_turns.specs.Books.{state_of}
 use Rattle.listener_parts.proofs.PartTimeLemmas.{closes_keep}
 use Rattle.listener_table.proofs.TableLemmas.{is_made, table_stays}
 use Rattle.listener_table.proofs.down.Table.close_down.Goals as goal
@@ -25,4 +26,4 @@ returns-clause-timely g c =
 
 pub close_down-requires-clause-halted : goal.close_down-requires-clause-halted
 close_down-requires-clause-halted g c =
-    subst (λ (v : SeenTable). is_halted v.book.state.going ≡ true) (sym c.self.view_is) c.requires
+    subst (λ (v : View). is_halted (state_of v).going ≡ true) (sym c.self.view_is) c.requires

@@ -4,7 +4,7 @@ use Rattle.conn_machine.specs.States.{is_serving}
 use Rattle.conn_machine.specs.Table.{greatest_generation}
 use Rattle.board_turns.specs.Books.{state_of}
 use Rattle.listener_parts.proofs.RoundLemmas.{is_below}
-use Rattle.listener_table.specs.Table.{SeenTable}
+use Rattle.table_rule.specs.declared.view.View.{View}
 use Rattle.listener_parts.proofs.PartTimeLemmas.{order_keeps}
 use Rattle.listener_table.proofs.TableLemmas.{is_made, may_begin, serves_before, table_begins}
 use Rattle.listener_table.proofs.intake.Table.begin.Goals as goal
@@ -25,16 +25,16 @@ returns-clause-err g c =
 
 pub returns-clause-timely : goal.returns-clause-timely
 returns-clause-timely g c =
-    let serving = subst (λ (v : SeenTable). is_serving v.book.state.going ≡ true) (sym c.self.view_is) c.requires.serving in
+    let serving = subst (λ (v : View). is_serving (state_of v).going ≡ true) (sym c.self.view_is) c.requires.serving in
     rw (← c.self.view_is) (order_keeps c.table_rests_on_these.ensures.frame _ _ _ c.order-begun.result (is_made c.self.invariant.1) (serves_before _ serving) c.order-begun.ensures.does c.order-begun.ensures.err)
 
 pub order-begun-requires-clause-allowed : goal.order-begun-requires-clause-allowed
 order-begun-requires-clause-allowed g c _ =
     let s = state_of c.self.inside.pass.seat.me.0 in
-    let serving = subst (λ (v : SeenTable). is_serving v.book.state.going ≡ true) (sym c.self.view_is) c.requires.serving in
-    let newest = subst (λ (v : SeenTable). v.book.state.newest < greatest_generation) (sym c.self.view_is) c.requires.newest in
+    let serving = subst (λ (v : View). is_serving (state_of v).going ≡ true) (sym c.self.view_is) c.requires.serving in
+    let newest = subst (λ (v : View). (state_of v).newest < greatest_generation) (sym c.self.view_is) c.requires.newest in
     may_begin s _ serving (is_below s.newest greatest_generation newest) c.requires.shape
 
 pub newest_behind-self-inside-requires : goal.newest_behind-self-inside-requires
 newest_behind-self-inside-requires g c =
-    subst (λ n. n < greatest_generation) (ap (λ (v : SeenTable). v.book.state.newest) (sym c.self.view_is) ∙ sym c.self.invariant.1.newest_is) c.requires.newest
+    subst (λ n. n < greatest_generation) (ap (λ (v : View). (state_of v).newest) (sym c.self.view_is) ∙ sym c.self.invariant.1.newest_is) c.requires.newest

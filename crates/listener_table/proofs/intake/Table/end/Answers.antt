@@ -2,7 +2,7 @@ use Rattle.std.proofs.Common.{subst, sym, true, ◌∙◌, ◌≡◌}
 use Rattle.conn_machine.specs.States.{is_serving}
 use Rattle.conn_machine.specs.Table.{is_not_past}
 use Rattle.board_turns.specs.Books.{state_of}
-use Rattle.listener_table.specs.Table.{SeenTable}
+use Rattle.table_rule.specs.declared.view.View.{View}
 use Rattle.listener_parts.proofs.PartTimeLemmas.{order_keeps}
 use Rattle.listener_table.proofs.TableLemmas.{is_made, may_end, serves_before, table_ends}
 use Rattle.listener_table.proofs.intake.Table.end.Goals as goal
@@ -23,11 +23,11 @@ returns-clause-err g c =
 
 pub returns-clause-timely : goal.returns-clause-timely
 returns-clause-timely g c =
-    let serving = subst (λ (v : SeenTable). is_serving v.book.state.going ≡ true) (sym c.self.view_is) c.requires.serving in
+    let serving = subst (λ (v : View). is_serving (state_of v).going ≡ true) (sym c.self.view_is) c.requires.serving in
     rw (← c.self.view_is) (order_keeps c.table_rests_on_these.ensures.frame _ _ _ c.order-ends.result (is_made c.self.invariant.1) (serves_before _ serving) c.order-ends.ensures.does c.order-ends.ensures.err)
 
 pub order-ends-requires-clause-allowed : goal.order-ends-requires-clause-allowed
 order-ends-requires-clause-allowed g c _ =
-    let serving = subst (λ (v : SeenTable). is_serving v.book.state.going ≡ true) (sym c.self.view_is) c.requires.serving in
-    let past = subst (λ (v : SeenTable). is_not_past v.book.state.moment c.args.until ≡ true) (sym c.self.view_is) c.requires.until in
+    let serving = subst (λ (v : View). is_serving (state_of v).going ≡ true) (sym c.self.view_is) c.requires.serving in
+    let past = subst (λ (v : View). is_not_past (state_of v).moment c.args.until ≡ true) (sym c.self.view_is) c.requires.until in
     may_end (state_of c.self.inside.pass.seat.me.0) c.args.until serving past

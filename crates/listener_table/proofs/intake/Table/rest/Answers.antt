@@ -1,6 +1,7 @@
 use Rattle.std.proofs.Common.{None, subst, sym, ◌∙◌}
 use Rattle.listener_turns.specs.Looks.{IsSeenIn}
-use Rattle.listener_table.specs.Table.{SeenTable}
+use Rattle.table_rule.specs.declared.view.View.{View}
+use Rattle.board_turns.specs.Books.{state_of}
 use Rattle.listener_parts.proofs.PartTimeLemmas.{nothing_keeps}
 use Rattle.listener_table.proofs.TableLemmas.{is_made, table_stays}
 use Rattle.listener_table.proofs.intake.Table.rest.Goals as goal
@@ -32,4 +33,4 @@ returns-clause-timely g c =
     rw (← c.self.view_is) (nothing_keeps c.table_rests_on_these.ensures.frame None _ _ (is_made c.self.invariant.1) c.rest_of.ensures.did)
 
 pub rest_of-requires-clause-seen : goal.rest_of-requires-clause-seen
-rest_of-requires-clause-seen g c = subst (λ (v : SeenTable). IsSeenIn v.book.state c.args.look) (sym c.self.view_is) c.requires
+rest_of-requires-clause-seen g c = subst (λ (v : View). IsSeenIn (state_of v) c.args.look) (sym c.self.view_is) c.requires

@@ -1,6 +1,7 @@
 use Rattle.std.proofs.Common.{IfSome, subst, sym, ◌∙◌, ◌≡◌}
 use Rattle.listener_parts.specs.Taking.{ServesNewest}
-use Rattle.listener_table.specs.Table.{SeenTable}
+use Rattle.table_rule.specs.declared.view.View.{View}
+use Rattle.board_turns.specs.Books.{state_of}
 use Rattle.listener_parts.proofs.PartTimeLemmas.{taking_keeps}
 use Rattle.listener_table.proofs.TableLemmas.{is_made, table_takes}
 use Rattle.listener_table.proofs.intake.Table.take.Goals as goal
@@ -29,8 +30,8 @@ returns-clause-timely g c =
 
 pub take-requires-clause-arrival : goal.take-requires-clause-arrival
 take-requires-clause-arrival g c =
-    subst (λ (v : SeenTable). IfSome (g.L.Link.seen c.args.link).told (λ t. t.rank ≡ v.book.state.accepted)) (sym c.self.view_is) c.requires.arrival
+    subst (λ (v : View). IfSome (g.L.Link.seen c.args.link).told (λ t. t.rank ≡ (state_of v).accepted)) (sym c.self.view_is) c.requires.arrival
 
 pub take-requires-clause-serves : goal.take-requires-clause-serves
 take-requires-clause-serves g c =
-    subst (λ (v : SeenTable). ServesNewest g.N.Known.known v.view c.args.limits c.args.site.value) (sym c.self.view_is) c.requires.serves
+    subst (λ (v : View). ServesNewest g.N.Known.known v c.args.limits c.args.site.value) (sym c.self.view_is) c.requires.serves
