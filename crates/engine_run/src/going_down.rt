@@ -1,6 +1,7 @@
 //! How the server goes down behind the listener's turns.
 //! Why it is so stands in docs/DECISIONS.md: 140, Parts of the listener's round.
 ghost use Rattle.std.specs.Prelude.{◌≡◌, true, false, IfNone, IfSome};
+ghost use Rattle.board_turns.specs.Books.{book_of, state_of};
 ghost use Rattle.conn_machine.specs.States.{is_at_its_end};
 ghost use Rattle.worker_group.specs.Service.{IsUp};
 ghost use Rattle.rounds.specs.EndsInside as inside;
@@ -28,10 +29,10 @@ pub(crate) fn go_down<R: Wait, M: Room, L: Link, N: Known, B: Bell, G: Gate>(
     table: &mut Table<'_, M, L, N, B, G>,
     turns: Result<End, BoardFault>,
 )
-    requires must { MustHalt turns table.old.book }
-    requires up { IsUp table.old.book.state.going }
-    requires end { is_at_its_end table.old.book.state ≡ inside.is_at_end turns }
-    ensures { GoesDown turns table.old.view table.new.view }
+    requires must { MustHalt turns (book_of table.old) }
+    requires up { IsUp (state_of table.old).going }
+    requires end { is_at_its_end (state_of table.old) ≡ inside.is_at_end turns }
+    ensures { GoesDown turns table.old table.new }
 {
     own_events_tell_the_frame();
     table.show();

@@ -87,6 +87,22 @@ silent_one o orders edition f (event.StartChild k) silent = record { ordered = t
 silent_one o orders edition f (event.Command c) silent = absurd (cc silent)
 silent_one o orders edition f (event.Retire k) silent = record { ordered = tt; orders_are = refl; edition_is = refl; by_line = refl; graceful = refl; order = refl; refusal = refl }
 
+-- nor is it an order
+pub silent_order : (e : Event) → is_command e ≡ false → is_order e ≡ false
+silent_order (event.Accept slot) silent = refl
+silent_order (event.Park name kind) silent = refl
+silent_order (event.Hold name) silent = refl
+silent_order (event.Queue name) silent = refl
+silent_order (event.Start name) silent = refl
+silent_order (event.Answer name ask) silent = refl
+silent_order (event.Linger name why) silent = refl
+silent_order (event.Close name why how) silent = refl
+silent_order (event.Ready slot) silent = refl
+silent_order (event.Tick m) silent = refl
+silent_order (event.StartChild k) silent = refl
+silent_order (event.Command c) silent = absurd (cc silent)
+silent_order (event.Retire k) silent = refl
+
 silent_ordered : (o : Opening) (orders edition : ℕ) (f : Frame) (events : List Event) → AreSilent events → AreOrderedFrom o orders edition f events
 silent_ordered o orders edition f [] silent = tt
 silent_ordered o orders edition f (e ∷ events) silent =
@@ -100,7 +116,7 @@ silent_edition o f orders edition (e ∷ events) silent =
     silent_edition o f (orders_with e orders) (edition_with e orders edition) events silent.1 ∙ one.edition_is
 
 -- a test that passes no silent event passes none of them
-silent_count : (test : Event → Bool) → ((e : Event) → is_command e ≡ false → test e ≡ false) → (events : List Event) → AreSilent events → count_by test events ≡ 0
+pub silent_count : (test : Event → Bool) → ((e : Event) → is_command e ≡ false → test e ≡ false) → (events : List Event) → AreSilent events → count_by test events ≡ 0
 silent_count test none [] silent = refl
 silent_count test none (e ∷ events) silent = rw (none e silent.0, silent_count test none events silent.1) refl
 

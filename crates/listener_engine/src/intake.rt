@@ -155,6 +155,8 @@ impl<'a, 'c, M: Room, L: Link, N: Known, B: Bell, G: Gate> Listener<'a, 'c, M, L
         self.table.show();
         let alloc = self.alloc;
         let limits = self.edition.limits;
-        self.table.take(rt, alloc, front, link, limits, site)
+        let done = self.table.take(rt, alloc, front, link, limits, site);
+        self.table.show();
+        done
     }
 }

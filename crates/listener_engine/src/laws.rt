@@ -31,7 +31,9 @@ pub(crate) fn show_whole_histories()
     ensures taken { OwnEventsTellWhatWasTaken }
     ensures editions { GenerationsKeepTheirEditions }
     ensures sizes { HistoriesKeepSizes }
+    ensures orders { OwnEventsTellTheOrders }
 {
+    own_events_tell_the_orders();
     turns_rest_on_these();
     own_events_tell_the_frame();
     own_events_tell_what_was_taken();
