@@ -1,3 +1,4 @@
+pub mod ArrivalLemmas
 pub mod BroughtLemmas
 pub mod HearsLemmas
 pub mod IntakeLemmas

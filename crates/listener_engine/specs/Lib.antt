@@ -1,4 +1,5 @@
 pub mod Hearing
+pub mod Intakes
 pub mod Lines
 pub mod Ordered
 pub mod Own

@@ -1,6 +1,6 @@
 //! How a round takes the connections that have arrived.
 //! Why it is so stands in docs/DECISIONS.md: 88, A share of the site comes first.
-ghost use Rattle.std.specs.Prelude.{◌≡◌, ◌∷◌, ◌++◌, [], IfErr, IfOk, MatchResult, OnErr, OnOk};
+ghost use Rattle.std.specs.Prelude.{◌≡◌, ◌∷◌, ◌++◌, [], IfErr, IfOk, IfSome, OnErr, OnOk};
 ghost use Rattle.board_turns.specs.Books.{book_of, state_of};
 ghost use Rattle.mpm_base.specs.Count.{next_count};
 ghost use Rattle.mpm_base.specs.Front.{TellsOn};
@@ -12,14 +12,14 @@ ghost use Rattle.listener_parts.specs.Did.{LeavesAlone};
 ghost use Rattle.listener_parts.specs.Taking as parts;
 ghost use Rattle.listener_parts.specs.Taking.{TakesLink};
 ghost use Rattle.listener_parts.specs.Times.{KeepsTime};
-ghost use Rattle.listener_round.specs.CountedInside.{CountsOn, CountsUntil, LacksLink};
-ghost use Rattle.listener_round.specs.FrontInside.{Follows, HandsOut, IsArrival, IsInStep, IsKnownOfFront, OnlyTakes, TellsAlike, TookAll};
-ghost use Rattle.listener_round.specs.HeardInside.{KeepsHeard};
+ghost use Rattle.listener_round.specs.CountedInside.{LacksLink};
+ghost use Rattle.listener_round.specs.FrontInside.{Follows, IsArrival, IsInStep, IsKnownOfFront, OnlyTakes, TellsAlike, TookAll};
 ghost use Rattle.listener_round.specs.OrdersInside.{ServesNewest};
 ghost use Rattle.listener_round.specs.Pace.{brought, taken};
 ghost use Rattle.listener_round.specs.RoundInside.{EndsTaking};
-ghost use Rattle.listener_round.specs.ShareInside.{HandsMany, MakesOneAtMost, TakesAllButOne, TakesHanded};
-ghost use Rattle.listener_engine.specs.Rounds.{FailsTaking, TakesSome, TakesSomeUntil};
+ghost use Rattle.listener_round.specs.ShareInside.{HandsMany, MakesOneAtMost};
+ghost use Rattle.listener_engine.specs.Intakes.{TakesIn, TakesInUntil};
+ghost use Rattle.listener_engine.specs.Rounds.{FailsTaking};
 ghost use Rattle.listener_engine.specs.Watching.{WatchesOn};
 
 use crate::laws::show_whole_histories;
@@ -55,51 +55,63 @@ impl<'a, 'c, M: Room, L: Link, N: Known, B: Bell, G: Gate> Listener<'a, 'c, M, L
         requires serves { ServesNewest N.known (book_of self.old.table) self.old.edition }
         requires up { IsUp (state_of self.old.table).going }
         requires step { IsInStep (F.seen front.old).told (state_of self.old.table) }
-        ensures takes { OnOk result (TakesSome self.old.table self.new.table) }
-        ensures until { IfErr result
-            (λ fault. TakesSomeUntil fault self.old.table self.new.table) }
-        ensures handed { OnOk result (TakesHanded 0 (F.seen front.old).told
-            (F.seen front.new).told (book_of self.old.table) (book_of self.new.table)) }
-        ensures cut { OnErr result (TakesAllButOne (F.seen front.old).told
-            (F.seen front.new).told (book_of self.old.table) (book_of self.new.table)) }
-        ensures timely { KeepsTime self.old.table self.new.table }
-        ensures rest { LeavesAlone (record (state_of self.old.table)
-            { accepted = (state_of self.new.table).accepted }) (state_of self.new.table) }
+        ensures goes { OnOk result
+            (TakesIn (F.seen front.old) (F.seen front.new) self.old.table self.new.table) }
+        ensures breaks { IfErr result
+            (λ fault. TakesInUntil fault (F.seen front.old) (F.seen front.new) self.old.table
+            self.new.table) }
         ensures step { OnOk result (IsInStep (F.seen front.new).told (state_of self.new.table)) }
         ensures seen { IfOk result (IsSeenIn (state_of self.new.table)) }
         ensures taken { OnOk result (TookAll (F.seen front.new).told (state_of self.new.table)) }
-        ensures counts { let old = (F.seen front.old).counts in
-            let new = (F.seen front.new).counts in
-            MatchResult result
-            (λ look. CountsOn 0 old new (book_of self.old.table) (book_of self.new.table))
-            (λ fault. CountsUntil old new (book_of self.old.table) (book_of self.new.table)) }
-        ensures wakes { (F.seen front.new).counts.wakes ≡ (F.seen front.old).counts.wakes }
-        ensures orders { orders_in (book_of self.new.table) ≡ orders_in (book_of self.old.table) }
-        ensures heard { KeepsHeard (F.seen front.old) (F.seen front.new) }
-        ensures follows { Follows (F.seen front.old) (F.seen front.new) }
-        ensures front { TellsOn OnlyTakes (F.seen front.old).told (F.seen front.new).told }
-        ensures watched { WatchesOn (F.seen front.old).told (F.seen front.new).told
-            self.old.table self.new.table }
-        ensures links { OnErr result
-            (HandsOut (F.seen front.new).told (state_of self.new.table)) }
         ensures others { self.new ≡ record self.old { table = self.new.table } }
-        ensures err { IfErr result (λ fault. RefusalLasts fault (book_of self.new.table)) }
     {
         show_whole_histories();
         for _ in rt.forever() {
-            let look = self.table.look(rt);
-            if look.accepts.is_none() {
+            if let Some(look) = self.take_next(rt, front)? {
                 return Ok(look);
-            }
-            let Ok(site) = share_of(&self.edition) else {
-                return Err(BoardFault::NoMemory);
-            };
-            match front.accept() {
-                Arrival::Some(link) => self.take(rt, front, link, site)?,
-                Arrival::None | Arrival::Failed => return Ok(look),
             }
         }
         unreachable!()
+    }
+
+    /// Takes the next connection that has arrived. Where there is none to be taken, the look behind which none could be, the last turn.
+    fn take_next<R: Wait, F: Front<L = L>>(
+        &mut self,
+        rt: &R,
+        front: &mut F,
+    ) -> Result<Option<Look>, BoardFault>
+        requires named { IsKnownOfFront N.known (F.seen front.old).told }
+        requires serves { ServesNewest N.known (book_of self.old.table) self.old.edition }
+        requires up { IsUp (state_of self.old.table).going }
+        requires step { IsInStep (F.seen front.old).told (state_of self.old.table) }
+        ensures goes { OnOk result
+            (TakesIn (F.seen front.old) (F.seen front.new) self.old.table self.new.table) }
+        ensures breaks { IfErr result
+            (λ fault. TakesInUntil fault (F.seen front.old) (F.seen front.new) self.old.table
+            self.new.table) }
+        ensures step { OnOk result (IsInStep (F.seen front.new).told (state_of self.new.table)) }
+        ensures seen { IfOk result (λ o. IfSome o (IsSeenIn (state_of self.new.table))) }
+        ensures taken { IfOk result
+            (λ o. IfSome o (λ _. TookAll (F.seen front.new).told (state_of self.new.table))) }
+        ensures others { self.new ≡ record self.old { table = self.new.table } }
+    {
+        show_whole_histories();
+        self.table.show();
+        let look = self.table.look(rt);
+        self.table.show();
+        if look.accepts.is_none() {
+            return Ok(Some(look));
+        }
+        let Ok(site) = share_of(&self.edition) else {
+            return Err(BoardFault::NoMemory);
+        };
+        match front.accept() {
+            Arrival::Some(link) => {
+                self.take(rt, front, link, site)?;
+                Ok(None)
+            }
+            Arrival::None | Arrival::Failed => Ok(Some(look)),
+        }
     }
 
     /// Takes the connection of the link into the table, and has the front watch it under its name. Where the table refuses the

@@ -21,7 +21,7 @@ use Rattle.conn_machine.specs.Made.{AreMade}
 use Rattle.conn_machine.specs.Passes.{EachHasItsOwn}
 use Rattle.conn_machine.specs.Runs.{after, first_row, own_events}
 use Rattle.conn_machine.specs.Sound.{IsSound}
-use Rattle.conn_machine.specs.States.{is_halted, is_serving}
+use Rattle.conn_machine.specs.States.{is_halted, is_serving, is_staffed}
 use Rattle.conn_machine.specs.Table.{greatest_generation, is_allowed, is_not_past}
 use Rattle.conn_state.specs.Known.{KnownOutside}
 use Rattle.table_rule.specs.declared.view.Origin.{Origin}
@@ -242,9 +242,13 @@ stops_keep law reason true old new is did before =
     (command_timely (frame_of (state_of old)) (commanded.Stop reason) before)
 stops_keep law reason false old new is did before = nothing_keeps law None old new is did
 
+ended_none : (serves halted staffed : Bool) → serves ≡ true → (not serves && not halted && not staffed) ≡ false
+ended_none true halted staffed is = refl
+ended_none false halted staffed is = absurd (cc is)
+
 -- none is where the server takes connections
 pub serves_before : (s : State) → is_serving s.going ≡ true → is_ended_at (frame_of s) ≡ false
-serves_before s serving = rw serving refl
+serves_before s serving = ended_none (is_serving s.going) (is_halted s.going) (is_staffed s) serving
 
 -- ## Which orders are allowed
 
@@ -272,7 +276,7 @@ may_end s until serving past =
     (both (is_serving s.going) (is_not_past s.moment until) serving past)
 
 pub may_refuse : (s : State) (reason : Refusal) → is_halted s.going ≡ false → is_allowed s (event.Command (commanded.Refused reason)) ≡ true
-may_refuse s reason going = rw going refl
+may_refuse s reason going = ap (λ (halted : Bool). not halted && true) going
 
 -- ## Opening
 
@@ -281,7 +285,7 @@ same_lists [] [] long same = refl
 same_lists [] (y ∷ ys) long same = absurd (omega (arith, long))
 same_lists (x ∷ xs) [] long same = absurd (omega (arith, long))
 same_lists (x ∷ xs) (y ∷ ys) long same =
-    let first : x ≡ y = same 0 in
+    let first : x ≡ y = same zero in
     ap (λ n. n ∷ xs) first ∙ ap (λ l. y ∷ l) (same_lists xs ys (omega (arith, long)) (λ k. same (suc k)))
 
 -- no child has a credit yet
