@@ -1,5 +1,6 @@
 pub mod ArrivalLemmas
 pub mod BroughtLemmas
+pub mod CommandLemmas
 pub mod HearsLemmas
 pub mod IntakeLemmas
 pub mod KeptLemmas
