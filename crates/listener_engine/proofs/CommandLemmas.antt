@@ -24,7 +24,7 @@ use Rattle.listener_round.specs.StandingInside.{HasTimeout}
 use Rattle.listener_round.specs.Stores.{RisesBy, is_store_refusal}
 use Rattle.listener_round.specs.declared.run_numbers.RunNumbers.{RunNumbers}
 use Rattle.listener_round.proofs.OrderStandLemmas.{IsOrder, IsRenewedOnce, once-more, rises-both, rises-one}
-use Rattle.listener_round.proofs.StandingLemmas.{rises-more}
+use Rattle.listener_round.proofs.StandingLemmas.{SameLines, rises-more}
 use Rattle.listener_engine.specs.Ordered.{AreOrderedFrom, IsDoneAt, edition_behind}
 use Rattle.listener_engine.specs.Own.{own_of}
 use Rattle.listener_engine.specs.Standing.{IsRenewedBy, StandsSo, standing}
@@ -213,3 +213,20 @@ stands_ending law o n c ms s f f' a b unordered line unrefused ends made own ori
             failed = subst (λ (m : ℕ). RisesBy m o.store.counts.faults s.counts.faults) (sym refusals) stood.store.failed;
           };
     }
+
+-- ## Another front
+
+-- it stands so over a front that counts no fewer lines
+pub stands_front : (o : Opening) (n : RunNumbers) (spare owed ms : ℕ) (s : StoreSeen) (f f' : FrontSeen) (a : View) → SameLines f f'
+    → StandsSo o n spare owed (standing ms s f a) → StandsSo o n spare owed (standing ms s f' a)
+stands_front o n spare owed ms s f f' a same stood = record {
+  origin = stood.origin;
+  ordered = stood.ordered;
+  timeout = stood.timeout;
+  given = rises-more _ _ o.front.counts.commands f.counts.commands f'.counts.commands refl same stood.given;
+  ending = stood.ending;
+  renewals = stood.renewals;
+  each = stood.each;
+  no_more = stood.no_more;
+  store = stood.store;
+}

@@ -5,6 +5,7 @@ pub mod HearsLemmas
 pub mod IntakeLemmas
 pub mod KeptLemmas
 pub mod OrderLemmas
+pub mod RestartLemmas
 pub mod SilentLemmas
 pub mod StandingLemmas
 pub mod TakenLemmas
