@@ -1,11 +1,13 @@
 -- What a restart and a graceful stop do: what the listener did, and how the run stands then.
-use Rattle.std.proofs.Common.{◌≡◌, ◌⊎◌, inl, inr, ◌≤◌, ◌+◌, ℕ, suc, Bool, true, false, not, ◌&&◌, cond, List, [], ◌∷◌, ◌++◌, count_by, nat_lt, None, Option, Some, option_map, IfSome, Result, Ok, Err, OnErr, OnOk, refl, sym, ap, subst, ◌∙◌, arith}
+use Rattle.std.proofs.Common.{◌≡◌, ◌⊎◌, inl, inr, ◌≤◌, ◌+◌, ℕ, suc, Bool, true, false, not, ◌&&◌, cond, List, [], ◌∷◌, ◌++◌, count_by, nat_lt, None, Option, Some, option_map, IfSome, Result, Ok, Err, IfOk, OnErr, OnOk, refl, sym, ap, subst, ◌∙◌, arith}
+use Rattle.std.proofs.lemmas.Bool.Decides.{nat_tests}
 use Rattle.std.specs.List.{list_any}
 use Rattle.mpm_base.specs.CommandWord.{command_word}
 use Rattle.mpm_base.specs.Count.{NeverFalls}
 use Rattle.mpm_base.specs.Front.{Commands, FrontSeen}
 use Rattle.mpm_base.specs.Store.{Renews, StoreCounts, StoreSeen, StoreTold, after_renew}
 use Rattle.mpm_base.specs.declared.script_line.CommandWord.TheVariants as word
+use Rattle.mpm_config.specs.Config.{Configuration}
 use Rattle.conn_machine.specs.declared.child.Child.{Child}
 use Rattle.conn_machine.specs.declared.event.Commanded.{Commanded}
 use Rattle.conn_machine.specs.declared.event.Commanded.TheVariants as commanded
@@ -37,24 +39,28 @@ use Rattle.listener_parts.proofs.DidLemmas.{edition_on}
 use Rattle.listener_parts.proofs.PartTimeLemmas.{IsMade}
 use Rattle.listener_round.specs.Generations.{Opening, config_at, head_limits_of, renewed}
 use Rattle.listener_round.specs.Orders.{HasShape, HasSite, IsRefusedAs, ending_by, ending_moment, may_begin, shape_by}
-use Rattle.listener_round.specs.OrdersInside.{KnowsComing, MakesOrders, ServesNewest, reason_for}
+use Rattle.listener_round.specs.OrdersInside.{AnswersRefusal, KnowsComing, MakesOrders, ServesNewest, reason_for}
 use Rattle.listener_round.specs.StandingInside.{HasTimeout}
 use Rattle.listener_round.specs.Stores.{RisesBy, is_store_refusal}
 use Rattle.listener_round.specs.declared.edition.LoadedEdition.{LoadedEdition}
 use Rattle.listener_round.specs.declared.edition.NamedConfig.{NamedConfig}
 use Rattle.listener_round.specs.declared.run_numbers.RunNumbers.{RunNumbers}
-use Rattle.mpm_config.specs.Configuration.{Configuration}
 use Rattle.listener_round.proofs.OrderStandLemmas.{IsRenewedOnce, once-more, rises-one}
 use Rattle.listener_round.proofs.PlanLemmas.{cause-of_order, config-of_order, knows-renewed, serves-plan, shape-of_order, site-of_order, timeout-of_order}
 use Rattle.listener_round.proofs.RestartLemmas.{in_time-ending, renewed-once}
 use Rattle.listener_round.proofs.StandingLemmas.{SameLines}
-use Rattle.listener_engine.specs.Lines.{Begins, Carries, DoesOrders, LacksMemory, Refuses}
+use Rattle.listener_engine.specs.Lines.{AnswersPlan, AnswersRestart, Begins, Carries, DoesOrders, LacksMemory, Refuses}
 use Rattle.listener_engine.specs.Ordered.{IsDoneAt, IsRefusedAt, edition_behind}
 use Rattle.listener_engine.specs.Own.{own_of}
 use Rattle.listener_engine.specs.Standing.{BreaksBehind, Standing, StandsBehind, StandsBroken, StandsOn, StandsSo, standing}
 use Rattle.listener_engine.proofs.BroughtLemmas.{brought_as}
 use Rattle.listener_engine.proofs.CommandLemmas.{OwnsSame, stands_ending, stands_front, stands_line, stands_order, stands_unordered}
 use Rattle.listener_engine.proofs.KeptLemmas.{own_behind}
+
+-- what a call tells, whether it was done or refused
+pub either_way : {T E P Q X : Type 0} (r : Result T E) → (P → X) → (Q → X) → OnOk r P → OnErr r Q → X
+either_way (Ok x) done refused ok err = done ok
+either_way (Err e) done refused ok err = refused err
 
 -- ## What was done
 
@@ -314,3 +320,41 @@ pub in_time_none : (a b : View) → DoesNoOrder a b → StandsInTime (state_of a
 in_time_none a b none in_time =
     still-in_time (state_of a) (state_of b) none.rest.stands.moment none.rest.stands.going
     (ap (list_any (λ (x : Child). not (is_empty x.phase))) none.rest.children ∙ in_time.staffed) in_time
+
+-- ## What stays of the state
+
+pub frame_carried_moment : (plan : Plan) (a b : View) (e e' : LoadedEdition) → Carries plan a b e e' → (state_of b).moment ≡ (state_of a).moment
+frame_carried_moment plan a b e e' (inl begins) = ap (λ (g : Frame). g.moment) begins.does.frame
+frame_carried_moment plan a b e e' (inr lacks) = ap (λ (g : Frame). g.moment) lacks.refuses.frame
+
+pub frame_carried_accepted : (plan : Plan) (a b : View) (e e' : LoadedEdition) → Carries plan a b e e' → (state_of b).accepted ≡ (state_of a).accepted
+frame_carried_accepted plan a b e e' (inl begins) = ap (λ (g : Frame). g.accepted) begins.does.frame
+frame_carried_accepted plan a b e e' (inr lacks) = ap (λ (g : Frame). g.accepted) lacks.refuses.frame
+
+pub frame_carried_going : (plan : Plan) (a b : View) (e e' : LoadedEdition) → Carries plan a b e e' → (state_of b).going ≡ (state_of a).going
+frame_carried_going plan a b e e' (inl begins) = ap (λ (g : Frame). g.going) begins.does.frame
+frame_carried_going plan a b e e' (inr lacks) = ap (λ (g : Frame). g.going) lacks.refuses.frame
+
+pub both_err : {T E P Q : Type 0} (r : Result T E) → OnErr r P → OnErr r Q → OnErr r (P × Q)
+both_err (Ok x) first second = tt
+both_err (Err e) first second = (first, second)
+
+-- ## What a restart is answered
+
+-- it was refused by an event for the reason, and answered with a text that says so
+pub answers_refused : {E : Type 0} (c : NamedConfig) (store : StoreSeen) (a b : View) (reason : Refusal) (text : List ℕ) (r : Result (List ℕ) E)
+    → OnOk r (Refuses reason a b) → IfOk r (λ says. says ≡ text) → AnswersRefusal c store reason text → IfOk r (AnswersRestart c store a b)
+answers_refused c store a b reason text (Err e) refuses is says = tt
+answers_refused c store a b reason text (Ok answer) refuses is says =
+    inr (record { reason = reason; refuses = refuses; says = subst (AnswersRefusal c store reason) (sym is) says })
+
+-- a plan was carried out, or memory lacked for that
+pub answers_carried : {E : Type 0} (c : NamedConfig) (store : StoreSeen) (plan : Plan) (a b : View) (e e' : LoadedEdition) (r : Result (List ℕ) E)
+    → OnOk r (Carries plan a b e e') → IfOk r (AnswersPlan a b) → IfOk r (AnswersRestart c store a b)
+answers_carried c store plan a b e e' (Err fault) carries answers = tt
+answers_carried c store plan a b e e' (Ok text) (inl begins) (inl newest) =
+    inl (record { shape = shape_by plan.config; does = begins.does; says = newest.1 })
+answers_carried c store plan a b e e' (Ok text) (inr lacks) (inl newest) =
+    absurd (omega (arith, newest.0, ap (λ (g : Frame). g.newest) lacks.refuses.frame))
+answers_carried c store plan a b e e' (Ok text) carries (inr refused) =
+    inr (record { reason = refusal.NoMemory; refuses = refused.0; says = λ o orders by told. refused.1 })

@@ -172,7 +172,9 @@ impl<'a, 'c, M: Room, L: Link, N: Known, B: Bell, G: Gate> Listener<'a, 'c, M, L
         ensures others { self.new ≡ record self.old { table = self.new.table } }
     {
         show_whole_histories();
+        self.table.show();
         let totals = self.table.totals(rt);
+        self.table.show();
         front.answer(status_answer(&totals).as_slice());
         write_all(out, open_line(&totals).as_slice())
     }
