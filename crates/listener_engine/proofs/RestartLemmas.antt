@@ -5,6 +5,7 @@ use Rattle.std.specs.List.{list_any}
 use Rattle.mpm_base.specs.CommandWord.{command_word}
 use Rattle.mpm_base.specs.Count.{NeverFalls}
 use Rattle.mpm_base.specs.Front.{Commands, FrontSeen}
+use Rattle.mpm_base.specs.Moment.{greatest_moment}
 use Rattle.mpm_base.specs.Store.{Renews, StoreCounts, StoreSeen, StoreTold, after_renew}
 use Rattle.mpm_base.specs.declared.script_line.CommandWord.TheVariants as word
 use Rattle.mpm_config.specs.Config.{Configuration}
@@ -358,3 +359,26 @@ answers_carried c store plan a b e e' (Ok text) (inr lacks) (inl newest) =
     absurd (omega (arith, newest.0, ap (λ (g : Frame). g.newest) lacks.refuses.frame))
 answers_carried c store plan a b e e' (Ok text) carries (inr refused) =
     inr (record { reason = refusal.NoMemory; refuses = refused.0; says = λ o orders by told. refused.1 })
+
+-- ## What a graceful stop is
+
+-- one that was begun until a moment that is as the configuration says
+pub ends_until : (until : Option ℕ) (ms : ℕ) (a b : View) → until ≡ ending_moment (state_of a).moment ms → DoesOrder (commanded.GracefulStop until) a b
+    → DoesOrder (commanded.GracefulStop (ending_moment (state_of a).moment ms)) a b
+ends_until until ms a b same does = subst (λ (x : Option ℕ). DoesOrder (commanded.GracefulStop x) a b) same does
+
+pub does_ending : (until : Option ℕ) (a b : View) → DoesOrder (commanded.GracefulStop until) a b → DoesOrders a b
+does_ending until a b does = record { orders = commanded.GracefulStop until ∷ []; none = tt; did = does.did }
+
+pub makes_ending : (until : Option ℕ) (a b : View) → a.who.number ≡ 0 → DoesOrder (commanded.GracefulStop until) a b
+    → MakesOrders (word.GracefulStop ∷ []) (book_of a) (book_of b)
+makes_ending until a b number does = brought_as _ None a b _ number does.did refl
+
+-- it stands in its time then: it is out of it only where moments end
+pub in_time_ending : (ms : ℕ) (a b : View) → (state_of a).moment ≤ greatest_moment → DoesOrder (commanded.GracefulStop (ending_moment (state_of a).moment ms)) a b
+    → StandsInTime (state_of a) → StandsInTime (state_of b)
+in_time_ending ms a b within does in_time =
+    let s = next (state_of a) (event.Command (commanded.GracefulStop (ending_moment (state_of a).moment ms))) in
+    let there : StandsInTime s = in_time-ending ms (state_of a) within in_time.staffed in
+    still-in_time s (state_of b) (ap (λ (g : Frame). g.moment) does.frame) (ap (λ (g : Frame). g.going) does.frame)
+    (staffed_by a b (commanded.GracefulStop (ending_moment (state_of a).moment ms)) does.frame in_time.staffed) there
