@@ -1,5 +1,5 @@
 -- What comes of the connections that have arrived, one behind the other.
-use Rattle.std.proofs.Common.{◌≡◌, ◌⊎◌, inl, inr, ℕ, ◌+◌, ◌-◌, List, [], ◌∷◌, ◌++◌, None, Option, Some, option_map, replicate, refl, sym, ap, subst, ◌∙◌, append-nil, append_assoc, arith}
+use Rattle.std.proofs.Common.{◌≡◌, ◌⊎◌, inl, inr, ℕ, ◌+◌, ◌-◌, List, [], ◌∷◌, ◌++◌, None, Option, Some, option_map, replicate, is_none, true, refl, sym, ap, subst, ◌∙◌, append-nil, append_assoc, arith}
 use Rattle.std.proofs.lemmas.Grind.{flat_map-append}
 use Rattle.std.proofs.lemmas.List.{replicate-append-replicate}
 use Rattle.std.specs.List.{flat_map}
@@ -20,7 +20,7 @@ use Rattle.worker_group.specs.Service.{RefusalLasts}
 use Rattle.listener_parts.specs.Did.{Did, LeavesAlone}
 use Rattle.listener_parts.specs.Taking.{TakesLink}
 use Rattle.listener_parts.specs.Times.{KeepsTime}
-use Rattle.listener_parts.proofs.DidLemmas.{did_as, did_more}
+use Rattle.listener_parts.proofs.DidLemmas.{did_as, did_more, did_nothing}
 use Rattle.listener_parts.proofs.PartTimeLemmas.{IsMade}
 use Rattle.listener_round.specs.CountedInside.{LacksLink}
 use Rattle.listener_round.specs.FrontInside.{Follows, HandsOut, IsInStep, OnlyTakes}
@@ -152,9 +152,9 @@ module _ {L : Type 0} (link_seen : L → LinkSeen) (f f' : FrontSeen) (answer : 
   only = takes-accept answer f.told f'.told accepts.told_is
 
   -- none was handed out
-  pub in_none : (answer ≡ arrival.None) ⊎ (answer ≡ arrival.Failed) → (v : View) → v.row ≡ None → Did [] None v v → TakesIn f f' v v
-  in_none none v row did = record {
-    takes = record { takes = []; did = did };
+  pub in_none : (answer ≡ arrival.None) ⊎ (answer ≡ arrival.Failed) → (v : View) → v.row ≡ None → TakesIn f f' v v
+  in_none none v row = record {
+    takes = record { takes = []; did = did_nothing v None row };
     from =
         record {
           timely = λ before. before;
@@ -255,3 +255,26 @@ until_lacking why f a nothing refused lasts links = record {
   links = links;
   err = lasts;
 }
+
+-- nothing was done
+pub in_same : (f : FrontSeen) (v : View) → v.row ≡ None → TakesIn f f v v
+in_same f v row = record {
+  takes = record { takes = []; did = did_nothing v None row };
+  from =
+      record {
+        timely = λ before. before;
+        rest = record { stands = record { moment = refl; accepted = refl; newest = refl; shape = refl; going = refl }; children = refl };
+        orders = refl;
+        wakes = refl;
+        heard = keeps-same f;
+        follows = follows-same f;
+        front = takes-same f.told;
+        watched = λ all. all;
+      };
+  handed = record { handed = 0; counted = counts-same f.told; made = refl };
+  counts = λ first so. so;
+}
+
+pub none_is : {X : Type 0} (o : Option X) → is_none o ≡ true → o ≡ None
+none_is None is = refl
+none_is (Some x) is = absurd (cc is)

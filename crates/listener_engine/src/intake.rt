@@ -66,6 +66,7 @@ impl<'a, 'c, M: Room, L: Link, N: Known, B: Bell, G: Gate> Listener<'a, 'c, M, L
         ensures others { self.new ≡ record self.old { table = self.new.table } }
     {
         show_whole_histories();
+        self.table.show();
         for _ in rt.forever() {
             if let Some(look) = self.take_next(rt, front)? {
                 return Ok(look);

@@ -126,15 +126,14 @@ asked_timely rests others law old (k ∷ children) new number made (between, one
     start_frame rests others law one.found e one.before one.behind number' one.turn in
     let behind : frame_of (state_of between) ≡ frame_of (state_of one.behind) = nothing_frame law one.behind between number'' to_between one.rest in
     let here : frame_of (state_of between) ≡ frame_next (frame_of (state_of old)) e =
-    behind ∙ started ∙ ap (λ (g : Frame). frame_next g e) before in
-    (
+    behind ∙ started ∙ ap (λ (g : Frame). frame_next g e) before in (
       record {
-          asked = ap startable_at (sym (found ∙ before)) ∙ one.asked;
-          within = λ over. refl;
-          before = λ none. absurd (cc (none));
-        },
+        asked = ap startable_at (sym (found ∙ before)) ∙ one.asked;
+        within = λ over. refl;
+        before = λ none. absurd (cc (none));
+      },
       subst (λ (g : Frame). AreTimelyFrom g (map event.StartChild children)) here
-      (asked_timely rests others law between children new (last.number ∙ number'') made more),
+          (asked_timely rests others law between children new (last.number ∙ number'') made more),
     )
   where
     found_frame : (s u : State) → LeavesAlone s u → frame_of u ≡ frame_of s
