@@ -25,7 +25,7 @@ returns-then-is_none-clause-taken g c =
 pub returns-in_default-clause-breaks : goal.returns-in_default-clause-breaks
 returns-in_default-clause-breaks g c =
     until_more fault.NoMemory (g.F.Front.seen c.args.front.now) (g.F.Front.seen c.args.front.now) (g.F.Front.seen c.args.front.now) c.args.self.now.table c.look-look.new.self c.look-look.new.self (in_look c.show_whole_histories.ensures.orders c.show_whole_histories.ensures.taken (g.F.Front.seen c.args.front.now) c.args.self.now.table c.look-look.new.self (record { number = c.show.ensures.number; made = c.show.ensures.made }) (record { number = c.show-2.ensures.number; made = c.show-2.ensures.made }) c.look-look.ensures.did c.look-look.ensures.rest c.look-look.ensures.timely)
-    (until_lacking fault.NoMemory (g.F.Front.seen c.args.front.now) c.look-look.new.self (did_nothing c.look-look.new.self None c.look-look.ensures.did.row) (ap is_halted c.look-look.ensures.rest.stands.going ∙ c.requires.up) tt (hands-step (g.F.Front.seen c.args.front.now).told (state_of c.look-look.new.self) (step-kept (g.F.Front.seen c.args.front.now).told (state_of c.args.self.now.table) (state_of c.look-look.new.self) c.look-look.ensures.rest.stands.accepted c.look-look.ensures.rest.stands.going c.requires.step)))
+    (until_lacking fault.NoMemory (g.F.Front.seen c.args.front.now) c.look-look.new.self (did_nothing c.look-look.new.self None c.look-look.ensures.did.row) (record { going = ap is_halted c.look-look.ensures.rest.stands.going ∙ c.requires.up }) tt (hands-step (g.F.Front.seen c.args.front.now).told (state_of c.look-look.new.self) (step-kept (g.F.Front.seen c.args.front.now).told (state_of c.args.self.now.table) (state_of c.look-look.new.self) c.look-look.ensures.rest.stands.accepted c.look-look.ensures.rest.stands.going c.requires.step)))
 
 pub take-requires-clause-up : goal.take-requires-clause-up
 take-requires-clause-up g c =
