@@ -1,4 +1,4 @@
-use Rattle.std.proofs.Common.{◌∙◌, length, arith}
+use Rattle.std.proofs.Common.{length, arith, rules}
 use Rattle.std.proofs.lemmas.Option.{slice_get-get_or}
 use Rattle.crossbeam_queue.specs.Passes.{IsPassOf}
 use Rattle.listener_hands.proofs.LineLemmas.{left_first, left_next}
@@ -8,8 +8,8 @@ use Rattle.listener_hands.proofs.lines.make_lines.Goals as goal
 pub loop-queue-init : goal.loop-queue-init
 loop-queue-init g c = record {
   left = omega (arith, c.reverse.ensures.len, c.requires.seats);
-  lines = omega (arith, c.in-Ok.ensures.len);
-  room = omega (arith, c.in-Ok.ensures.exact);
+  lines = search rules;
+  room = search rules;
   own =
       left_first (λ queue seat. IsPassOf queue.ring seat) c.args.queues.now c.args.seats.items c.reverse.new.self.items c.reverse.ensures.items
       (omega (arith, c.requires.seats, c.args.seats.ok.0)) c.requires.own;
