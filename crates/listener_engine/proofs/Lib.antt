@@ -2,6 +2,7 @@ pub mod ArrivalLemmas
 pub mod BroughtLemmas
 pub mod CommandLemmas
 pub mod HearsLemmas
+pub mod HeedLemmas
 pub mod IntakeLemmas
 pub mod KeptLemmas
 pub mod OrderLemmas
