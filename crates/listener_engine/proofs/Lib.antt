@@ -1,3 +1,4 @@
+pub mod AnswerLemmas
 pub mod ArrivalLemmas
 pub mod BroughtLemmas
 pub mod CommandLemmas
@@ -5,6 +6,7 @@ pub mod HearsLemmas
 pub mod HeedLemmas
 pub mod IntakeLemmas
 pub mod KeptLemmas
+pub mod LineHearsLemmas
 pub mod OrderLemmas
 pub mod RestartLemmas
 pub mod SilentLemmas
