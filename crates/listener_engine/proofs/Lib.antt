@@ -9,6 +9,7 @@ pub mod KeptLemmas
 pub mod LineHearsLemmas
 pub mod OrderLemmas
 pub mod RestartLemmas
+pub mod RoundLemmas
 pub mod SilentLemmas
 pub mod StandingLemmas
 pub mod TakenLemmas
