@@ -39,8 +39,9 @@ use Rattle.listener_engine.specs.Lines.{DoesOrders}
 use Rattle.listener_engine.specs.Standing.{EndingStands, Standing, StandsBehind, StandsOn, standing}
 use Rattle.listener_engine.specs.Watching.{WatchesOn}
 use Rattle.listener_engine.proofs.BroughtLemmas.{brought_as}
-use Rattle.listener_engine.proofs.CommandLemmas.{OwnsSame, stands_front, stands_line}
-use Rattle.listener_engine.proofs.KeptLemmas.{nobody_did}
+use Rattle.listener_engine.proofs.CommandLemmas.{stands_front, stands_line}
+use Rattle.listener_engine.proofs.KeptLemmas.{nobody_did, own_behind}
+use Rattle.listener_engine.proofs.StandingLemmas.{stands_silent}
 
 -- ## Commands behind commands
 
@@ -238,6 +239,30 @@ heeds_more cfg ms ms' ms'' s s' s'' f f' f'' a b c first second = record {
   goes = goes_more f f' f'' a b c first.goes second.goes;
 }
 
+-- what others did meanwhile changes nothing of it
+pub heeds_seen : OwnEventsTellWhatWasTaken → (c : NamedConfig) (ms ms' : ℕ) (s s' : StoreSeen) (f f' : FrontSeen) (a b d : View) → IsMade b → IsMade d
+    → Heeds c ms ms' s s' f f' a b → Did [] None b d → LeavesAlone (state_of b) (state_of d) → KeepsTime b d → Heeds c ms ms' s s' f f' a d
+heeds_seen law c ms ms' s s' f f' a b d is is' heeds did rest timely =
+    let does : DoesOrders b d = record { orders = []; none = tt; did = did } in
+    heeds_more c ms ms' ms' s s' s' f f' f' a b d heeds
+    (record {
+      does = does;
+      words = [];
+      reads = on-none f'.told;
+      makes = brought_as [] None b d [] is.number did refl;
+      timely = timely;
+      in_time =
+          still-in_time (state_of b) (state_of d) rest.stands.moment rest.stands.going
+          (ap (list_any (λ (x : Child). not (is_empty x.phase))) rest.children ∙ heeds.in_time.staffed) heeds.in_time;
+      stands =
+          λ o n opened stood.
+          stands_silent o n [] (standing ms' s' f' b) (standing ms' s' f' d) (own_behind [] None b d is.number did) tt
+          (record { stop_ms = refl; store = refl; commands = refl; origin = did.origin; serving = ap is_serving rest.stands.going }) stood;
+      moment = rest.stands.moment;
+      accepted = rest.stands.accepted;
+      goes = goes_ordered law f' b d is is' does rest.stands.accepted;
+    })
+
 -- ## A line behind those that were heeded
 
 -- one asked for nothing
@@ -295,31 +320,4 @@ module _ (law : OwnEventsTellWhatWasTaken) (c : NamedConfig) (a b : View) (is : 
     goes =
         goes_more f f' f'' a b b (goes_more f f' f' a a b (goes_command f f' a (Some line) gave) (goes_ordered law f' a b is is' does accepted))
         (goes_hushed f' f'' b (may-hush (is_serving (state_of a).going) f' f'' hushed));
-  }
-
-  -- one asked for the state, which a turn told
-  pub heeds_told : (ms : ℕ) (s : StoreSeen) (f f' f'' : FrontSeen) (line : List ℕ) → IsIdle line → Commands f f' (Some line) → GoesOn f' f'' b b
-      → f''.told ≡ f'.told → f''.counts.commands ≡ f'.counts.commands → Did [] None a b → LeavesAlone (state_of a) (state_of b) → KeepsTime a b
-      → StandsInTime (state_of a) → OwnsSame a b → Heeds c ms ms s s f f'' a b
-  heeds_told ms s f f' f'' line idle gave answered told counted did rest timely in_time same = record {
-    does = record { orders = []; none = tt; did = did };
-    words = [];
-    reads =
-        subst (λ (x : Option FrontTold). ReadsOn [] f.told x) (sym told)
-        (on-line [] line f.told f'.told gave.told_is gave.gives (ends-not line idle) (λ ending. asks-nothing ending line idle));
-    makes = brought_as [] None a b [] is.number did refl;
-    timely = timely;
-    in_time =
-        still-in_time (state_of a) (state_of b) rest.stands.moment rest.stands.going
-        (ap (list_any (λ (x : Child). not (is_empty x.phase))) rest.children ∙ in_time.staffed) in_time;
-    stands =
-        λ o n opened stood. stands_front o n 0 0 ms s f' f'' b (omega (arith, counted))
-        (stands_line o n 0 0 ms s f f' a b (omega arith) same stood gave.commands);
-    moment = rest.stands.moment;
-    accepted = rest.stands.accepted;
-    goes =
-        goes_more f f' f'' a b b
-        (goes_more f f' f' a a b (goes_command f f' a (Some line) gave)
-        (goes_ordered law f' a b is is' (record { orders = []; none = tt; did = did }) rest.stands.accepted))
-        answered;
   }

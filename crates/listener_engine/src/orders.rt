@@ -12,6 +12,8 @@ ghost use Rattle.board_turns.specs.Books.{book_of, state_of};
 ghost use Rattle.mpm_base.specs.Count.{NeverFalls, Rises};
 ghost use Rattle.mpm_base.specs.Front.{Answers, TellsOn};
 ghost use Rattle.mpm_base.specs.declared.script_line.CommandWord.TheVariants as word;
+ghost use Rattle.conn_machine.specs.Folds.{opening_record};
+ghost use Rattle.conn_machine.specs.Made.{AreMade};
 ghost use Rattle.conn_machine.specs.Shown.{totals_of};
 ghost use Rattle.conn_machine.specs.States.{is_serving};
 ghost use Rattle.conn_machine.specs.Table.{greatest_generation};
@@ -131,12 +133,12 @@ impl<'a, 'c, M: Room, L: Link, N: Known, B: Bell, G: Gate> Listener<'a, 'c, M, L
         ensures err { IfErr result (λ fault. RefusalLasts fault (book_of self.new.table)) }
     {
         show_whole_histories();
+        self.table.show();
         let mut answer = None;
         for _ in rt.forever() {
             let Some(line) = next_line(front, answer) else {
                 return Ok(false);
             };
-            self.table.show();
             match read_command(line.as_str()) {
                 Ok(Command::Stop) => return Ok(true),
                 Ok(Command::Graceful) => answer = Some(self.restart(rt, store)?),
@@ -169,12 +171,14 @@ impl<'a, 'c, M: Room, L: Link, N: Known, B: Bell, G: Gate> Listener<'a, 'c, M, L
         ensures writes { WritesAll (K.seen out.old) (K.seen out.new)
             (open_line (totals_of (state_of self.new.table))) result }
         ensures faults { NeverFalls (K.seen out.old).faults (K.seen out.new).faults }
+        ensures number { self.new.table.who.number ≡ 0 }
+        ensures made { AreMade self.new.table.origin.state
+            (opening_record self.new.table.origin.passes) self.new.table.seen }
         ensures others { self.new ≡ record self.old { table = self.new.table } }
     {
         show_whole_histories();
         self.table.show();
         let totals = self.table.totals(rt);
-        self.table.show();
         front.answer(status_answer(&totals).as_slice());
         write_all(out, open_line(&totals).as_slice())
     }
@@ -214,6 +218,9 @@ impl<'a, 'c, M: Room, L: Link, N: Known, B: Bell, G: Gate> Listener<'a, 'c, M, L
         ensures accepted { (state_of self.new.table).accepted ≡ (state_of self.old.table).accepted }
         ensures err { OnErr result (DoesNoOrder self.old.table self.new.table) }
         ensures kept_edition { OnErr result (self.new.edition ≡ self.old.edition) }
+        ensures number { self.new.table.who.number ≡ 0 }
+        ensures made { AreMade self.new.table.origin.state
+            (opening_record self.new.table.origin.passes) self.new.table.seen }
         ensures others { self.new ≡ record self.old
             { table = self.new.table; edition = self.new.edition } }
         ensures why { IfErr result (λ fault. IsRefusedFor fault (book_of self.new.table)) }
@@ -259,6 +266,9 @@ impl<'a, 'c, M: Room, L: Link, N: Known, B: Bell, G: Gate> Listener<'a, 'c, M, L
         ensures timely { KeepsTime self.old.table self.new.table }
         ensures err { OnErr result (DoesNoOrder self.old.table self.new.table) }
         ensures kept_edition { OnErr result (self.new.edition ≡ self.old.edition) }
+        ensures number { self.new.table.who.number ≡ 0 }
+        ensures made { AreMade self.new.table.origin.state
+            (opening_record self.new.table.origin.passes) self.new.table.seen }
         ensures others { self.new ≡ record self.old
             { table = self.new.table; edition = self.new.edition } }
         ensures why { IfErr result (λ fault. IsRefusedFor fault (book_of self.new.table)) }
@@ -294,6 +304,9 @@ impl<'a, 'c, M: Room, L: Link, N: Known, B: Bell, G: Gate> Listener<'a, 'c, M, L
             → KeepsTime self.old.table self.new.table }
         ensures err { OnErr result (DoesNoOrder self.old.table self.new.table) }
         ensures kept_edition { OnErr result (self.new.edition ≡ self.old.edition) }
+        ensures number { self.new.table.who.number ≡ 0 }
+        ensures made { AreMade self.new.table.origin.state
+            (opening_record self.new.table.origin.passes) self.new.table.seen }
         ensures others { self.new ≡ record self.old { table = self.new.table } }
         ensures why { IfErr result (λ fault. IsRefusedFor fault (book_of self.new.table)) }
     {
@@ -336,6 +349,9 @@ impl<'a, 'c, M: Room, L: Link, N: Known, B: Bell, G: Gate> Listener<'a, 'c, M, L
         ensures kept { OnErr result (F.seen front.new ≡ F.seen front.old) }
         ensures err { OnErr result (DoesNoOrder self.old.table self.new.table) }
         ensures kept_edition { OnErr result (self.new.edition ≡ self.old.edition) }
+        ensures number { self.new.table.who.number ≡ 0 }
+        ensures made { AreMade self.new.table.origin.state
+            (opening_record self.new.table.origin.passes) self.new.table.seen }
         ensures others { self.new ≡ record self.old { table = self.new.table } }
         ensures why { IfErr result (λ fault. IsRefusedFor fault (book_of self.new.table)) }
     {

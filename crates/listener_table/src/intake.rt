@@ -4,6 +4,8 @@ ghost use Rattle.board_book.specs.AtRest.{IsAtRest};
 ghost use Rattle.board_book.specs.Faults.{IsRefusedFor};
 ghost use Rattle.board_book.specs.Finds.{next_deadline_of};
 ghost use Rattle.board_turns.specs.Books.{book_of, state_of};
+ghost use Rattle.conn_machine.specs.Folds.{opening_record};
+ghost use Rattle.conn_machine.specs.Made.{AreMade};
 ghost use Rattle.conn_machine.specs.Shown.{totals_of};
 ghost use Rattle.conn_machine.specs.States.{is_serving};
 ghost use Rattle.conn_machine.specs.Table.{greatest_generation, is_not_past};
@@ -59,6 +61,9 @@ impl<'a, M: Room, L: Link, N: Known, B: Bell, G: Gate> Table<'a, M, L, N, B, G> 
         ensures err { IfErr result (λ _. DoesNoOrder self.old self.new) }
         ensures why { IfErr result (λ fault. IsRefusedFor fault (book_of self.new)) }
         ensures timely { KeepsTime self.old self.new }
+        ensures number { self.new.who.number ≡ 0 }
+        ensures made { AreMade self.new.origin.state
+            (opening_record self.new.origin.passes) self.new.seen }
     {
         table_rests_on_these();
         let newest = self.newest;
@@ -80,6 +85,9 @@ impl<'a, M: Room, L: Link, N: Known, B: Bell, G: Gate> Table<'a, M, L, N, B, G> 
         ensures why { IfErr result (λ fault. IsRefusedFor fault (book_of self.new)) }
         ensures timely { is_ended_at (frame_of (state_of self.old)) ≡ false
             → KeepsTime self.old self.new }
+        ensures number { self.new.who.number ≡ 0 }
+        ensures made { AreMade self.new.origin.state
+            (opening_record self.new.origin.passes) self.new.seen }
     {
         table_rests_on_these();
         order(
@@ -99,6 +107,9 @@ impl<'a, M: Room, L: Link, N: Known, B: Bell, G: Gate> Table<'a, M, L, N, B, G> 
         ensures err { IfErr result (λ _. DoesNoOrder self.old self.new) }
         ensures why { IfErr result (λ fault. IsRefusedFor fault (book_of self.new)) }
         ensures timely { KeepsTime self.old self.new }
+        ensures number { self.new.who.number ≡ 0 }
+        ensures made { AreMade self.new.origin.state
+            (opening_record self.new.origin.passes) self.new.seen }
     {
         table_rests_on_these();
         let going = self.going;
@@ -118,6 +129,9 @@ impl<'a, M: Room, L: Link, N: Known, B: Bell, G: Gate> Table<'a, M, L, N, B, G> 
         ensures rest { LeavesAlone (state_of self.old) (state_of self.new) }
         ensures totals { result ≡ totals_of (state_of self.new) }
         ensures timely { KeepsTime self.old self.new }
+        ensures number { self.new.who.number ≡ 0 }
+        ensures made { AreMade self.new.origin.state
+            (opening_record self.new.origin.passes) self.new.seen }
     {
         table_rests_on_these();
         totals(rt, self.hands.shared, &mut self.pass)

@@ -7,7 +7,7 @@ use Rattle.listener_engine.proofs.orders.Listener.tell_state.Goals as goal
 pub returns-clause-orders : goal.returns-clause-orders
 returns-clause-orders g c =
     orders_kept c.show_whole_histories.ensures.orders [] _ _ _ (record { number = c.show.ensures.number; made = c.show.ensures.made })
-    (record { number = c.show-2.ensures.number; made = c.show-2.ensures.made }) tt c.totals-totals.ensures.did
+    (record { number = c.totals-totals.ensures.number; made = c.totals-totals.ensures.made }) tt c.totals-totals.ensures.did
 
 pub returns-clause-answers : goal.returns-clause-answers
 returns-clause-answers g c =

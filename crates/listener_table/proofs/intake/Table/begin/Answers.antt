@@ -38,3 +38,9 @@ order-begun-requires-clause-allowed g c _ =
 pub newest_behind-self-inside-requires : goal.newest_behind-self-inside-requires
 newest_behind-self-inside-requires g c =
     subst (λ n. n < greatest_generation) (ap (λ (v : View). (state_of v).newest) (sym c.self.view_is) ∙ sym c.self.invariant.1.newest_is) c.requires.newest
+
+pub returns-clause-number : goal.returns-clause-number
+returns-clause-number g c = c.order-begun.ensures.listener.number
+
+pub returns-clause-made : goal.returns-clause-made
+returns-clause-made g c = c.order-begun.ensures.listener.made

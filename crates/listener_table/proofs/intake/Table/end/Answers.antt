@@ -31,3 +31,9 @@ order-ends-requires-clause-allowed g c _ =
     let serving = subst (λ (v : View). is_serving (state_of v).going ≡ true) (sym c.self.view_is) c.requires.serving in
     let past = subst (λ (v : View). is_not_past (state_of v).moment c.args.until ≡ true) (sym c.self.view_is) c.requires.until in
     may_end (state_of c.self.inside.pass.seat.me.0) c.args.until serving past
+
+pub returns-clause-number : goal.returns-clause-number
+returns-clause-number g c = c.order-ends.ensures.listener.number
+
+pub returns-clause-made : goal.returns-clause-made
+returns-clause-made g c = c.order-ends.ensures.listener.made

@@ -23,3 +23,9 @@ returns-clause-timely g c =
 
 pub order-requires-clause-allowed : goal.order-requires-clause-allowed
 order-requires-clause-allowed g c going = may_refuse _ c.args.reason going
+
+pub returns-clause-number : goal.returns-clause-number
+returns-clause-number g c = c.order.ensures.listener.number
+
+pub returns-clause-made : goal.returns-clause-made
+returns-clause-made g c = c.order.ensures.listener.made
