@@ -9,6 +9,7 @@ pub mod IntakeLemmas
 pub mod KeptLemmas
 pub mod LineHearsLemmas
 pub mod OrderLemmas
+pub mod QuietLemmas
 pub mod RestartLemmas
 pub mod RoundLemmas
 pub mod SilentLemmas

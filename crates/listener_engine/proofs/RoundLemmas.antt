@@ -17,8 +17,10 @@ use Rattle.listener_parts.specs.Letting.{AreLetGo, Departure, Departures, GivesU
 use Rattle.listener_parts.specs.Rounds.{PassesTime, RetiresSome, Signals, SignalsSome, StartsEach, time_events}
 use Rattle.listener_parts.proofs.DidLemmas.{did_as, did_more, did_no_more, did_nothing}
 use Rattle.listener_round.specs.RoundInside.{NoneHalts}
+use Rattle.listener_round.specs.Pace.{Brought, brought, signalled, ticked}
 use Rattle.listener_engine.specs.Lines.{DoesOrders, DoesUntil}
 use Rattle.listener_engine.specs.Rounds.{AreWays, BreaksOff, EndsRound, EndsWithLines, EndsWithRetiring, FailsTaking, GoesRound, Intake, Round, TakesSome, TakesSomeUntil, intake_events, round_events}
+use Rattle.listener_engine.proofs.BroughtLemmas.{brings_both, brings_first, brings_readies, brings_time, brought_as, unbrought_departures}
 
 -- ## The front of a round
 
@@ -57,6 +59,22 @@ module _ (sizes : HistoriesKeepSizes) (to : ℕ) (slots : List ℕ) (v0 v1 v2 v3
         starts = [];
         takes = [];
       }
+
+  -- what of what comes from outside was made before the command lines
+  pub front_brings : v0.who.number ≡ 0 → brought v3.seen
+      ≡ brought v0.seen
+      ++ (map ticked (ticks_to (state_of v0).moment to) ++ map signalled (known_slots (length v0.origin.state.rows) slots))
+  front_brings number =
+      let ticks = ticks_to (state_of v0).moment to in
+      let known = known_slots (length (state_of v2).rows) slots in
+      let ready = known_slots (length v0.origin.state.rows) slots in
+      let time = time_events passes.early ticks passes.late in
+      brought_as ((time ++ map event.Ready known) ++ departures_events lets.departures) None v0 v3 (map ticked ticks ++ map signalled ready) number
+      (did_more (time ++ map event.Ready known) (departures_events lets.departures) None None v0 v2 v3
+      (did_more time (map event.Ready known) None None v0 v1 v2 passes.did signals) lets.did)
+      (brings_first (time ++ map event.Ready known) (departures_events lets.departures) (map ticked ticks ++ map signalled ready)
+      (brings_both time (map event.Ready known) (map ticked ticks) (map signalled ready) (brings_time passes.early ticks passes.late)
+      (brings_readies known ∙ ap (λ (ks : List ℕ). map signalled ks) slots_are)) (unbrought_departures lets.departures))
 
   did_lines : Did (time_events passes.early (ticks_to (state_of v0).moment to) passes.late ++ map event.Ready (known_slots (length (state_of v2).rows) slots) ++ departures_events lets.departures ++ map event.Command does.orders) None v0 v4
   did_lines =

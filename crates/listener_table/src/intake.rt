@@ -143,6 +143,9 @@ impl<'a, M: Room, L: Link, N: Known, B: Bell, G: Gate> Table<'a, M, L, N, B, G> 
         ensures rest { LeavesAlone (state_of self.old) (state_of self.new) }
         ensures seen { IsSeenIn (state_of self.new) result }
         ensures timely { KeepsTime self.old self.new }
+        ensures number { self.new.who.number ≡ 0 }
+        ensures made { AreMade self.new.origin.state
+            (opening_record self.new.origin.passes) self.new.seen }
     {
         table_rests_on_these();
         take_look(rt, self.hands.shared, &mut self.pass)
@@ -172,6 +175,9 @@ impl<'a, M: Room, L: Link, N: Known, B: Bell, G: Gate> Table<'a, M, L, N, B, G> 
         ensures rest { LeavesAlone (record (state_of self.old)
             { accepted = (state_of self.new).accepted }) (state_of self.new) }
         ensures timely { KeepsTime self.old self.new }
+        ensures number { self.new.who.number ≡ 0 }
+        ensures made { AreMade self.new.origin.state
+            (opening_record self.new.origin.passes) self.new.seen }
     {
         table_rests_on_these();
         take(

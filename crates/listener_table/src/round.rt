@@ -5,7 +5,9 @@ ghost use Rattle.board_book.specs.Finds.{startable};
 ghost use Rattle.board_book.specs.Moments.{moment_for};
 ghost use Rattle.board_turns.specs.Books.{book_of, state_of};
 ghost use Rattle.board_turns.specs.Carries.{Lasts};
+ghost use Rattle.conn_machine.specs.Folds.{opening_record};
 ghost use Rattle.conn_machine.specs.Frames.{frame_of};
+ghost use Rattle.conn_machine.specs.Made.{AreMade};
 ghost use Rattle.conn_machine.specs.States.{is_serving, is_staffed};
 ghost use Rattle.listener_parts.specs.Did.{Did, LeavesAlone, StandsAs};
 ghost use Rattle.listener_parts.specs.Letting.{LetsGo, LetsGoOfConns, LetsGoUntil, IsLateWay};
@@ -49,6 +51,9 @@ impl<'a, M: Room, L: Link, N: Known, B: Bell, G: Gate> Table<'a, M, L, N, B, G> 
         ensures stays { OnErr result (LeavesAlone (state_of self.old) (state_of self.new)) }
         ensures timely { MayPassTo (moment_for moment) (frame_of (state_of self.old))
             → KeepsTime self.old self.new }
+        ensures number { self.new.who.number ≡ 0 }
+        ensures made { AreMade self.new.origin.state
+            (opening_record self.new.origin.passes) self.new.seen }
     {
         table_rests_on_these();
         let present = self.moment;
@@ -65,6 +70,9 @@ impl<'a, M: Room, L: Link, N: Known, B: Bell, G: Gate> Table<'a, M, L, N, B, G> 
         ensures rest { LeavesAlone (state_of self.old) (state_of self.new) }
         ensures timely { MaySignal (frame_of (state_of self.old))
             → KeepsTime self.old self.new }
+        ensures number { self.new.who.number ≡ 0 }
+        ensures made { AreMade self.new.origin.state
+            (opening_record self.new.origin.passes) self.new.seen }
     {
         table_rests_on_these();
         signal(rt, self.hands.shared, &mut self.pass, slots)
@@ -81,6 +89,9 @@ impl<'a, M: Room, L: Link, N: Known, B: Bell, G: Gate> Table<'a, M, L, N, B, G> 
         ensures rest { LeavesAlone (state_of self.old) (state_of self.new) }
         ensures lasts { IfErr result (λ fault. Lasts fault (state_of self.new)) }
         ensures timely { KeepsTime self.old self.new }
+        ensures number { self.new.who.number ≡ 0 }
+        ensures made { AreMade self.new.origin.state
+            (opening_record self.new.origin.passes) self.new.seen }
     {
         table_rests_on_these();
         let_go_of_conns(rt, self.hands.shared, &mut self.pass, all_signalled)
@@ -91,6 +102,9 @@ impl<'a, M: Room, L: Link, N: Known, B: Bell, G: Gate> Table<'a, M, L, N, B, G> 
         ensures retires { RetiresSome self.old self.new }
         ensures rest { StandsAs (state_of self.old) (state_of self.new) }
         ensures timely { KeepsTime self.old self.new }
+        ensures number { self.new.who.number ≡ 0 }
+        ensures made { AreMade self.new.origin.state
+            (opening_record self.new.origin.passes) self.new.seen }
     {
         table_rests_on_these();
         retire_all(
@@ -113,6 +127,9 @@ impl<'a, M: Room, L: Link, N: Known, B: Bell, G: Gate> Table<'a, M, L, N, B, G> 
             → is_serving (state_of self.new).going ≡ false
             → is_staffed (state_of self.new) ≡ true }
         ensures timely { KeepsTime self.old self.new }
+        ensures number { self.new.who.number ≡ 0 }
+        ensures made { AreMade self.new.origin.state
+            (opening_record self.new.origin.passes) self.new.seen }
     {
         table_rests_on_these();
         let look = take_look(rt, self.hands.shared, &mut self.pass);
@@ -138,6 +155,9 @@ impl<'a, M: Room, L: Link, N: Known, B: Bell, G: Gate> Table<'a, M, L, N, B, G> 
         ensures all { OnOk result (startable (state_of self.new) ≡ None) }
         ensures why { IfErr result (λ fault. IsRefusedFor fault (book_of self.new)) }
         ensures timely { KeepsTime self.old self.new }
+        ensures number { self.new.who.number ≡ 0 }
+        ensures made { AreMade self.new.origin.state
+            (opening_record self.new.origin.passes) self.new.seen }
     {
         table_rests_on_these();
         start_further(rt, self.hands.shared, &mut self.pass, &mut self.credits)

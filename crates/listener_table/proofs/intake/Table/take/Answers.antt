@@ -35,3 +35,9 @@ take-requires-clause-arrival g c =
 pub take-requires-clause-serves : goal.take-requires-clause-serves
 take-requires-clause-serves g c =
     subst (λ (v : View). ServesNewest g.N.Known.known v c.args.limits c.args.site.value) (sym c.self.view_is) c.requires.serves
+
+pub returns-clause-number : goal.returns-clause-number
+returns-clause-number g c = c.take.ensures.listener.number
+
+pub returns-clause-made : goal.returns-clause-made
+returns-clause-made g c = c.take.ensures.listener.made

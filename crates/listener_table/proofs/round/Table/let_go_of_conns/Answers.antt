@@ -24,3 +24,9 @@ returns-clause-rest g c =
 pub returns-clause-timely : goal.returns-clause-timely
 returns-clause-timely g c =
     rw (← c.self.view_is) (conns_keep c.table_rests_on_these.ensures.frame _ _ c.let_go_of_conns.result (is_made c.self.invariant.1) c.let_go_of_conns.ensures.gone c.let_go_of_conns.ensures.until)
+
+pub returns-clause-number : goal.returns-clause-number
+returns-clause-number g c = c.let_go_of_conns.ensures.listener.number
+
+pub returns-clause-made : goal.returns-clause-made
+returns-clause-made g c = c.let_go_of_conns.ensures.listener.made

@@ -36,3 +36,9 @@ returns-clause-stays g c =
 pub returns-clause-timely : goal.returns-clause-timely
 returns-clause-timely g c =
     rw (← c.self.view_is) (λ may. time_keeps c.table_rests_on_these.ensures.frame _ _ _ _ c.let_time_pass-passed.result (is_made c.self.invariant.1) c.let_time_pass-passed.ensures.passes c.let_time_pass-passed.ensures.refused may)
+
+pub returns-clause-number : goal.returns-clause-number
+returns-clause-number g c = c.let_time_pass-passed.ensures.listener.number
+
+pub returns-clause-made : goal.returns-clause-made
+returns-clause-made g c = c.let_time_pass-passed.ensures.listener.made

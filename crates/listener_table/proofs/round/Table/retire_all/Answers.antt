@@ -20,3 +20,9 @@ returns-clause-rest g c =
 pub returns-clause-timely : goal.returns-clause-timely
 returns-clause-timely g c =
     rw (← c.self.view_is) (retires_keep c.table_rests_on_these.ensures.frame _ _ (is_made c.self.invariant.1) c.retire_all.ensures.retires)
+
+pub returns-clause-number : goal.returns-clause-number
+returns-clause-number g c = c.retire_all.ensures.listener.number
+
+pub returns-clause-made : goal.returns-clause-made
+returns-clause-made g c = c.retire_all.ensures.listener.made

@@ -24,3 +24,9 @@ returns-clause-rest g c =
 pub returns-clause-timely : goal.returns-clause-timely
 returns-clause-timely g c =
     rw (← c.self.view_is) (λ may. all_signals_keep c.table_rests_on_these.ensures.frame _ _ _ c.signal.result (is_made c.self.invariant.1) c.signal.ensures.signals c.signal.ensures.some may)
+
+pub returns-clause-number : goal.returns-clause-number
+returns-clause-number g c = c.signal.ensures.listener.number
+
+pub returns-clause-made : goal.returns-clause-made
+returns-clause-made g c = c.signal.ensures.listener.made
