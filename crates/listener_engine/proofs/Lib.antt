@@ -12,6 +12,7 @@ pub mod OrderLemmas
 pub mod QuietLemmas
 pub mod RestartLemmas
 pub mod RoundLemmas
+pub mod ShareLemmas
 pub mod SilentLemmas
 pub mod StandingLemmas
 pub mod TakenLemmas
