@@ -8,6 +8,7 @@ pub mod HeedLemmas
 pub mod IntakeLemmas
 pub mod KeptLemmas
 pub mod LineHearsLemmas
+pub mod MayLemmas
 pub mod OrderLemmas
 pub mod QuietLemmas
 pub mod RestartLemmas

@@ -136,7 +136,8 @@ impl<'a, 'c, M: Room, L: Link, N: Known, B: Bell, G: Gate> Listener<'a, 'c, M, L
         }
         self.table.signal(rt, self.ready.slots())?;
         self.table.let_go_of_conns(rt, !self.ready.is_full())?;
-        if self.heed(rt, store, front, out)? {
+        let asked = self.heed(rt, store, front, out)?;
+        if asked {
             return Ok(Some(End::Asked));
         }
         self.table.retire_all(rt);

@@ -89,5 +89,5 @@ returns-in-Ok-clause-numbered g c i pass at =
     let less = slice_get_within rest.items i pass at in
     numbered (opening_origin c.args.slots c.args.children c.args.passes c.args.shape) rest.len i pass.seat.me (omega (arith, less, rest.ok.0))
     (λ k sum. fresh_is b c.args.slots c.args.children c.args.passes c.args.shape k pass.seat.me c.in_ok-board.ensures.base c.in_ok-board.ensures.passes
-      (rest_is (λ p pass. pass.seat.me ≡ (fresh_view (origin_of (ledger_of b)) p, [])) c.in-Ok.all.items rest.items c.in-Some.pass
-      (sym c.reverse.ensures.items ∙ c.in-Some.ensures.items) c.in-Ok.ensures.fresh i k pass at (omega (arith, sum, rest.ok.0))))
+    (rest_is (λ p pass. pass.seat.me ≡ (fresh_view (origin_of (ledger_of b)) p, [])) c.in-Ok.all.items rest.items c.in-Some.pass
+    (sym c.reverse.ensures.items ∙ c.in-Some.ensures.items) c.in-Ok.ensures.fresh i k pass at (omega (arith, sum, rest.ok.0))))

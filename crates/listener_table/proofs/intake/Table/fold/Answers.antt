@@ -24,4 +24,4 @@ returns-clause-still g c =
 pub returns-clause-timely : goal.returns-clause-timely
 returns-clause-timely g c =
     rw (← c.self.view_is) (sees_keep c.table_rests_on_these.ensures.frame _ _ (is_made c.self.invariant.1)
-      (folds_own c.table_rests_on_these.ensures c.self.invariant.1 c.fold_history.ensures.listener c.fold_history.ensures.sees) c.fold_history.ensures.sees)
+    (folds_own c.table_rests_on_these.ensures c.self.invariant.1 c.fold_history.ensures.listener c.fold_history.ensures.sees) c.fold_history.ensures.sees)

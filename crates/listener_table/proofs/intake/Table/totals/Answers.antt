@@ -20,7 +20,7 @@ returns-clause-rest g c =
 pub returns-clause-timely : goal.returns-clause-timely
 returns-clause-timely g c =
     rw (← c.self.view_is) (nothing_keeps c.table_rests_on_these.ensures.frame None _ _ (is_made c.self.invariant.1)
-      (look_did c.table_rests_on_these.ensures c.self.invariant.1 c.totals.ensures.listener c.totals.ensures.turn c.totals.ensures.row))
+    (look_did c.table_rests_on_these.ensures c.self.invariant.1 c.totals.ensures.listener c.totals.ensures.turn c.totals.ensures.row))
 
 pub returns-clause-number : goal.returns-clause-number
 returns-clause-number g c = c.totals.ensures.listener.number

@@ -20,7 +20,7 @@ returns-clause-rest g c =
 pub returns-clause-timely : goal.returns-clause-timely
 returns-clause-timely g c =
     rw (← c.self.view_is) (starts_keep c.table_rests_on_these.ensures.frame c.table_rests_on_these.ensures.turns c.table_rests_on_these.ensures.others _ _ (is_made c.self.invariant.1)
-      c.start_further.ensures.listener.made c.start_further.ensures.starts)
+    c.start_further.ensures.listener.made c.start_further.ensures.starts)
 
 pub returns-clause-number : goal.returns-clause-number
 returns-clause-number g c = c.start_further.ensures.listener.number
