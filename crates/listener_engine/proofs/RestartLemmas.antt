@@ -118,12 +118,12 @@ store_of_order o n ms s s' f a stood is =
 
 -- by what the listener alone decides
 refused_at : (o : Opening) (number : ℕ) (s : State) (reason : Refusal) → IsRefusedAs o number s reason → IsRefusedAt o number (frame_of s) reason
-refused_at o number s refusal.Late as = as
-refused_at o number s refusal.Absent as = as
-refused_at o number s refusal.Conf as = as
-refused_at o number s refusal.Site as = as
-refused_at o number s refusal.Store as = as
-refused_at o number s refusal.NoMemory as = as
+refused_at o number s refusal.Late so = so
+refused_at o number s refusal.Absent so = so
+refused_at o number s refusal.Conf so = so
+refused_at o number s refusal.Site so = so
+refused_at o number s refusal.Store so = so
+refused_at o number s refusal.NoMemory so = so
 
 late_as : (o : Opening) (number : ℕ) (s : State) → s.newest ≤ greatest_generation → may_begin s ≡ false → IsRefusedAs o number s refusal.Late
 late_as o number s within late = by (is_serving s.going) refl late where
