@@ -17,3 +17,4 @@ pub mod ShareLemmas
 pub mod SilentLemmas
 pub mod StandingLemmas
 pub mod TakenLemmas
+pub mod ThroughLemmas

@@ -1,21 +1,33 @@
 -- When time may pass and slots may be signalled, and how the server stands in its time behind quiet parts.
-use Rattle.std.proofs.Common.{◌≡◌, ℕ, false, true, not, List, [], ◌∷◌, ◌++◌, None, refl, sym, ap, ◌∙◌, append_assoc, arith}
+use Rattle.std.proofs.Common.{◌≡◌, ◌<◌, ℕ, Bool, false, true, not, List, [], ◌∷◌, ◌++◌, length, map, None, refl, sym, ap, subst, ◌∙◌, append_assoc, arith}
 use Rattle.std.specs.List.{list_any}
 use Rattle.std.proofs.lemmas.Bool.Decides.{nat_tests}
 use Rattle.mpm_base.specs.Moment.{greatest_moment}
+use Rattle.mpm_base.specs.Shape.{is_in_bounds}
 use Rattle.conn_machine.specs.declared.child.Child.{Child}
 use Rattle.conn_machine.specs.declared.event.Entry.{Entry}
 use Rattle.conn_machine.specs.declared.event.Event.{Event}
+use Rattle.conn_machine.specs.declared.event.Event.TheVariants as event
 use Rattle.conn_machine.specs.declared.state.State.{State}
 use Rattle.conn_machine.specs.Children.{is_empty}
-use Rattle.conn_machine.specs.Frames.{frame_of}
-use Rattle.conn_machine.specs.States.{is_over, is_staffed}
+use Rattle.conn_machine.specs.Folds.{opening_record}
+use Rattle.conn_machine.specs.Frames.{Frame, OwnEventsTellTheFrame, frame_of, frames}
+use Rattle.conn_machine.specs.HistoryLaws.{HistoriesKeepSizes}
+use Rattle.conn_machine.specs.Made.{AreMade}
+use Rattle.conn_machine.specs.Table.{next}
+use Rattle.conn_machine.specs.Runs.{after, own_events}
+use Rattle.conn_machine.specs.States.{is_over, is_serving, is_staffed}
+use Rattle.table_rule.specs.declared.view.Origin.{Origin}
 use Rattle.table_rule.specs.declared.view.View.{View}
+use Rattle.board_book.specs.Finds.{startable}
 use Rattle.board_book.specs.Moments.{moment_for, ticks_to}
+use Rattle.board_turns.specs.Books.{state_of}
 use Rattle.listener_parts.specs.Did.{Did, LeavesAlone}
-use Rattle.listener_parts.specs.Rounds.{TicksAtOnce}
+use Rattle.listener_parts.specs.Rounds.{StartsEach, TicksAtOnce}
 use Rattle.listener_parts.specs.Times.{MayPassTo, MaySignal}
+use Rattle.listener_parts.proofs.PartTimeLemmas.{IsMade}
 use Rattle.rounds.specs.TableInside.{StandsInTime}
+use Rattle.rounds.proofs.StaffLemmas.{some-children, staffed-start, staffed-started}
 use Rattle.rounds.proofs.TimelyLemmas.{not-at_end}
 
 no_later : (m answer : ℕ) → m ≡ greatest_moment → ticks_to m (moment_for answer) ≡ []
@@ -68,3 +80,39 @@ at_once_on to events a b d did ticks =
       seen = did.goes_on.1 ∙ ap (λ (xs : List Entry). xs ++ more) ticks.seen ∙ append_assoc a.seen (ticks.tick ∷ ticks.rest) more;
       event_is = ticks.event_is;
     }
+
+-- ## Behind children that were started
+
+frame_did : OwnEventsTellTheFrame → (events : List Event) (a b : View) → IsMade a → IsMade b → Did events None a b
+    → frame_of (state_of b) ≡ frames (frame_of (state_of a)) events
+frame_did law events a b is is' did =
+    let first = opening_record a.origin.passes in
+    let here : AreMade a.origin.state first b.seen = subst (λ (o : Origin). AreMade o.state (opening_record o.passes) b.seen) did.origin is'.made in
+    let own : own_events 0 b.seen ≡ own_events 0 a.seen ++ events =
+    subst (λ (p : ℕ). own_events p b.seen ≡ own_events p a.seen ++ events) is.number did.made in
+    ap (λ (o : Origin). frame_of (after o.state b.seen)) did.origin ∙ law.since a.origin.state first a.seen b.seen events is.made here own
+
+abbrev staffs : Frame → Type 0
+staffs f = list_any (λ (x : Child). not (is_empty x.phase)) f.children ≡ true
+
+staffed_frames : OwnEventsTellTheFrame → (s : State) (ks : List ℕ) → is_staffed s ≡ true → staffs (frames (frame_of s) (map event.StartChild ks))
+staffed_frames law s [] staffed = staffed
+staffed_frames law s (k ∷ ks) staffed =
+    subst (λ (f : Frame). staffs (frames f (map event.StartChild ks))) (law.step s (event.StartChild k))
+    (staffed_frames law (next s (event.StartChild k)) ks (staffed-start s k staffed))
+
+-- some child is there: where the server takes connections none is to be started any more, and else some was there before
+pub staffed_round : OwnEventsTellTheFrame → HistoriesKeepSizes → (e g h : View) → IsMade g → IsMade h → (starts : StartsEach g h) → h.origin ≡ e.origin
+    → is_staffed (state_of e) ≡ true → (is_serving (state_of g).going ≡ false → is_staffed (state_of g) ≡ true) → (state_of h).going ≡ (state_of g).going
+    → startable (state_of h) ≡ None → is_in_bounds (state_of h).shape ≡ true → is_staffed (state_of h) ≡ true
+staffed_round law sizes e g h is is' starts origin staffed gone going none bounds = by (is_serving (state_of h).going) refl where
+  many : length (state_of h).children ≡ length (state_of e).children
+  many =
+      (sizes h.origin.state h.seen).children ∙ ap (λ (o : Origin). length o.state.children) origin ∙ sym (sizes e.origin.state e.seen).children
+
+  by : (serves : Bool) → is_serving (state_of h).going ≡ serves → is_staffed (state_of h) ≡ true
+  by true serves =
+      staffed-started (state_of h) serves none bounds (subst (λ (n : ℕ). 0 < n) (sym many) (some-children (state_of e).children staffed))
+  by false off =
+      subst staffs (sym (frame_did law (map event.StartChild starts.children) g h is is' starts.did))
+      (staffed_frames law (state_of g) starts.children (gone (ap is_serving (sym going) ∙ off)))

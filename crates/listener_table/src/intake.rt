@@ -200,6 +200,9 @@ impl<'a, M: Room, L: Link, N: Known, B: Bell, G: Gate> Table<'a, M, L, N, B, G> 
         ensures until { result.until ≡ next_deadline_of (state_of self.old) }
         ensures quiet { result.quiet ≡ true → IsStill self.old self.new }
         ensures timely { KeepsTime self.old self.new }
+        ensures number { self.new.who.number ≡ 0 }
+        ensures made { AreMade self.new.origin.state
+            (opening_record self.new.origin.passes) self.new.seen }
     {
         table_rests_on_these();
         rest_of(self.hands.shared, &mut self.pass, &self.credits, look)

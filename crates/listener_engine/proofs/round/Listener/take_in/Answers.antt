@@ -83,3 +83,6 @@ returns-then-asked g c = ended.then-asked g c
 
 pub returns-then-is_gone : goal.returns-then-is_gone
 returns-then-is_gone g c = ended.then-is_gone g c
+
+pub returns : goal.returns
+returns g c = ended.goes_on g c

@@ -34,3 +34,9 @@ returns-clause-timely g c =
 
 pub rest_of-requires-clause-seen : goal.rest_of-requires-clause-seen
 rest_of-requires-clause-seen g c = subst (λ (v : View). IsSeenIn (state_of v) c.args.look) (sym c.self.view_is) c.requires
+
+pub returns-clause-number : goal.returns-clause-number
+returns-clause-number g c = c.rest_of.ensures.listener.number
+
+pub returns-clause-made : goal.returns-clause-made
+returns-clause-made g c = c.rest_of.ensures.listener.made
