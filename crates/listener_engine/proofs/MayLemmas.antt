@@ -116,3 +116,8 @@ staffed_round law sizes e g h is is' starts origin staffed gone going none bound
   by false off =
       subst staffs (sym (frame_did law (map event.StartChild starts.children) g h is is' starts.did))
       (staffed_frames law (state_of g) starts.children (gone (ap is_serving (sym going) ∙ off)))
+
+-- ## Behind the last look
+
+pub same_state : (a b : View) → Did [] None a b → b.seen ≡ a.seen → state_of b ≡ state_of a
+same_state a b did same = ap (λ (o : Origin). after o.state b.seen) did.origin ∙ ap (after a.origin.state) same

@@ -128,6 +128,9 @@ impl<'a, 'c, M: Room, L: Link, N: Known, B: Bell, G: Gate> Listener<'a, 'c, M, L
         ensures front { TellsOn OnlyReads (F.seen front.old).told (F.seen front.new).told }
         ensures watched { WatchesOn (F.seen front.old).told (F.seen front.new).told
             self.old.table self.new.table }
+        ensures number { self.new.table.who.number ≡ 0 }
+        ensures made { AreMade self.new.table.origin.state
+            (opening_record self.new.table.origin.passes) self.new.table.seen }
         ensures others { self.new ≡ record self.old
             { table = self.new.table; edition = self.new.edition; written = self.new.written } }
         ensures err { IfErr result (λ fault. RefusalLasts fault (book_of self.new.table)) }

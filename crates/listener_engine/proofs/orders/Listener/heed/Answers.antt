@@ -402,3 +402,29 @@ loop-preserved-in-Ok-Status g c = lines.loop-preserved-in-Ok-Status g c
 
 pub loop-preserved : goal.loop-preserved
 loop-preserved g c = lines.loop-preserved g c
+
+-- ## What the listener has seen was made
+
+pub returns-in_default-clause-number : goal.returns-in_default-clause-number
+returns-in_default-clause-number g c = c.loop.invariant.number
+
+pub returns-in_default-clause-made : goal.returns-in_default-clause-made
+returns-in_default-clause-made g c = c.loop.invariant.made
+
+pub returns-in-Ok-Stop-clause-number : goal.returns-in-Ok-Stop-clause-number
+returns-in-Ok-Stop-clause-number g c = c.loop.invariant.number
+
+pub returns-in-Ok-Stop-clause-made : goal.returns-in-Ok-Stop-clause-made
+returns-in-Ok-Stop-clause-made g c = c.loop.invariant.made
+
+pub returns-in_err-restart-in-Ok-Graceful-clause-number : goal.returns-in_err-restart-in-Ok-Graceful-clause-number
+returns-in_err-restart-in-Ok-Graceful-clause-number g c = c.restart.ensures.number
+
+pub returns-in_err-restart-in-Ok-Graceful-clause-made : goal.returns-in_err-restart-in-Ok-Graceful-clause-made
+returns-in_err-restart-in-Ok-Graceful-clause-made g c = c.restart.ensures.made
+
+pub returns-in_err-end-in-Ok-GracefulStop-clause-number : goal.returns-in_err-end-in-Ok-GracefulStop-clause-number
+returns-in_err-end-in-Ok-GracefulStop-clause-number g c = c.end.ensures.number
+
+pub returns-in_err-end-in-Ok-GracefulStop-clause-made : goal.returns-in_err-end-in-Ok-GracefulStop-clause-made
+returns-in_err-end-in-Ok-GracefulStop-clause-made g c = c.end.ensures.made

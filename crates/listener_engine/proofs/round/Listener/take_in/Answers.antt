@@ -6,8 +6,9 @@ use Rattle.board_turns.specs.Books.{state_of}
 use Rattle.listener_parts.specs.Letting.{LetsGoOfConns}
 use Rattle.listener_parts.specs.Rounds.{PassesTime, Signals}
 use Rattle.listener_parts.proofs.PartTimeLemmas.{IsMade}
+use Rattle.listener_round.proofs.FrontLemmas.{named-follows}
 use Rattle.listener_engine.proofs.MayLemmas.{leaves_more, may_pass, may_signal, staffed_on, stands_within}
-use Rattle.listener_engine.proofs.QuietLemmas.{quiet_knows, quiet_lets, quiet_more, quiet_serves, quiet_signals, quiet_step, quiet_time}
+use Rattle.listener_engine.proofs.QuietLemmas.{quiet_knows, quiet_lets, quiet_look, quiet_more, quiet_retires, quiet_serves, quiet_signals, quiet_starts, quiet_step, quiet_time}
 use Rattle.listener_engine.proofs.round.Listener.take_in.Goals as goal
 use Rattle.listener_engine.proofs.round.Listener.take_in.Answers.Ended as ended
 
@@ -74,6 +75,39 @@ heed-requires-clause-serves g c κs within =
     (quiet_lets c.signal.new.self c.let_go_of_conns.new.self lets c.let_go_of_conns.ensures.rest c.let_go_of_conns.ensures.timely) in
     let mid : IsMade c.let_go_of_conns.new.self = record { number = c.let_go_of_conns.ensures.number; made = c.let_go_of_conns.ensures.made } in
     quiet_serves c.args.self.now.table c.let_go_of_conns.new.self before here mid c.show_whole_histories.ensures.editions g.N.Known.known c.args.self.now.edition c.requires.serves
+
+pub take_all-requires-clause-named : goal.take_all-requires-clause-named
+take_all-requires-clause-named g c κs within =
+    named-follows g.N.Known.known (g.F.Front.seen c.args.front.now) (g.F.Front.seen c.heed.new.front) c.heed.ensures.follows c.requires.named
+
+pub take_all-requires-clause-serves : goal.take_all-requires-clause-serves
+take_all-requires-clause-serves g c κs within =
+    let moves =
+    quiet_more c.heed.new.self.table c.is_gone.new.self c.start_further.new.self
+    (quiet_more c.heed.new.self.table c.retire_all.new.self c.is_gone.new.self (quiet_retires c.heed.new.self.table c.retire_all.new.self c.retire_all.ensures.retires c.retire_all.ensures.rest c.retire_all.ensures.timely)
+    (quiet_look c.retire_all.new.self c.is_gone.new.self c.is_gone.ensures.did c.is_gone.ensures.rest c.is_gone.ensures.timely))
+    (quiet_starts c.is_gone.new.self c.start_further.new.self c.start_further.ensures.starts c.start_further.ensures.rest c.start_further.ensures.timely) in
+    let read : IsMade c.heed.new.self.table = record { number = c.heed.ensures.number; made = c.heed.ensures.made } in
+    let held : IsMade c.start_further.new.self = record { number = c.start_further.ensures.number; made = c.start_further.ensures.made } in
+    quiet_serves c.heed.new.self.table c.start_further.new.self moves read held c.show_whole_histories.ensures.editions g.N.Known.known c.heed.new.self.edition c.heed.ensures.serves
+
+pub take_all-requires-clause-up : goal.take_all-requires-clause-up
+take_all-requires-clause-up g c κs within =
+    let moves =
+    quiet_more c.heed.new.self.table c.is_gone.new.self c.start_further.new.self
+    (quiet_more c.heed.new.self.table c.retire_all.new.self c.is_gone.new.self (quiet_retires c.heed.new.self.table c.retire_all.new.self c.retire_all.ensures.retires c.retire_all.ensures.rest c.retire_all.ensures.timely)
+    (quiet_look c.retire_all.new.self c.is_gone.new.self c.is_gone.ensures.did c.is_gone.ensures.rest c.is_gone.ensures.timely))
+    (quiet_starts c.is_gone.new.self c.start_further.new.self c.start_further.ensures.starts c.start_further.ensures.rest c.start_further.ensures.timely) in
+    ap is_halted moves.going ∙ c.heed.ensures.up
+
+pub take_all-requires-clause-step : goal.take_all-requires-clause-step
+take_all-requires-clause-step g c κs within =
+    let moves =
+    quiet_more c.heed.new.self.table c.is_gone.new.self c.start_further.new.self
+    (quiet_more c.heed.new.self.table c.retire_all.new.self c.is_gone.new.self (quiet_retires c.heed.new.self.table c.retire_all.new.self c.retire_all.ensures.retires c.retire_all.ensures.rest c.retire_all.ensures.timely)
+    (quiet_look c.retire_all.new.self c.is_gone.new.self c.is_gone.ensures.did c.is_gone.ensures.rest c.is_gone.ensures.timely))
+    (quiet_starts c.is_gone.new.self c.start_further.new.self c.start_further.ensures.starts c.start_further.ensures.rest c.start_further.ensures.timely) in
+    quiet_step c.heed.new.self.table c.start_further.new.self moves (g.F.Front.seen c.heed.new.front).told c.heed.ensures.step
 
 pub returns-then-is_overdue : goal.returns-then-is_overdue
 returns-then-is_overdue g c = ended.then-is_overdue g c

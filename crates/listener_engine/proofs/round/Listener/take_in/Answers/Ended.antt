@@ -4,6 +4,7 @@ use Rattle.conn_machine.specs.declared.event.Event.TheVariants as event
 use Rattle.conn_machine.specs.States.{is_halted, is_over, is_staffed}
 use Rattle.worker_group.specs.Service.{IsUp}
 use Rattle.board_book.specs.Moments.{moment_for, ticks_to}
+use Rattle.board_book.specs.Finds.{next_deadline_of}
 use Rattle.board_turns.specs.Books.{book_of, state_of}
 use Rattle.listener_parts.specs.Letting.{LetsGoOfConns}
 use Rattle.listener_parts.specs.Rounds.{PassesTime, RetiresSome, Signals, StartsEach, time_events}
@@ -11,6 +12,7 @@ use Rattle.listener_parts.proofs.DidLemmas.{did_more}
 use Rattle.listener_parts.proofs.PartTimeLemmas.{IsMade}
 use Rattle.rounds.proofs.TimelyLemmas.{not-at_end, still-in_time}
 use Rattle.listener_round.specs.CountedInside.{CountsOn}
+use Rattle.listener_round.specs.FrontInside.{TookAll}
 use Rattle.listener_round.specs.HeardInside.{last_if, made_first}
 use Rattle.listener_round.specs.OrdersInside.{KnowsComing, ServesNewest, owed_by}
 use Rattle.listener_round.specs.Pace.{Brought, brought, moved, ticked}
@@ -23,7 +25,7 @@ use Rattle.listener_engine.specs.Lines.{DoesOrders}
 use Rattle.listener_engine.specs.Standing.{StandsOn, standing}
 use Rattle.listener_engine.proofs.BroughtLemmas.{brings_retires, brings_starts, brings_time, brought_as, brought_kept}
 use Rattle.listener_engine.proofs.HeedLemmas.{stands_more}
-use Rattle.listener_engine.proofs.MayLemmas.{at_once_on, leaves_more, may_pass, may_signal, staffed_on, staffed_round}
+use Rattle.listener_engine.proofs.MayLemmas.{at_once_on, leaves_more, may_pass, may_signal, same_state, staffed_on, staffed_round}
 use Rattle.listener_engine.proofs.QuietLemmas.{quiet_counts, quiet_heard, quiet_hearing, quiet_hears, quiet_knows, quiet_lets, quiet_look, quiet_more, quiet_retires, quiet_serves, quiet_signals, quiet_stands, quiet_starts, quiet_step, quiet_time, quiet_watched}
 use Rattle.listener_engine.proofs.RoundLemmas.{ends_lines, ends_retired, front_brings, goes_round}
 use Rattle.listener_engine.proofs.ShareLemmas.{shares_gone, shares_overdue, shares_round}
@@ -377,11 +379,16 @@ goes_on g c =
       wakes = takes.from.wakes ∙ c.heed.ensures.wakes;
       step = step_on;
       ends = (
-        search rules,
+        (λ quiet. subst (TookAll (g.F.Front.seen c.take_all.new.front).told) (sym (same_state c.take_all.new.self.table c.rest-self.new.self rested (c.rest-self.ensures.quiet quiet).seen)) c.in_ok-look.ensures.taken),
         all-read (g.F.Front.seen c.heed.new.front).told (g.F.Front.seen c.take_all.new.front).told takes.from.front none.1,
         heeded-takes (g.F.Front.seen c.heed.new.front).told (g.F.Front.seen c.take_all.new.front).told takes.from.front none.0,
       );
-      rests = search rules;
+      rests =
+          λ is.
+          record {
+            still = λ quiet. (c.rest-self.ensures.quiet quiet).rest;
+            until = λ quiet. c.rest-self.ensures.until ∙ ap next_deadline_of (sym (same_state c.take_all.new.self.table c.rest-self.new.self rested (c.rest-self.ensures.quiet quiet).seen));
+          };
       unheeded = tt;
       follows = follows-trans (g.F.Front.seen c.args.front.now) (g.F.Front.seen c.heed.new.front) (g.F.Front.seen c.take_all.new.front) c.heed.ensures.follows takes.from.follows;
       front = both-only (g.F.Front.seen c.args.front.now).told (g.F.Front.seen c.heed.new.front).told (g.F.Front.seen c.take_all.new.front).told c.heed.ensures.front takes.from.front;
