@@ -325,15 +325,7 @@ fn answer_stop<F: Front>(front: &mut F, turns: Result<End, BoardFault>)
 }
 
 /// Waits for the front as the listener stands, by what the wait is told. Nothing else is done.
-fn wait_for_next<
-    R: Wait,
-    L: Link + Send,
-    F: Front<L = L>,
-    C: Clock,
-    N: Known,
-    B: Bell,
-    G: Gate,
->(
+fn wait_for_next<R: Wait, L: Link + Send, F: Front<L = L>, C: Clock, N: Known, B: Bell, G: Gate>(
     listener: &mut Listener<'_, '_, L, N, B, G>,
     rt: &R,
     front: &mut F,

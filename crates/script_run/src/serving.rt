@@ -60,16 +60,7 @@ pub(crate) fn serve_script<R: Wait, G: Gate, K: Sink>(
     let mut store = store;
     let mut clock = ScriptClock::make();
     let ending = serve_front(
-        rt,
-        alloc,
-        &config,
-        edition,
-        told,
-        &mut store,
-        &mut front,
-        &mut clock,
-        gate,
-        out,
+        rt, alloc, &config, edition, told, &mut store, &mut front, &mut clock, gate, out,
     );
     scripted_ending(ending, front, clock, store, config)
 }
