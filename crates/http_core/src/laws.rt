@@ -16,8 +16,9 @@ pub fn served_files_are_of_the_chosen_host()
 }
 
 /// Conditions count for files alone, and only where files have marks: 304 and 412 answer a request that is sent a whole file without its
-/// conditions and its Range; 304 comes only where the client says that it has that file, and a part behind an If-Range only where that is the
-/// tag of the file's bytes.
+/// conditions and its Range, and that file, a part of it, or that it has no such part without its conditions alone; 304 comes only where the
+/// client says that it has that file, 412 only where it has it in mind otherwise, and a part behind an If-Range only where that is the tag of
+/// the file's bytes.
 pub fn conditions_count_for_files()
     ensures { ConditionsCountForFiles }
 {

@@ -3,7 +3,7 @@ use Rattle.std.proofs.Common.{◌≡◌, ◌≢◌, ℕ, ◌+◌, ◌*◌, ◌<�
 use Rattle.std.specs.Prelude.{if◌then◌else◌, ◌==◌, ◌||◌, nat_lt}
 use Rattle.std.specs.Char.{is_ascii_hexdigit, digit_value}
 use Rattle.std.specs.Str.Parse.{digits_value}
-use Rattle.std.proofs.lemmas.Bool.{eqb-true, eqb-false, ltb-true, ltb-false}
+use Rattle.std.proofs.lemmas.Bool.{eqb-true, eqb-false, ltb-true, ltb-false, false≢true}
 use Rattle.std.proofs.lemmas.List.{append-nil, take_all}
 use Rattle.std.proofs.lemmas.List.Elements.{All-push, All-nil, All-head}
 use Rattle.httparse.specs.Grammar.{AllPass, is_ows, is_extension_byte, IsExtension, print_extension, ChunkLine, print_chunk_line, chunk_size, ReadsChunkLine, HasNoChunkLine, NeverHasChunkLine}
@@ -151,18 +151,32 @@ tail_of size s tail more t l rest reads no_digit no_pad =
 behind : (s : List ℕ) (b : ℕ) (more : List ℕ) → (s ++ b ∷ []) ++ more ≡ s ++ (b ∷ more)
 behind s b more = append_assoc s (b ∷ []) more
 
+-- what equal texts begin with, and what they have behind it
+same_first : (b c : ℕ) (xs ys : List ℕ) → b ∷ xs ≡ c ∷ ys → b ≡ c
+same_first b c xs ys e = cc e
+
+same_behind : (b c : ℕ) (xs ys : List ℕ) → b ∷ xs ≡ c ∷ ys → xs ≡ ys
+same_behind b c xs ys e = cc e
+
+-- a semicolon is no carriage return, and that is no line feed
+semicolon_no_cr : (xs ys : List ℕ) → 59 ∷ xs ≡ 13 ∷ ys → ⊥
+semicolon_no_cr xs ys e = cc e
+
+feed_no_cr : (xs ys : List ℕ) → 10 ∷ xs ≡ 13 ∷ ys → ⊥
+feed_no_cr xs ys e = cc e
+
 -- what begins the line end or an extension
 no_other_end : (b : ℕ) (e : Option (List ℕ)) (more rest : List ℕ) → b ≢ 59 → b ≢ 13
     → b ∷ more ≡ print_extension e ++ (13 ∷ 10 ∷ rest) → ⊥
-no_other_end b None more rest semicolon cr h = cr (cc)
-no_other_end b (Some text) more rest semicolon cr h = semicolon (cc)
+no_other_end b None more rest semicolon cr h = cr (same_first b 13 more (10 ∷ rest) h)
+no_other_end b (Some text) more rest semicolon cr h = semicolon (same_first b 59 more (text ++ (13 ∷ 10 ∷ rest)) h)
 
 -- a space or a tab is no digit
 blank_no_digit : (c : ℕ) (is_space is_tab : Bool) → (c == 32) ≡ is_space → (c == 9) ≡ is_tab → (is_space || is_tab) ≡ true
     → is_ascii_hexdigit c ≡ false
 blank_no_digit c true is_tab space tab ows = subst (λ x. is_ascii_hexdigit x ≡ false) (sym (eqb-true c 32 space)) refl
 blank_no_digit c false true space tab ows = subst (λ x. is_ascii_hexdigit x ≡ false) (sym (eqb-true c 9 tab)) refl
-blank_no_digit c false false space tab ows = cc
+blank_no_digit c false false space tab ows = cc ows
 
 pad_stops : (pad : List ℕ) (b : ℕ) (more : List ℕ) → AllPass is_ows pad → (pad ≡ [] → is_ascii_hexdigit b ≡ false)
     → Stops is_ascii_hexdigit (pad ++ (b ∷ more))
@@ -180,23 +194,21 @@ never_behind_pad size s b t stops no_pad semicolon cr more l rest reads =
 -- an extension, then a line feed
 no_line_feed : (e : Option (List ℕ)) (text more rest : List ℕ) → AllPass is_extension_byte text → IsExtension e
     → (59 ∷ text) ++ (10 ∷ more) ≡ print_extension e ++ (13 ∷ 10 ∷ rest) → ⊥
-no_line_feed None text more rest passes is_extension h = cc
+no_line_feed None text more rest passes is_extension h = semicolon_no_cr (text ++ (10 ∷ more)) (10 ∷ rest) h
 no_line_feed (Some other) text more rest passes is_extension h =
-    let same = run_unique is_extension_byte text other (10 ∷ more) (13 ∷ 10 ∷ rest) passes is_extension refl refl (cc) in
-    let tails : 10 ∷ more ≡ 13 ∷ 10 ∷ rest = same.1 in
-    cc
+    let same = run_unique is_extension_byte text other (10 ∷ more) (13 ∷ 10 ∷ rest) passes is_extension refl refl (same_behind 59 59 (text ++ (10 ∷ more)) (other ++ (13 ∷ 10 ∷ rest)) h) in
+    feed_no_cr more (10 ∷ rest) same.1
 
 -- an extension or none, then a carriage return and another byte
 no_other_feed : (a e : Option (List ℕ)) (b : ℕ) (more rest : List ℕ) → IsExtension a → IsExtension e → b ≢ 10
     → (print_extension a ++ 13 ∷ []) ++ (b ∷ more) ≡ print_extension e ++ (13 ∷ 10 ∷ rest) → ⊥
-no_other_feed None None b more rest x y other h = other (cc)
-no_other_feed None (Some e) b more rest x y other h = cc
-no_other_feed (Some a) None b more rest x y other h = cc
+no_other_feed None None b more rest x y other h = other (same_first b 10 more rest (same_behind 13 13 (b ∷ more) (10 ∷ rest) h))
+no_other_feed None (Some e) b more rest x y other h = semicolon_no_cr (e ++ (13 ∷ 10 ∷ rest)) (b ∷ more) (sym h)
+no_other_feed (Some a) None b more rest x y other h = semicolon_no_cr ((a ++ 13 ∷ []) ++ (b ∷ more)) (10 ∷ rest) h
 no_other_feed (Some a) (Some e) b more rest x y other h =
-    let tails : a ++ (13 ∷ b ∷ more) ≡ e ++ (13 ∷ 10 ∷ rest) = sym (append_assoc a (13 ∷ []) (b ∷ more)) ∙ (cc) in
+    let tails : a ++ (13 ∷ b ∷ more) ≡ e ++ (13 ∷ 10 ∷ rest) = sym (append_assoc a (13 ∷ []) (b ∷ more)) ∙ same_behind 59 59 ((a ++ 13 ∷ []) ++ (b ∷ more)) (e ++ (13 ∷ 10 ∷ rest)) h in
     let same = run_unique is_extension_byte a e (13 ∷ b ∷ more) (13 ∷ 10 ∷ rest) x y refl refl tails in
-    let ends : 13 ∷ b ∷ more ≡ 13 ∷ 10 ∷ rest = same.1 in
-    other (cc)
+    other (same_first b 10 more rest (same_behind 13 13 (b ∷ more) (10 ∷ rest) same.1))
 
 never_in_extension : (size : ℕ) (s text : List ℕ) → AllPass is_extension_byte text → IsSizeBefore size s (59 ∷ text)
     → NeverHasChunkLine (s ++ 10 ∷ [])
@@ -235,8 +247,7 @@ never_empty b no_digit more l rest reads =
     elim_digits [] middle some each e = absurd (omega arith)
     elim_digits (d ∷ digits) middle some each e =
         let passes = All-head (λ c. is_ascii_hexdigit c ≡ true) d digits each in
-        let same : b ≡ d = cc in
-        cc
+        false≢true (sym no_digit ∙ ap is_ascii_hexdigit (same_first b d more (digits ++ middle) e) ∙ passes)
 
 -- ---- the move means what it says
 

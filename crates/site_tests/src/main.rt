@@ -3,7 +3,8 @@
 //! of it, row by row.
 //!
 //! In the input a line that begins with `== ` begins a section: the word behind it says what its rows are, and the rest is its title.
-//! In a row of a configuration or a script `|` stands for a line feed.
+//! In a row of a configuration or a script `|` stands for a line feed, and a number and a text between backquotes for the text so many
+//! times.
 //!
 //! - `numbers`, `corrected`, `shape`, `values`, `hosts`, `marks`, `media`, `warnings`: configurations, and what of each is shown where it
 //!   isn't refused.
@@ -11,9 +12,10 @@
 //! - `restart`: configurations and, behind ` => `, the ones that follow them.
 //! - `script`: scripts, whose configuration is shown as it is first and later.
 //! - `paths`: names of files up to a row `--`, and paths that are asked of the site of these files, each of which has its name as its
-//!   bytes. `calls`: such names, and calls of the store that fail. `types`: such names, whose content types are shown.
-//! - `again`: files, each with the second in which it was changed and with its bytes, up to a row `--`, and those of a site that
-//!   follows, whose tags and seconds are shown.
+//!   bytes. `calls`: such names, and calls of the store that fail.
+//! - `sites`: files, each perhaps with the second in which it was changed and its bytes, up to a row `--`, those of the next edition up to a
+//!   further one, and configurations, each perhaps with the one behind ` => ` by which the server is restarted. Of each file of the site the
+//!   type is shown, and the tag and the second where they count.
 //! - `choices`: hosts, a row each with its names (`-` for none), up to a row `--`, and values of a Host, each of which is shown without
 //!   its port, with the number of the host that it chooses. `host-paths`: a row of three hosts with `|` between
 //!   them, each a root and an index, whole names of files up to a row `--`, and paths, each behind the number of a host. `host-sizes`:
@@ -29,7 +31,6 @@
 //! otherwise.
 #![tactic(auto)]
 
-mod again;
 mod command_lines;
 mod configurations;
 mod configured_types;
@@ -39,6 +40,7 @@ mod paths;
 mod reloads;
 mod scripts;
 mod search;
+mod sites;
 
 use mpm_base::NoMemory;
 use std::alloc::Global;
@@ -71,11 +73,7 @@ fn show_section(sheet: &mut Sheet, alloc: Global, section: Section<'_>) -> Resul
         "restart" => configurations::show_restarts(sheet, alloc, rows),
         "script" => scripts::show_scripts(sheet, alloc, rows),
         "paths" => paths::show_paths(sheet, alloc, rows),
-        "types" => paths::show_types(sheet, alloc, rows),
-        "again" => {
-            again::show_again(sheet, alloc, rows);
-            Ok(())
-        }
+        "sites" => sites::show_sites(sheet, alloc, rows),
         "choices" => hosts::show_choices(sheet, alloc, rows),
         "host-paths" => hosts::show_host_paths(sheet, alloc, rows),
         "host-sizes" => hosts::show_host_sizes(sheet, alloc, rows),

@@ -1,6 +1,6 @@
-//! Sites by example: what paths name, and the types of files.
+//! Sites by example: what paths name.
 use crate::loads::{named, site_of};
-use file_table::{Found, Site, bytes, content_type, find, hosts};
+use file_table::{Found, Site, bytes, find, hosts};
 use mpm_base::NoMemory;
 use stand_ins::Calls;
 use std::alloc::Global;
@@ -66,27 +66,5 @@ fn text_of<'a>(site: &'a Site, found: &'a Found) -> (&'static str, &'a [u8]) {
         Found::Redirect(path) => ("moved to ", path.as_slice()),
         Found::Missing => ("Missing", b""),
         Found::BadPath => ("BadPath", b""),
-    }
-}
-
-/// Shows the content type of each file.
-pub fn show_types(sheet: &mut Sheet, alloc: Global, rows: &str) -> Result<(), NoMemory> {
-    let files = named(alloc, rows)?;
-    match site_of(alloc, files, Calls::make(alloc)) {
-        Ok(site) => show_types_of(sheet, &site),
-        Err(fault) => println!(sheet; "{fault:?}"),
-    }
-    Ok(())
-}
-
-/// Shows the name and the content type of each file of the site.
-fn show_types_of(sheet: &mut Sheet, site: &Site) {
-    for (place, file) in site.files().iter().enumerate() {
-        if place < site.files().len() {
-            sheet.text(file.name.as_slice());
-            sheet.print(" => ");
-            sheet.text(content_type(site, place as u32));
-            sheet.print("\n");
-        }
     }
 }

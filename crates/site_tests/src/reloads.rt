@@ -10,7 +10,7 @@ use std::alloc::Global;
 use test_rows::{Marks, Sheet, text_of};
 
 /// The name of the configuration.
-const CONF_NAME: &str = "httpd.conf";
+pub const CONF_NAME: &str = "httpd.conf";
 
 /// The configuration alone.
 fn config_alone(alloc: Global, config: &[u8]) -> Result<Files, NoMemory> {
@@ -97,12 +97,17 @@ pub fn show_restarts(sheet: &mut Sheet, alloc: Global, rows: &str) -> Result<(),
     Ok(())
 }
 
-/// Shows what comes of the configuration of the row, and the one that follows it, where one does.
-fn show_restart(sheet: &mut Sheet, alloc: Global, names: &str, row: &str) -> Result<(), NoMemory> {
-    let (old, new) = match row.split_once(" => ") {
+/// The configuration of the row, and the one that follows it, where one does.
+pub fn parted(row: &str) -> (&str, Option<&str>) {
+    match row.split_once(" => ") {
         Some((old, new)) => (old, Some(new)),
         None => (row, None),
-    };
+    }
+}
+
+/// Shows what comes of the configuration of the row, and the one that follows it, where one does.
+fn show_restart(sheet: &mut Sheet, alloc: Global, names: &str, row: &str) -> Result<(), NoMemory> {
+    let (old, new) = parted(row);
     let old = text_of(alloc, old, Marks::Lines)?;
     let files = edition_of(alloc, names, new)?;
     show_edition(sheet, alloc, old.as_slice(), files)
@@ -118,7 +123,7 @@ fn edition_of(alloc: Global, names: &str, config: Option<&str>) -> Result<Files,
 }
 
 /// Puts the configuration there, where there is one.
-fn add_config(alloc: Global, files: &mut Files, config: Option<&str>) -> Result<(), NoMemory> {
+pub fn add_config(alloc: Global, files: &mut Files, config: Option<&str>) -> Result<(), NoMemory> {
     let Some(config) = config else {
         return Ok(());
     };
