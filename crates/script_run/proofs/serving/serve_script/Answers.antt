@@ -1,5 +1,18 @@
+use Rattle.std.proofs.Common.{◌≡◌, ◌∙◌, ap, sym}
+use Rattle.script_front.specs.Editions.{editions_of}
+use Rattle.script_front.specs.ScriptFront.{SeenFront, new_front}
 use Rattle.script_run.proofs.PlayedLemmas.{config-scripted, kept-scripted, script-scripted}
 use Rattle.script_run.proofs.serving.serve_script.Goals as goal
+
+pub serve_front-ending-requires-clause-front : goal.serve_front-ending-requires-clause-front
+serve_front-ending-requires-clause-front g c κs within =
+    let script : c.in-Ok.front.script ≡ c.args.script = ap (λ (x : SeenFront). x.script) c.in-Ok.ensures in
+    c.in-Ok.ensures ∙ ap new_front (sym script)
+
+pub serve_front-ending-requires-clause-store : goal.serve_front-ending-requires-clause-store
+serve_front-ending-requires-clause-store g c κs within =
+    let script : c.in-Ok.front.script ≡ c.args.script = ap (λ (x : SeenFront). x.script) c.in-Ok.ensures in
+    c.requires.store ∙ ap editions_of (sym script)
 
 pub returns-clause-kept : goal.returns-clause-kept
 returns-clause-kept g c =
