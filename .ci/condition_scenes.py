@@ -1,12 +1,13 @@
-"""The scenes of requests with conditions, which .ci/sockets plays."""
+"""The scenes of requests with conditions, and of the types of files, which .ci/sockets plays."""
 
 import email.utils
 import hashlib
 import os
 import re
 import subprocess
+import time
 
-from real_server import HOST, connect, expect, request, response, refusal, scene, serving, until, where_there_are
+from real_server import DEADLINE, HOST, connect, expect, request, response, refusal, scene, serving, until, where_there_are
 
 MARKED = ["FileETag Digest", "LastModified On"]
 A, TEN = b"A\n", b"0123456789"
@@ -74,6 +75,29 @@ def conditions_are_answered_by_tags_and_times():
 
 
 @scene
+def a_file_of_a_time_before_1970_was_changed_in_the_first_second():
+    first = "Thu, 01 Jan 1970 00:00:00 GMT"
+    whole = response("200 OK", "text/plain", A, f"Last-Modified: {first}", "Accept-Ranges: bytes")
+    same = f"HTTP/1.1 304 Not Modified\r\nDate: *\r\nLast-Modified: {first}\r\n\r\n".encode()
+    asked = [
+        (request("GET", "/a.txt"), whole),
+        (request("GET", "/a.txt", f"If-Modified-Since: {first}"), same),
+        (request("GET", "/a.txt", f"If-Unmodified-Since: {first}"), whole),
+    ]
+    with serving("LastModified On", files=FILES) as server:
+        path = f"{server.folder}/htdocs/a.txt"
+        date(path, -5)
+        expect("the second that the folder keeps", os.stat(path).st_mtime, -5)
+        expect("the answer to a restart", server.tell(b"graceful\n"), b"generation 1\n")
+        with connect(server.port) as client:
+            for sent, wanted in asked:
+                client.send(sent)
+                expect(f"what {sent} is answered", client.reply(), wanted)
+        server.stop()
+        server.expect_report("1 ClientDone Direct 200,304,200", children=6, generation=1)
+
+
+@scene
 def without_the_directives_no_condition_counts():
     fields = ["If-None-Match: *", 'If-Match: "x"', f"If-Modified-Since: {email.utils.formatdate(usegmt=True)}"]
     with serving(files=FILES) as server:
@@ -102,6 +126,46 @@ def a_file_that_is_written_anew_keeps_its_tag_until_its_bytes_change():
         server.stop()
         ends = [f"{generation} ClientDone Direct {wanted[:3].decode()}" for generation, (_, wanted) in enumerate(turns, 1)]
         server.expect_report(*ends, children=15, generation=4)
+
+
+@scene
+def a_file_that_is_to_be_changed_later_is_told_with_the_present_second_and_sent_each_time():
+    with serving("LastModified On", files=FILES) as server:
+        date(f"{server.folder}/htdocs/a.txt", int(time.time()) + 86_400)
+        expect("the answer to a restart", server.tell(b"graceful\n"), b"generation 1\n")
+        with connect(server.port) as client:
+            fields = []
+            for _ in range(2):
+                client.send(request("GET", "/a.txt", *fields))
+                came = client.reply()
+                expect("the status", came[:15], b"HTTP/1.1 200 OK")
+                told = re.search(rb"\r\nLast-Modified: ([^\r]*)\r\n", came)[1].decode()
+                # It is the date of the response, which reply() has looked at, to a second or so.
+                late = email.utils.parsedate_to_datetime(told).timestamp() - time.time()
+                expect(f"whether {told} is the present second", -DEADLINE < late < 1, True)
+                fields = [f"If-Modified-Since: {told}"]
+        server.stop()
+        server.expect_report("1 ClientDone Direct 200,200", children=6, generation=1)
+
+
+@scene
+def files_have_the_types_of_the_long_table_and_those_that_are_added():
+    lines = ["MimeTable Long", "AddType text/x-log .LOG log2", 'AddType "text/css; charset=utf-8" css', "AddDefaultCharset utf-8"]
+    types = {
+        "a.mjs": "text/javascript", "a.WASM": "application/wasm", "a.tar.gz": "application/gzip",
+        "a.log": "text/x-log", "a.Log2": "text/x-log", "a.css": "text/css; charset=utf-8",
+        "a.html": "text/html; charset=utf-8", "a.txt": "text/plain; charset=utf-8",
+        "a.none": "application/octet-stream", "log": "application/octet-stream",
+    }
+    with serving(*lines, files={name: A for name in types}) as server:
+        with connect(server.port) as client:
+            for name, kind in types.items():
+                client.send(request("GET", f"/{name}"))
+                expect(f"the response of {name}", client.reply(), response("200 OK", kind, A))
+            client.send(request("GET", "/none"))
+            expect("what isn't there", client.reply(), refusal("404 Not Found"))
+        server.stop()
+        server.expect_report(f"0 ClientDone Direct {','.join(['200'] * len(types))},404")
 
 
 def says(*words, folder):

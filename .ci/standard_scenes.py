@@ -18,7 +18,7 @@ def raw(*lines):
 
 
 # The section, what is sent, the codes of the responses, whether the connection stays, and a line that the last response must have. Two
-# conditions are ignored which section 13.2.1 of RFC 9110 has an origin server evaluate: there are no validators.
+# conditions are ignored: by the defaults files have no validators.
 OF_9110 = [
     ("2.5", "a later minor version", raw("GET / HTTP/1.2", "Host: a"), [200], STAYS, None),
     ("3.9", "a request with the fields of a client", request("GET", "/hello.txt", "User-Agent: a/1.0", "Accept-Language: en, mi"), [200], STAYS, "Content-Length: 7"),

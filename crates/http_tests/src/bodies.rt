@@ -35,26 +35,20 @@ fn kind_of(text: &str) -> BodyKind {
     }
 }
 
-/// Shows the answer to each body, and each other one that it has byte by byte, in pieces of seven bytes, or cut behind one of its
-/// last 64 bytes.
-pub fn show_bodies(
-    sheet: &mut Sheet,
-    alloc: Global,
-    kind: &str,
-    rows: &str,
-) -> Result<(), NoMemory> {
-    let kind = kind_of(kind);
-    for row in rows.lines() {
-        let text = text_of(alloc, row, Marks::Heads)?;
-        show_body(sheet, kind, row, text.as_slice());
+/// Shows the answer to the body of that kind, and each other one that it has byte by byte, in pieces of seven bytes, or cut behind one of
+/// its last 64 bytes; or how many bytes of a chunked one are looked at.
+pub fn show_body(sheet: &mut Sheet, kind: &str, text: &[u8]) {
+    if kind == "looks" {
+        println!(sheet; " {} of {}", looked_at(text), text.len());
+    } else {
+        show_answers(sheet, kind_of(kind), text);
     }
-    Ok(())
 }
 
-/// Shows that of the body of the row.
-fn show_body(sheet: &mut Sheet, kind: BodyKind, row: &str, text: &[u8]) {
+/// Shows the answers to the body.
+fn show_answers(sheet: &mut Sheet, kind: BodyKind, text: &[u8]) {
     let answer = read_cut(kind, text, text.len(), 1);
-    println!(sheet; "{row} => {answer:?}");
+    println!(sheet; " {answer:?}");
     show_other(sheet, answer, read_cut(kind, text, 0, 1), 0);
     show_other(sheet, answer, read_cut(kind, text, 3, 7), 3);
     show_cuts(sheet, kind, text, answer);
@@ -75,29 +69,21 @@ fn show_other(sheet: &mut Sheet, answer: BodyAnswer, found: BodyAnswer, cut: usi
     }
 }
 
-/// Shows the last answer to bodies of a gibibyte, and how each of them begins.
-pub fn show_gibibyte(sheet: &mut Sheet, alloc: Global, rows: &str) -> Result<(), NoMemory> {
+/// Shows the last answer to a body of a gibibyte of the kind of the row, which begins as the text of the row says behind the kind.
+pub fn show_gibibyte(
+    sheet: &mut Sheet,
+    alloc: Global,
+    row: &str,
+    text: &[u8],
+) -> Result<(), NoMemory> {
+    let (kind, _) = row.split_once(": ").unwrap_or((row, ""));
+    let front = &text[text.len().min(kind.len().saturating_add(2))..];
     let piece = text_of(alloc, "`4096 0123456789abcdef`", Marks::Heads)?;
-    for row in rows.lines() {
-        let (kind, front) = row.split_once(": ").unwrap_or((row, ""));
-        let front = text_of(alloc, front, Marks::Heads)?;
-        show_many(
-            sheet,
-            row,
-            kind_of(kind),
-            front.as_slice(),
-            piece.as_slice(),
-        );
+    if front.len() <= piece.len() {
+        let answer = read_many(kind_of(kind), front, piece.as_slice(), 16383);
+        println!(sheet; " {answer:?}");
     }
     Ok(())
-}
-
-/// Shows the last answer to a body of a gibibyte that begins with the front, where that is no longer than the piece.
-fn show_many(sheet: &mut Sheet, row: &str, kind: BodyKind, front: &[u8], piece: &[u8]) {
-    if front.len() <= piece.len() {
-        let answer = read_many(kind, front, piece, 16383);
-        println!(sheet; "{row} => {answer:?}");
-    }
 }
 
 /// The last answer, where the front is followed by so many pieces and one more.
@@ -135,13 +121,4 @@ fn looked_at(text: &[u8]) -> usize {
         }
     }
     looked
-}
-
-/// Shows how many bytes are looked at of each chunked body, and how many it has.
-pub fn show_looks(sheet: &mut Sheet, alloc: Global, rows: &str) -> Result<(), NoMemory> {
-    for row in rows.lines() {
-        let text = text_of(alloc, row, Marks::Heads)?;
-        println!(sheet; "{row} => {} of {}", looked_at(text.as_slice()), text.len());
-    }
-    Ok(())
 }

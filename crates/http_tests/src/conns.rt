@@ -2,19 +2,42 @@
 ghost use Rattle.std.specs.Prelude.{IfOk};
 ghost use Rattle.conn_state.specs.Conn.{IsFresh};
 
-use crate::responses::digits_site;
+use crate::sites::site_named;
 use crate::test_conn::TestConn;
 use conn_state::{Ended, LastTurn};
 use file_table::Site;
 use mpm_base::{Cause, LinkCall, NoMemory, Octets, Tail};
 use stand_ins::{Calls, ScriptLink, Wire};
 use std::alloc::Global;
-use std::str;
 use std::sync::Arc;
-use test_rows::{Marks, Sheet, number_of, text_of, words};
+use test_rows::{Marks, Sheet, listed_as, number_of, text_of, words};
 
 /// The second of the example in RFC 9110, section 5.6.7.
 pub const SECOND: u64 = 784_111_777;
+
+/// The causes by their names.
+const CAUSES: [(&str, Cause); 9] = [
+    ("ClientDone", Cause::ClientDone),
+    ("LastSent", Cause::LastSent),
+    ("KeepAliveLate", Cause::KeepAliveLate),
+    ("ReadLate", Cause::ReadLate),
+    ("WriteLate", Cause::WriteLate),
+    ("Retiring", Cause::Retiring),
+    ("LinkFailed", Cause::LinkFailed),
+    ("Stopped", Cause::Stopped),
+    ("NoMemory", Cause::NoMemory),
+];
+
+/// The tails by their names.
+const TAILS: [(&str, Tail); 7] = [
+    ("Direct", Tail::Direct),
+    ("Drained", Tail::Drained),
+    ("Sated", Tail::Sated),
+    ("Late", Tail::Late),
+    ("Failed", Tail::Failed),
+    ("Halted", Tail::Halted),
+    ("NoMemory", Tail::NoMemory),
+];
 
 /// The link of a client that sends the text as the wire says, the first read and the first write of which fail where the wire says so.
 fn link_of(alloc: Global, text: &[u8], wire: Arc<Wire>) -> Result<ScriptLink, NoMemory>
@@ -41,40 +64,35 @@ pub fn conn_of(
     Ok(TestConn::new(alloc, ours, link))
 }
 
-/// The site of each connection.
-pub fn site_of(alloc: Global) -> Result<Arc<Site>, NoMemory> {
-    match digits_site(alloc, true) {
-        Ok(site) => Ok(Arc::new(alloc, site)?),
-        Err(_) => Err(NoMemory),
-    }
-}
-
 /// Shows what comes of each row of turns of a client that sends the text of the first row.
 pub fn show_turns(sheet: &mut Sheet, alloc: Global, rows: &str) -> Result<(), NoMemory> {
-    let site = site_of(alloc)?;
-    let mut rows = rows.lines();
-    let text = text_of(alloc, rows.next().unwrap_or(""), Marks::Heads)?;
-    for row in rows {
-        show_row(sheet, alloc, &site, text.as_slice(), row)?;
-    }
-    Ok(())
+    let site = site_named(alloc, "open")?;
+    let (text, rows) = rows.split_once('\n').unwrap_or((rows, ""));
+    let text = text_of(alloc, text, Marks::Heads)?;
+    show_rows(sheet, alloc, &site, text.as_slice(), rows)
 }
 
-/// Shows what comes of the row of turns of a client that sends the text.
-fn show_row(
+/// Shows what comes of each row of turns of a client that sends the text.
+fn show_rows(
     sheet: &mut Sheet,
     alloc: Global,
     site: &Arc<Site>,
     text: &[u8],
-    row: &str,
+    rows: &str,
 ) -> Result<(), NoMemory> {
+    for row in rows.lines() {
+        let wire = Arc::new(alloc, Wire::make())?;
+        show_row(sheet, &wire, conn_of(alloc, site, text, &wire)?, row);
+    }
+    Ok(())
+}
+
+/// Shows what comes of the row of turns of the connection.
+fn show_row(sheet: &mut Sheet, wire: &Wire, mut conn: TestConn<ScriptLink>, row: &str) {
     let (turns, end) = row.rsplit_once("; ").unwrap_or(("", row));
-    let wire = Arc::new(alloc, Wire::make())?;
-    let mut conn = conn_of(alloc, site, text, &wire)?;
-    show_each(sheet, &wire, &mut conn, turns);
+    show_each(sheet, wire, &mut conn, turns);
     let ended = end_as(conn, end);
     show_end(sheet, ended.as_ref(), end);
-    Ok(())
 }
 
 /// Shows what each turn of the connection answers.
@@ -88,13 +106,16 @@ fn show_each(sheet: &mut Sheet, wire: &Wire, conn: &mut TestConn<ScriptLink>, tu
 fn end_as(conn: TestConn<ScriptLink>, end: &str) -> Option<Ended<ScriptLink>> {
     let (_, names) = words(end);
     let (cause, tail) = words(names);
-    conn.end(cause_named(cause), tail_named(tail))
+    let cause = listed_as(&CAUSES, cause).unwrap_or(Cause::NoMemory);
+    let tail = listed_as(&TAILS, tail).unwrap_or(Tail::NoMemory);
+    conn.end(cause, tail)
 }
 
-/// Shows what came of a connection that was to be ended so.
+/// Shows what came of a connection, or that it might not be ended as the words say, where there are any.
 fn show_end(sheet: &mut Sheet, ended: Option<&Ended<ScriptLink>>, end: &str) {
     match ended {
         Some(ended) => show_ended(sheet, ended),
+        None if end.is_empty() => sheet.println("may not be"),
         None => println!(sheet; "{end} => may not be"),
     }
 }
@@ -156,32 +177,29 @@ fn show_ended(sheet: &mut Sheet, ended: &Ended<ScriptLink>) {
 
 /// Shows the bytes under the name, in the same line; of more than 600 their number.
 pub fn show_bytes(sheet: &mut Sheet, name: &str, bytes: &[u8]) {
-    match str::from_utf8(bytes) {
-        Ok(text) if bytes.len() <= 600 => print!(sheet; "{name} {text:?}"),
-        _ => print!(sheet; "{name} {} bytes", bytes.len()),
+    if bytes.len() <= 600 {
+        sheet.bytes(name, bytes);
+    } else {
+        print!(sheet; "{name} {} bytes", bytes.len());
     }
 }
 
-/// Shows what comes of each client, and what else comes of it where its bytes are cut behind one of them: so many come first.
-pub fn show_cuts(sheet: &mut Sheet, alloc: Global, rows: &str) -> Result<(), NoMemory> {
-    let site = site_of(alloc)?;
-    for row in rows.lines() {
-        let text = text_of(alloc, row, Marks::Heads)?;
-        print!(sheet; "{row} => ");
-        show_client(sheet, alloc, &site, text.as_slice())?;
-    }
-    Ok(())
+/// Shows what comes of the client of that text, and what else comes of it where its bytes are cut behind one of them: so many come first.
+pub fn show_client(sheet: &mut Sheet, alloc: Global, text: &[u8]) -> Result<(), NoMemory> {
+    let site = site_named(alloc, "open")?;
+    show_client_of(sheet, alloc, &site, text)
 }
 
-/// Shows what comes of the client of that text, and what else comes of it where its bytes are cut.
-fn show_client(
+/// Shows the same, where this is the site.
+fn show_client_of(
     sheet: &mut Sheet,
     alloc: Global,
     site: &Arc<Site>,
     text: &[u8],
 ) -> Result<(), NoMemory> {
     let whole = talk_cut(alloc, site, text, 0)?;
-    show_talk(sheet, whole.as_ref());
+    sheet.print(" ");
+    show_end(sheet, whole.as_ref(), "");
     show_others(sheet, alloc, site, text, whole.as_ref())
 }
 
@@ -194,8 +212,7 @@ fn show_others(
     whole: Option<&Ended<ScriptLink>>,
 ) -> Result<(), NoMemory> {
     for count in 1..text.len() {
-        let ended = talk_cut(alloc, site, text, count)?;
-        show_cut(sheet, count, ended.as_ref(), whole);
+        show_cut(sheet, alloc, site, text, count, whole)?;
     }
     Ok(())
 }
@@ -203,22 +220,18 @@ fn show_others(
 /// Shows what comes of a client of whose text so many bytes come first, if it is something else than the whole.
 fn show_cut(
     sheet: &mut Sheet,
+    alloc: Global,
+    site: &Arc<Site>,
+    text: &[u8],
     count: usize,
-    ended: Option<&Ended<ScriptLink>>,
     whole: Option<&Ended<ScriptLink>>,
-) {
-    if differ(ended, whole) {
+) -> Result<(), NoMemory> {
+    let ended = talk_cut(alloc, site, text, count)?;
+    if differ(ended.as_ref(), whole) {
         print!(sheet; "but {count} => ");
-        show_talk(sheet, ended);
+        show_end(sheet, ended.as_ref(), "");
     }
-}
-
-/// Shows what came of a connection, or that it might not be ended.
-fn show_talk(sheet: &mut Sheet, ended: Option<&Ended<ScriptLink>>) {
-    match ended {
-        Some(ended) => show_ended(sheet, ended),
-        None => sheet.println("may not be"),
-    }
+    Ok(())
 }
 
 /// Whether the two connections sent other bytes, or ended for other causes.
@@ -256,33 +269,5 @@ pub fn cause_after(turn: LastTurn) -> Cause {
         LastTurn::LinkFailed => Cause::LinkFailed,
         LastTurn::NoMemory => Cause::NoMemory,
         _ => Cause::Stopped,
-    }
-}
-
-/// The cause of that name.
-fn cause_named(name: &str) -> Cause {
-    match name {
-        "ClientDone" => Cause::ClientDone,
-        "LastSent" => Cause::LastSent,
-        "KeepAliveLate" => Cause::KeepAliveLate,
-        "ReadLate" => Cause::ReadLate,
-        "WriteLate" => Cause::WriteLate,
-        "Retiring" => Cause::Retiring,
-        "LinkFailed" => Cause::LinkFailed,
-        "Stopped" => Cause::Stopped,
-        _ => Cause::NoMemory,
-    }
-}
-
-/// The tail of that name.
-fn tail_named(name: &str) -> Tail {
-    match name {
-        "Direct" => Tail::Direct,
-        "Drained" => Tail::Drained,
-        "Sated" => Tail::Sated,
-        "Late" => Tail::Late,
-        "Failed" => Tail::Failed,
-        "Halted" => Tail::Halted,
-        _ => Tail::NoMemory,
     }
 }

@@ -23,6 +23,11 @@ fn code_of(answer: &HeadAnswer) -> u16 {
     }
 }
 
+/// The code of the head by these limits.
+fn head_code(alloc: Global, text: &[u8], limits: Limits) -> u16 {
+    code_of(&next_head(alloc, text, &limits))
+}
+
 /// The three limits that the words give.
 fn limits_of(text: &str) -> Limits {
     let mut words = text.split(' ');
@@ -36,46 +41,24 @@ fn limits_of(text: &str) -> Limits {
     }
 }
 
-/// Shows the code of each head, behind how many bytes it is there where they come one by one, how many bytes are looked at then,
-/// and the code then where it is another one.
-pub fn show_heads(
-    sheet: &mut Sheet,
-    alloc: Global,
-    limits: &str,
-    rows: &str,
-) -> Result<(), NoMemory> {
+/// Shows the code of the head by the limits, behind how many bytes it is there where they come one by one, how many bytes are looked at
+/// then, and the code then where it is another one.
+pub fn show_head(sheet: &mut Sheet, alloc: Global, limits: &str, text: &[u8]) {
     let limits = limits_of(limits);
-    for row in rows.lines() {
-        let text = text_of(alloc, row, Marks::Heads)?;
-        show_head(sheet, alloc, row, limits, text.as_slice());
-    }
-    Ok(())
-}
-
-/// Shows that of the head.
-fn show_head(sheet: &mut Sheet, alloc: Global, row: &str, limits: Limits, text: &[u8]) {
-    let code = code_of(&next_head(alloc, text, &limits));
-    print!(sheet; "{row} => {code}");
+    let code = head_code(alloc, text, limits);
+    print!(sheet; " {code}");
     if text.len() < 1_000_000 {
-        show_by_byte(sheet, alloc, limits, text, code);
+        let (found, end, looks) = read_by_byte(alloc, limits, text);
+        print!(sheet; " behind {end} of {}, {looks} looked at", text.len());
+        if found != code {
+            print!(sheet; ", but {found}");
+        }
     }
     sheet.println("");
 }
 
-/// Shows the same where the bytes come one by one, and the code then where it is another one.
-fn show_by_byte(sheet: &mut Sheet, alloc: Global, limits: Limits, text: &[u8], code: u16)
-    requires { length text.now < 1000000 }
-{
-    let (answer, end, looks) = read_by_byte(alloc, limits, text);
-    print!(sheet; " behind {end} of {}, {looks} looked at", text.len());
-    let found = code_of(&answer);
-    if found != code {
-        print!(sheet; ", but {found}");
-    }
-}
-
-/// The answer to bytes that come one by one, how many there were then, and how many of them were looked at.
-fn read_by_byte(alloc: Global, limits: Limits, text: &[u8]) -> (HeadAnswer, usize, u64)
+/// The code of bytes that come one by one, how many there were then, and how many of them were looked at.
+fn read_by_byte(alloc: Global, limits: Limits, text: &[u8]) -> (u16, usize, u64)
     requires { length text.now < 1000000 }
 {
     let mut reader = HeadReader::new(limits);
@@ -87,29 +70,20 @@ fn read_by_byte(alloc: Global, limits: Limits, text: &[u8]) -> (HeadAnswer, usiz
         looks = looks.saturating_add((end - before) as u64);
         match answer {
             HeadAnswer::More => {}
-            _ => return (answer, end, looks),
+            answer => return (code_of(&answer), end, looks),
         }
     }
-    (reader.read(alloc, text), text.len(), looks)
+    (code_of(&reader.read(alloc, text)), text.len(), looks)
 }
 
-/// Shows what each head asks.
-pub fn show_requests(sheet: &mut Sheet, alloc: Global, rows: &str) -> Result<(), NoMemory> {
-    for row in rows.lines() {
-        let text = text_of(alloc, row, Marks::Heads)?;
-        show_asked(sheet, alloc, row, text.as_slice());
-    }
-    Ok(())
-}
-
-/// Shows what the head of the row asks.
-fn show_asked(sheet: &mut Sheet, alloc: Global, row: &str, text: &[u8]) {
+/// Shows what the head asks.
+pub fn show_asked(sheet: &mut Sheet, alloc: Global, text: &[u8]) {
     match next_head(alloc, text, &LIMITS) {
         HeadAnswer::Whole(request, length) => {
-            println!(sheet; "{row} => {length} of {}", text.len());
+            println!(sheet; " {length} of {}", text.len());
             show_request(sheet, &request);
         }
-        answer => println!(sheet; "{row} => {}", code_of(&answer)),
+        answer => println!(sheet; " {}", code_of(&answer)),
     }
 }
 
@@ -167,9 +141,8 @@ fn show_conditions(sheet: &mut Sheet, request: &Request) {
 pub fn show_hosts(sheet: &mut Sheet, alloc: Global) -> Result<(), NoMemory> {
     for byte in 0..=255u8 {
         let mut text = text_of(alloc, "GET / HTTP/1.1|Host: a", Marks::Heads)?;
-        text.add(&[byte])?;
-        text.add(b"b\r\n\r\n")?;
-        let code = code_of(&next_head(alloc, text.as_slice(), &LIMITS));
+        text.add_pair(&[byte], b"b\r\n\r\n")?;
+        let code = head_code(alloc, text.as_slice(), LIMITS);
         println!(sheet; "{byte} => {code}");
     }
     Ok(())

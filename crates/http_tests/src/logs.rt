@@ -37,28 +37,14 @@ pub fn show_lines(
 /// Adds the line of the response of the row to the log.
 fn add_line(log: &mut Octets, alloc: Global, limit: u32, row: &str) -> Result<(), NoMemory> {
     let (response, head) = response_of(row);
-    let received = text_of(alloc, head, Marks::Heads)?;
-    write_line(
-        log,
-        alloc,
-        response,
-        request_line(received.as_slice(), limit),
-    )
-}
-
-/// Writes the line of the response.
-fn write_line(
-    log: &mut Octets,
-    alloc: Global,
-    response: Response,
-    line: &[u8],
-) -> Result<(), NoMemory> {
     let Response {
         peer,
         date,
         code,
         size,
     } = response;
+    let received = text_of(alloc, head, Marks::Heads)?;
+    let line = request_line(received.as_slice(), limit);
     log_line(alloc, log, peer, date.min(LAST_SECOND), code, line, size)
 }
 

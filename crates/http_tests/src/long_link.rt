@@ -2,11 +2,11 @@
 ghost use Rattle.std.specs.Prelude.{◌≡◌, ◌≤◌, None, Some, length};
 
 use http_server::Log;
-use mpm_base::{Got, Link, NoMemory, Octets, Sent};
+use mpm_base::{Got, Link, NoMemory, Octets, Sent, Sequence};
 use std::alloc::Global;
 
 /// Which part of its bytes a client sends now.
-#[derive(Clone, Copy, Debug, PartialEq, Eq)]
+#[derive(Clone, Copy)]
 enum Part {
     Front,
     Unit,
@@ -17,9 +17,8 @@ enum Part {
 /// A client that sends a front, a unit so many times, and a back, none of which is empty. It makes these bytes as they are read.
 #[derive(Drop)]
 struct LongClient {
-    front: Octets,
-    unit: Octets,
-    back: Octets,
+    // The front, how often the unit is sent, the unit and the back.
+    parts: Sequence<Octets>,
     part: Part,
     // How many bytes of the part were given, and how many units follow it.
     given: usize,
@@ -29,11 +28,15 @@ struct LongClient {
 impl LongClient {
     /// The bytes of the part that were not given yet.
     fn rest(&self) -> &[u8] {
-        let part = match self.part {
-            Part::Front => self.front.as_slice(),
-            Part::Unit => self.unit.as_slice(),
-            Part::Back => self.back.as_slice(),
-            Part::Nothing => &[],
+        let place = match self.part {
+            Part::Front => 0,
+            Part::Unit => 2,
+            Part::Back => 3,
+            Part::Nothing => return &[],
+        };
+        let part = match self.parts.get(place) {
+            Some(part) => part.as_slice(),
+            None => &[],
         };
         &part[self.given.min(part.len())..]
     }
@@ -70,7 +73,7 @@ impl LongClient {
 }
 
 /// How a link was called.
-#[derive(Clone, Copy, Debug)]
+#[derive(Clone, Copy)]
 pub struct LinkUse {
     /// How many reads there were.
     pub reads: u64,
@@ -80,25 +83,14 @@ pub struct LinkUse {
     pub writes: u64,
 }
 
-impl LinkUse {
-    /// Counts a read that has room for so many bytes.
-    fn add_read(&mut self, room: usize) {
-        self.reads = self.reads.saturating_add(1);
-        self.room = self.room.max(room);
-    }
-
-    /// Counts a write.
-    fn add_write(&mut self) {
-        self.writes = self.writes.saturating_add(1);
-    }
-}
-
 /// The link of such a client, which has room for all that is written to it. It tells its calls, and counts them.
 #[derive(Drop)]
 pub struct LongLink {
     client: LongClient,
-    taken: Octets,
-    calls: LinkUse,
+    /// The bytes that its writes took.
+    pub taken: Octets,
+    /// How it was called so far.
+    pub calls: LinkUse,
     // Kept for clauses alone.
     read_log: Log<usize, Got>,
     write_log: Log<usize, Sent>,
@@ -108,13 +100,11 @@ pub struct LongLink {
 }
 
 impl LongLink {
-    /// A link of which nothing was read.
-    pub fn make(alloc: Global, front: Octets, unit: Octets, times: u64, back: Octets) -> LongLink {
+    /// A link of which nothing was read, of a client that sends these parts, one of them so many times.
+    pub fn make(alloc: Global, parts: Sequence<Octets>, times: u64) -> LongLink {
         LongLink {
             client: LongClient {
-                front,
-                unit,
-                back,
+                parts,
                 part: Part::Front,
                 given: 0,
                 times,
@@ -132,16 +122,6 @@ impl LongLink {
             ends: 0,
         }
     }
-
-    /// The bytes that its writes took.
-    pub fn sent(&self) -> &[u8] {
-        self.taken.as_slice()
-    }
-
-    /// How it was called so far.
-    pub fn calls(&self) -> LinkUse {
-        self.calls
-    }
 }
 
 impl Link for LongLink {
@@ -152,7 +132,8 @@ impl Link for LongLink {
     /// Gives bytes of one part.
     fn read(&mut self, buffer: &mut [u8]) -> Got {
         let room = buffer.len();
-        self.calls.add_read(room);
+        self.calls.reads = self.calls.reads.saturating_add(1);
+        self.calls.room = self.calls.room.max(room);
         let got = if matches!(self.client.part, Part::Nothing) {
             self.ends = self.ends.saturating_add(1);
             Got::End
@@ -170,7 +151,7 @@ impl Link for LongLink {
     }
 
     fn write(&mut self, bytes: &[u8]) -> Sent {
-        self.calls.add_write();
+        self.calls.writes = self.calls.writes.saturating_add(1);
         let sent = match self.taken.add(bytes) {
             Ok(()) => Sent::Put(bytes.len() as u64),
             Err(NoMemory) => {
@@ -183,7 +164,7 @@ impl Link for LongLink {
     }
 
     fn write_pair(&mut self, first: &[u8], second: &[u8]) -> Sent {
-        self.calls.add_write();
+        self.calls.writes = self.calls.writes.saturating_add(1);
         let before = self.taken.len();
         let sent = match self.taken.add_pair(first, second) {
             Ok(()) => Sent::Put((self.taken.len() - before) as u64),

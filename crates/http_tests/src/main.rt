@@ -27,16 +27,16 @@ mod large;
 mod leaving;
 mod logs;
 mod long_link;
-mod marked;
 mod pages;
 mod responses;
+mod sites;
 mod test_conn;
 mod turn_answers;
 
 use mpm_base::NoMemory;
 use std::alloc::Global;
 use std::io;
-use test_rows::{Section, Sheet, grown, open_section, sections_of};
+use test_rows::{Marks, Section, Sheet, grown, open_section, sections_of, text_of};
 
 fn main(rt: HostRuntime) -> io::Result<()> {
     let input = io::read_to_string(rt.alloc(), rt.reader())?;
@@ -55,26 +55,68 @@ fn sheet_of(alloc: Global, text: &str) -> Result<Sheet, NoMemory> {
     Ok(sheet)
 }
 
-/// Shows what comes of the rows of the section.
+/// Shows what comes of the section.
 fn show_section(sheet: &mut Sheet, alloc: Global, section: Section<'_>) -> Result<(), NoMemory> {
-    let Section { word, rest, rows } = section;
-    match word {
-        "body" if rest == "looks" => bodies::show_looks(sheet, alloc, rows),
-        "body" => bodies::show_bodies(sheet, alloc, rest, rows),
-        "gibibyte" => bodies::show_gibibyte(sheet, alloc, rows),
-        "heads" => heads::show_heads(sheet, alloc, rest, rows),
-        "requests" => heads::show_requests(sheet, alloc, rows),
+    match section.word {
         "hosts" => heads::show_hosts(sheet, alloc),
-        "answers" => responses::show_answers(sheet, alloc, rest, rows),
-        "refusals" => responses::show_refusals(sheet, alloc, rows),
         "continue" => responses::show_continue(sheet, alloc),
-        "conn" => conns::show_turns(sheet, alloc, rows),
-        "cuts" => conns::show_cuts(sheet, alloc, rows),
-        "long" => large::show_long(sheet, alloc, rows),
-        "calls" => large::show_calls(sheet, alloc, rows),
-        "log" => logs::show_lines(sheet, alloc, rest, rows),
+        "conn" => conns::show_turns(sheet, alloc, section.rows),
+        "calls" => large::show_calls(sheet, alloc, section.rows),
+        "log" => logs::show_lines(sheet, alloc, section.rest, section.rows),
         "escapes" => logs::show_escapes(sheet, alloc),
-        "slow" => large::show_slow(sheet, alloc, rows),
-        _ => pages::show_pages(sheet, alloc, rows),
+        _ => show_rows(sheet, alloc, section),
+    }
+}
+
+/// Shows what comes of each row of the section.
+fn show_rows(sheet: &mut Sheet, alloc: Global, section: Section<'_>) -> Result<(), NoMemory> {
+    for row in section.rows.lines() {
+        print!(sheet; "{row} =>");
+        show_row(sheet, alloc, section, row)?;
+    }
+    Ok(())
+}
+
+/// Shows what comes of the row of the section.
+fn show_row(
+    sheet: &mut Sheet,
+    alloc: Global,
+    section: Section<'_>,
+    row: &str,
+) -> Result<(), NoMemory> {
+    match section.word {
+        "refusals" => responses::show_refusal(sheet, alloc, row),
+        "long" => large::show_long(sheet, alloc, row),
+        "slow" => large::show_slow(sheet, alloc, row),
+        "pages" => pages::show_page(sheet, alloc, row),
+        _ => show_text(sheet, alloc, section, row),
+    }
+}
+
+/// Shows what comes of the text that the row writes.
+fn show_text(
+    sheet: &mut Sheet,
+    alloc: Global,
+    section: Section<'_>,
+    row: &str,
+) -> Result<(), NoMemory> {
+    let text = text_of(alloc, row, Marks::Heads)?;
+    match section.word {
+        "answers" => responses::show_answer(sheet, alloc, section.rest, text.as_slice()),
+        "gibibyte" => bodies::show_gibibyte(sheet, alloc, row, text.as_slice()),
+        "cuts" => conns::show_client(sheet, alloc, text.as_slice()),
+        _ => {
+            show_read(sheet, alloc, section, text.as_slice());
+            Ok(())
+        }
+    }
+}
+
+/// Shows what is read in the text.
+fn show_read(sheet: &mut Sheet, alloc: Global, section: Section<'_>, text: &[u8]) {
+    match section.word {
+        "heads" => heads::show_head(sheet, alloc, section.rest, text),
+        "requests" => heads::show_asked(sheet, alloc, text),
+        _ => bodies::show_body(sheet, section.rest, text),
     }
 }

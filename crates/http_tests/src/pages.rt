@@ -7,16 +7,14 @@ use std::alloc::Global;
 use std::str::Split;
 use test_rows::{Sheet, small_of};
 
-/// Shows both pages of each snapshot, and how many bytes they have.
-pub fn show_pages(sheet: &mut Sheet, alloc: Global, rows: &str) -> Result<(), NoMemory> {
-    for row in rows.lines() {
-        let snapshot = snapshot_of(alloc, row)?;
-        let text = page_auto(alloc, &snapshot)?;
-        let page = page_html(alloc, &snapshot)?;
-        println!(sheet; "{row} => {} and {}", text.len(), page.len());
-        sheet.text(text.as_slice());
-        sheet.text(page.as_slice());
-    }
+/// Shows both pages of the snapshot of the row, and how many bytes they have.
+pub fn show_page(sheet: &mut Sheet, alloc: Global, row: &str) -> Result<(), NoMemory> {
+    let snapshot = snapshot_of(alloc, row)?;
+    let text = page_auto(alloc, &snapshot)?;
+    let page = page_html(alloc, &snapshot)?;
+    println!(sheet; " {} and {}", text.len(), page.len());
+    sheet.text(text.as_slice());
+    sheet.text(page.as_slice());
     Ok(())
 }
 

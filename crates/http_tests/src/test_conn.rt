@@ -71,9 +71,15 @@ impl<L: Link> TestConn<L> {
     /// Shows what it says of itself.
     pub fn show(&self, sheet: &mut Sheet) {
         let conn = &self.conn;
-        print!(sheet; "show => {:?}, child {}", conn.name(), conn.child());
-        print!(sheet; ", pending {}, noted {}", conn.pending(), conn.noted());
-        println!(sheet; ", rest empty {}, last {}", conn.rest_empty(), conn.last());
+        println!(sheet;
+            "show => {:?}, child {}, pending {}, noted {}, rest empty {}, last {}",
+            conn.name(),
+            conn.child(),
+            conn.pending(),
+            conn.noted(),
+            conn.rest_empty(),
+            conn.last()
+        );
     }
 
     /// Whether nothing failed, and its link was not half-closed.

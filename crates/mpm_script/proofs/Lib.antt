@@ -10,4 +10,5 @@ pub mod LoadLemmas
 pub mod NameChainLemmas
 pub mod NamePlaceLemmas
 pub mod OptionLemmas
+pub mod ReadLineLemmas
 pub mod SequenceLemmas

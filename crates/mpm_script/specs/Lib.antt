@@ -9,5 +9,6 @@ pub mod NameChains
 pub mod NameChainsInside
 pub mod NamePlaces
 pub mod NamePlacesInside
+pub mod ReadLinesInside
 pub mod Script
 pub mod ScriptLine

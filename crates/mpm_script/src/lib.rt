@@ -18,6 +18,7 @@ mod line_words;
 mod load;
 mod name_chains;
 mod name_places;
+mod read_lines;
 mod script;
 
 pub use commands::command_line;

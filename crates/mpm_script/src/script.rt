@@ -2,16 +2,16 @@
 //!
 //! A script is a list of lines, each ended by a line feed (`specs/Script.antt`); which text is which line stands in
 //! `specs/ScriptLine.antt`, and what a TEXT spells in `specs/Escapes.antt`.
-ghost use Rattle.std.specs.Prelude.{◌≡◌, ℕ, List, [], ◌∷◌, ◌++◌, length, Result, IfSome, IfNone, IfOk, MatchOption, OnOk, OnErr};
+ghost use Rattle.std.specs.Prelude.{◌≡◌, ◌<◌, ℕ, List, [], ◌∷◌, ◌++◌, length, Result, Err, IfErr, IfSome, IfNone, IfOk, MatchOption, OnOk, OnErr};
 ghost use Rattle.std.specs.List.{prefix_len};
 ghost use Rattle.mpm_script.specs.FileNames.{HaveTextNames};
+ghost use Rattle.mpm_script.specs.ReadLinesInside.{AreRead, ReadsLine, RefusesLine};
 ghost use Rattle.mpm_script.specs.Script.{Begins, BeginsWithLine, IsSureAnswer, IsScript, ScriptIs, is_line_byte};
 ghost use Rattle.mpm_base.specs.declared.script_line.ScriptLine.{ScriptLine as Line};
 ghost use Rattle.mpm_script.specs.declared.script.ScriptFault.{ScriptFault as Fault};
 
-use crate::agreement::{add_name, is_backwards, is_repeated, is_unknown, moment_after};
 use crate::line_reader::{line_of, one_line};
-use crate::name_places::NamePlaces;
+use crate::read_lines::ReadLines;
 use mpm_base::{NoMemory, ScriptLine};
 use std::alloc::Global;
 use std::marker::Model;
@@ -98,31 +98,47 @@ pub fn read_script(alloc: Global, bytes: &[u8]) -> Result<Script, ScriptFault>
     ensures names { IfOk result (λ script. HaveTextNames script) }
 {
     file_names_are_texts();
-    one_line();
-    let mut script = Script::make(alloc);
-    let mut names = NamePlaces::make(alloc);
-    let mut moment = 0;
+    let mut read = ReadLines::make(alloc);
+    read_lines(alloc, &mut read, bytes)?;
+    Ok(read.into_script())
+}
+
+/// Reads all lines of the bytes.
+fn read_lines(alloc: Global, read: &mut ReadLines, bytes: &[u8]) -> Result<(), ScriptFault>
+    requires none { read.old.script ≡ [] }
+    requires read { AreRead read.old }
+    ensures ok { OnOk result (IsScript bytes.now read.new.script) }
+    ensures err { IfErr result (λ fault. ScriptIs bytes.now (Err fault)) }
+{
     let mut rest = bytes;
     'lines: while !rest.is_empty() {
-        let number = script.lines().len() as u64 + 1;
-        let Some((line, behind)) = next_line(alloc, rest)? else {
-            return Err(ScriptFault::BadLine(number));
-        };
-        if is_repeated(&names, &line) {
-            return Err(ScriptFault::BadLine(number));
-        }
-        if is_backwards(moment, &line) {
-            return Err(ScriptFault::MomentBackwards(number));
-        }
-        if is_unknown(&names, &line) {
-            return Err(ScriptFault::UnknownName(number));
-        }
-        moment = moment_after(moment, &line);
-        add_name(alloc, &mut names, &line)?;
-        script.add(line)?;
+        let behind = read_line(alloc, read, rest)?;
         rest = behind;
     }
-    Ok(script)
+    Ok(())
+}
+
+/// Reads the line that the bytes begin with, and answers the bytes behind it.
+fn read_line<'a>(
+    alloc: Global,
+    read: &mut ReadLines,
+    bytes: &'a [u8],
+) -> Result<&'a [u8], ScriptFault>
+    requires some { 0 < length bytes.now }
+    requires read { AreRead read.old }
+    ensures line { IfOk result (λ rest.
+        ReadsLine bytes.now rest.now read.old.script read.new.script) }
+    ensures read { IfOk result (λ _. AreRead read.new) }
+    ensures err { IfErr result (RefusesLine read.old.script bytes.now) }
+{
+    one_line();
+    let number = read.next_number();
+    let Some((line, rest)) = next_line(alloc, bytes)? else {
+        return Err(ScriptFault::BadLine(number));
+    };
+    read.check(number, &line)?;
+    read.add(alloc, line)?;
+    Ok(rest)
 }
 
 /// A law of scripts: bytes have one answer, unless memory lacks.

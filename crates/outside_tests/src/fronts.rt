@@ -9,9 +9,8 @@ use mpm_base::{
 use script_front::{FailingFront, ScriptBell, ScriptFront};
 use stand_ins::ScriptLink;
 use std::alloc::Global;
-use std::io::{self, ErrorKind};
 use std::sync::Wait;
-use test_rows::{grown, number_of, small_of, words};
+use test_rows::{Sheet, small_of, words};
 
 /// A front, the slots of its last wait, and the links that it handed out and that weren't turned away.
 #[derive(Drop)]
@@ -23,27 +22,29 @@ struct Play {
 
 /// Shows what a front of the script in the first row answers to each call. The calls of these lists fail: the numbers of the waits, a
 /// semicolon, those of the accepts, and perhaps a further one and those of the watches.
-pub fn show_front<R: Print + Wait>(
+pub fn show_front<R: Wait>(
+    sheet: &mut Sheet,
     rt: &R,
     alloc: Global,
     lists: &str,
     rows: &str,
-) -> io::Result<()> {
+) -> Result<(), NoMemory> {
     let (script, calls) = rows.split_once('\n').unwrap_or((rows, ""));
-    let mut play = grown(play_of(alloc, script, lists))?;
-    show_calls(rt, alloc, &mut play, calls)
+    let mut play = play_of(alloc, script, lists)?;
+    show_calls(sheet, rt, alloc, &mut play, calls)
 }
 
 /// Shows each call, and what is answered to it.
-fn show_calls<R: Print + Wait>(
+fn show_calls<R: Wait>(
+    sheet: &mut Sheet,
     rt: &R,
     alloc: Global,
     play: &mut Play,
     calls: &str,
-) -> io::Result<()> {
+) -> Result<(), NoMemory> {
     for call in calls.lines() {
-        print!(rt; "{call} => ")?;
-        show_call(rt, alloc, play, call)?;
+        print!(sheet; "{call} => ");
+        show_call(sheet, rt, alloc, play, call)?;
     }
     Ok(())
 }
@@ -69,39 +70,49 @@ fn front_of(alloc: Global, row: &str, lists: &str) -> Result<FailingFront, NoMem
 }
 
 /// Shows what the front, or one of its links, answers to the call.
-fn show_call<R: Print + Wait>(
+fn show_call<R: Wait>(
+    sheet: &mut Sheet,
     rt: &R,
     alloc: Global,
     play: &mut Play,
     call: &str,
-) -> io::Result<()> {
+) -> Result<(), NoMemory> {
     let (word, rest) = words(call);
     match word {
-        "wait" => show_wait(rt, play, rest),
-        "accept" => show_accept(rt, play),
-        "turn" => show_turn(rt, play),
-        "watch" => show_watch(rt, play, rest),
-        "all" => show_all(rt, play),
-        "bind" | "hush" => show_told(rt, play, word),
-        "command" => show_command(rt, play),
-        "faults" => show_faults(rt, play),
-        "answer" => show_answer(rt, play, rest),
-        "dial" => show_dial(rt, alloc, play, rest),
-        "bell" => show_bell(rt, alloc, play),
-        _ => show_link_call(rt, alloc, play.links.as_mut_slice(), word, rest),
+        "accept" => return show_accept(sheet, play),
+        "all" => return show_all(sheet, play),
+        "bell" => return show_bell(sheet, alloc, play),
+        "wait" => show_wait(sheet, rt, play, rest),
+        "dial" => show_dial(sheet, alloc, play, rest),
+        _ => show_plain_call(sheet, play, word, rest),
+    }
+    Ok(())
+}
+
+/// The same of a call that takes no memory and waits for nothing.
+fn show_plain_call(sheet: &mut Sheet, play: &mut Play, word: &str, rest: &str) {
+    match word {
+        "turn" => show_turn(sheet, play),
+        "watch" => show_watch(sheet, play, rest),
+        "bind" | "hush" => show_told(sheet, play, word),
+        "command" => show_command(sheet, play),
+        "faults" => show_faults(sheet, play),
+        "answer" => show_answer(sheet, play, rest),
+        _ => show_link_call(sheet, play.links.as_mut_slice(), word, rest),
     }
 }
 
 /// Shows the answer of a wait, the slots that it gave, and how many lines of the script have happened.
-fn show_wait<R: Print + Wait>(rt: &R, play: &mut Play, rest: &str) -> io::Result<()> {
+fn show_wait<R: Wait>(sheet: &mut Sheet, rt: &R, play: &mut Play, rest: &str) {
     let (moment, word) = words(rest);
     let woke = woken(rt, play, moment.parse::<Moment>().ok(), word == "quiet");
-    println!(rt;
-        "{woke:?} {:?}, {} of {} lines",
-        play.ready.slots(),
-        play.front.front().happened(),
-        play.front.front().script().lines().len()
-    )
+    print!(sheet; "{woke:?} {:?}, ", play.ready.slots());
+    let front = play.front.front();
+    println!(sheet;
+        "{} of {} lines",
+        front.happened(),
+        front.script().lines().len()
+    );
 }
 
 fn woken<R: Wait>(rt: &R, play: &mut Play, until: Option<Moment>, quiet: bool) -> Woke {
@@ -117,33 +128,39 @@ enum Taken {
 }
 
 /// Takes the next link, and keeps it.
-fn take(play: &mut Play) -> io::Result<Taken> {
+fn take(play: &mut Play) -> Result<Taken, NoMemory> {
     match play.front.accept() {
-        Arrival::Some(link) => {
-            play.links.push(link)?;
-            Ok(Taken::Link)
-        }
+        Arrival::Some(link) => keep(&mut play.links, link),
         Arrival::None => Ok(Taken::None),
         Arrival::Failed => Ok(Taken::Failed),
     }
 }
 
-fn show_accept(rt: &impl Print, play: &mut Play) -> io::Result<()> {
-    let number = play.links.len();
-    match take(play)? {
-        Taken::Link => println!(rt; "link {number}"),
-        Taken::None => println!(rt; "none"),
-        Taken::Failed => println!(rt; "failed"),
+/// Keeps the link behind those that are there.
+fn keep(links: &mut Vec<ScriptLink>, link: ScriptLink) -> Result<Taken, NoMemory> {
+    match links.push(link) {
+        Ok(()) => Ok(Taken::Link),
+        Err(_) => Err(NoMemory),
     }
 }
 
-fn show_turn(rt: &impl Print, play: &mut Play) -> io::Result<()> {
+fn show_accept(sheet: &mut Sheet, play: &mut Play) -> Result<(), NoMemory> {
+    let number = play.links.len();
+    match take(play)? {
+        Taken::Link => println!(sheet; "link {number}"),
+        Taken::None => sheet.print("none\n"),
+        Taken::Failed => sheet.print("failed\n"),
+    }
+    Ok(())
+}
+
+fn show_turn(sheet: &mut Sheet, play: &mut Play) {
     match play.links.pop() {
         Some(link) => {
             turn(play, link);
-            println!(rt; "done")
+            sheet.print("done\n");
         }
-        None => println!(rt; "there is no such link"),
+        None => sheet.print("there is no such link\n"),
     }
 }
 
@@ -151,12 +168,10 @@ fn turn(play: &mut Play, link: ScriptLink) {
     play.front.turn_away(link);
 }
 
-fn show_watch(rt: &impl Print, play: &mut Play, rest: &str) -> io::Result<()> {
+fn show_watch(sheet: &mut Sheet, play: &mut Play, rest: &str) {
     let (number, slot) = words(rest);
-    println!(rt;
-        "{}",
-        is_watched(play, small_of(number) as usize, small_of(slot))
-    )
+    let is = is_watched(play, small_of(number) as usize, small_of(slot));
+    println!(sheet; "{is}");
 }
 
 /// Whether the link of that number is watched now.
@@ -168,28 +183,36 @@ fn is_watched(play: &mut Play, number: usize, slot: u32) -> bool {
 }
 
 /// Takes each link that waits and watches it. No accept is to fail.
-fn show_all(rt: &impl Print, play: &mut Play) -> io::Result<()> {
+fn show_all(sheet: &mut Sheet, play: &mut Play) -> Result<(), NoMemory> {
     for slot in 0..u32::MAX {
         let number = play.links.len();
         match take(play)? {
-            Taken::Link => (),
-            Taken::None => return println!(rt; "{slot} links"),
-            Taken::Failed => return Err(io::Error::from(ErrorKind::Other)),
-        }
-        if !is_watched(play, number, slot) {
-            return println!(rt; "link {number} isn't watched");
+            Taken::Link if is_watched(play, number, slot) => (),
+            Taken::Link => {
+                println!(sheet; "link {number} isn't watched");
+                return Ok(());
+            }
+            Taken::None => {
+                println!(sheet; "{slot} links");
+                return Ok(());
+            }
+            Taken::Failed => {
+                println!(sheet; "accept {slot} failed");
+                return Ok(());
+            }
         }
     }
-    println!(rt; "no end of links")
+    Ok(())
 }
 
 /// Tells the front to listen or to stop it.
-fn show_told(rt: &impl Print, play: &mut Play, word: &str) -> io::Result<()> {
+fn show_told(sheet: &mut Sheet, play: &mut Play, word: &str) {
     if word == "bind" {
-        println!(rt; "{}", is_bound(play))
+        let is = is_bound(play);
+        println!(sheet; "{is}");
     } else {
         hush(play);
-        println!(rt; "done")
+        sheet.print("done\n");
     }
 }
 
@@ -206,10 +229,10 @@ fn hush(play: &mut Play) {
 }
 
 /// Reads the next command line.
-fn show_command(rt: &impl Print, play: &mut Play) -> io::Result<()> {
+fn show_command(sheet: &mut Sheet, play: &mut Play) {
     match next_command(play) {
-        Some(line) => println!(rt; "{}", line.as_str()),
-        None => println!(rt; "none"),
+        Some(line) => println!(sheet; "{}", line.as_str()),
+        None => sheet.print("none\n"),
     }
 }
 
@@ -218,18 +241,18 @@ fn next_command(play: &mut Play) -> Option<Line> {
 }
 
 /// Shows how many waits and how many accepts failed.
-fn show_faults(rt: &impl Print, play: &Play) -> io::Result<()> {
-    println!(rt;
+fn show_faults(sheet: &mut Sheet, play: &Play) {
+    println!(sheet;
         "{} waits, {} accepts",
         play.front.faults(),
         play.front.accept_faults()
-    )
+    );
 }
 
 /// Answers the line that was read last.
-fn show_answer(rt: &impl Print, play: &mut Play, text: &str) -> io::Result<()> {
+fn show_answer(sheet: &mut Sheet, play: &mut Play, text: &str) {
     answer(play, text);
-    println!(rt; "done")
+    sheet.print("done\n");
 }
 
 fn answer(play: &mut Play, text: &str) {
@@ -239,11 +262,11 @@ fn answer(play: &mut Play, text: &str) {
 }
 
 /// Shows the answer of a dial, and how many bytes came back.
-fn show_dial(rt: &impl Print, alloc: Global, play: &mut Play, rest: &str) -> io::Result<()> {
+fn show_dial(sheet: &mut Sheet, alloc: Global, play: &mut Play, rest: &str) {
     let (port, word) = words(rest);
     let mut came = Octets::make(alloc);
     let dialled = is_dialled(play, port.parse::<u16>().unwrap_or(0), word, &mut came);
-    println!(rt; "{dialled}, {} bytes", came.len())
+    println!(sheet; "{dialled}, {} bytes", came.len());
 }
 
 fn is_dialled(play: &mut Play, port: u16, word: &str, came: &mut Octets) -> bool {
@@ -251,10 +274,11 @@ fn is_dialled(play: &mut Play, port: u16, word: &str, came: &mut Octets) -> bool
 }
 
 /// Makes a bell of the front and rings it.
-fn show_bell(rt: &impl Print, alloc: Global, play: &mut Play) -> io::Result<()> {
-    let bell = grown(bell_of(alloc, play))?;
+fn show_bell(sheet: &mut Sheet, alloc: Global, play: &mut Play) -> Result<(), NoMemory> {
+    let bell = bell_of(alloc, play)?;
     bell.ring();
-    println!(rt; "done")
+    sheet.print("done\n");
+    Ok(())
 }
 
 fn bell_of(alloc: Global, play: &mut Play) -> Result<ScriptBell, NoMemory> {

@@ -3,44 +3,43 @@ use crate::calls::calls_of;
 use mpm_base::{Got, Link, LinkCall, NoMemory, Octets};
 use stand_ins::{Calls, PlainLink, ScriptLink, Wire};
 use std::alloc::Global;
-use std::io;
 use std::str::Lines;
 use std::sync::Arc;
-use test_rows::{Marks, grown, number_of, show_bytes, small_of, text_of, words};
+use test_rows::{Marks, Sheet, number_of, small_of, text_of, words};
 
 /// A link that can be shown.
 trait Shown {
     /// Shows what the link says of itself.
-    fn show(&self, rt: &impl Print, alloc: Global) -> io::Result<()>;
+    fn show(&self, sheet: &mut Sheet);
 }
 
 impl Shown for PlainLink {
-    fn show(&self, rt: &impl Print, alloc: Global) -> io::Result<()> {
-        show_bytes(rt, alloc, "left", self.left())?;
-        show_bytes(rt, alloc, ", received", self.received())?;
-        show_bytes(rt, alloc, ", before shut", self.before_shut())?;
-        show_bytes(rt, alloc, ", sent", self.sent())?;
-        println!(rt;
+    fn show(&self, sheet: &mut Sheet) {
+        sheet.bytes("left", self.left());
+        sheet.bytes(", received", self.received());
+        sheet.bytes(", before shut", self.before_shut());
+        sheet.bytes(", sent", self.sent());
+        println!(sheet;
             ", rank {}, {} shuts, {} closes",
             self.rank(),
             self.shuts(),
             self.closes()
-        )
+        );
     }
 }
 
 impl Shown for ScriptLink {
-    fn show(&self, rt: &impl Print, alloc: Global) -> io::Result<()> {
-        show_bytes(rt, alloc, "left", self.left())?;
-        show_bytes(rt, alloc, ", received", self.received())?;
-        show_bytes(rt, alloc, ", sent", self.sent())?;
-        println!(rt;
+    fn show(&self, sheet: &mut Sheet) {
+        sheet.bytes("left", self.left());
+        sheet.bytes(", received", self.received());
+        sheet.bytes(", sent", self.sent());
+        println!(sheet;
             ", rank {}, {} shuts, {} closes, {} faults",
             self.rank(),
             self.shuts(),
             self.closes(),
             self.faults()
-        )
+        );
     }
 }
 
@@ -72,114 +71,123 @@ fn parts_of(alloc: Global, rows: &mut Lines<'_>) -> Result<Parts, NoMemory> {
 }
 
 /// Shows what a link of that kind answers to each call.
-pub fn show_link(rt: &impl Print, alloc: Global, kind: &str, rows: &str) -> io::Result<()> {
+pub fn show_link(sheet: &mut Sheet, alloc: Global, kind: &str, rows: &str) -> Result<(), NoMemory> {
     let mut calls = rows.lines();
-    let parts = grown(parts_of(alloc, &mut calls))?;
-    let wire = Arc::new(alloc, Wire::make())?;
+    let parts = parts_of(alloc, &mut calls)?;
+    match kind {
+        "plain" => {
+            show_plain(sheet, alloc, parts, calls);
+            Ok(())
+        }
+        "listed" => {
+            show_listed(sheet, alloc, parts, calls);
+            Ok(())
+        }
+        _ => show_paced(sheet, alloc, parts, calls),
+    }
+}
+
+/// Shows what a plain link of these parts answers to each call.
+fn show_plain(sheet: &mut Sheet, alloc: Global, parts: Parts, calls: Lines<'_>) {
+    let mut link = PlainLink::make(alloc, parts.rank, parts.coming, parts.ends);
+    show_calls(sheet, &Wire::make(), &mut link, calls);
+}
+
+/// Shows what a link answers to each call whose listed reads and writes fail.
+fn show_listed(sheet: &mut Sheet, alloc: Global, parts: Parts, calls: Lines<'_>) {
     let Parts {
         coming,
         rank,
         ends,
         reads,
         writes,
+        drops: _,
+    } = parts;
+    let mut link = ScriptLink::make(alloc, rank, coming, ends, reads, writes);
+    show_calls(sheet, &Wire::make(), &mut link, calls);
+}
+
+/// Shows what a link answers to each call that a wire paces.
+fn show_paced(
+    sheet: &mut Sheet,
+    alloc: Global,
+    parts: Parts,
+    calls: Lines<'_>,
+) -> Result<(), NoMemory> {
+    let Ok(wire) = Arc::new(alloc, Wire::make()) else {
+        return Err(NoMemory);
+    };
+    let Ok(theirs) = Arc::try_clone(&wire) else {
+        return Err(NoMemory);
+    };
+    let Parts {
+        coming,
+        rank,
+        ends: _,
+        reads,
+        writes,
         drops,
     } = parts;
-    match kind {
-        "plain" => {
-            let mut link = PlainLink::make(alloc, rank, coming, ends);
-            show_calls(rt, alloc, &wire, &mut link, calls)
-        }
-        "listed" => {
-            let mut link = ScriptLink::make(alloc, rank, coming, ends, reads, writes);
-            show_calls(rt, alloc, &wire, &mut link, calls)
-        }
-        _ => {
-            let theirs = Arc::try_clone(&wire)?;
-            let mut link = ScriptLink::paced(alloc, rank, coming, theirs, reads, writes, drops);
-            show_calls(rt, alloc, &wire, &mut link, calls)
-        }
-    }
+    let mut link = ScriptLink::paced(alloc, rank, coming, theirs, reads, writes, drops);
+    show_calls(sheet, &wire, &mut link, calls);
+    Ok(())
 }
 
 /// Shows what the link answers to each call, and what it says of itself at the end.
-fn show_calls<L: Link + Shown>(
-    rt: &impl Print,
-    alloc: Global,
-    wire: &Wire,
-    link: &mut L,
-    calls: Lines<'_>,
-) -> io::Result<()> {
+fn show_calls<L: Link + Shown>(sheet: &mut Sheet, wire: &Wire, link: &mut L, calls: Lines<'_>) {
     for call in calls {
-        print!(rt; "{call} => ")?;
-        show_call(rt, alloc, wire, link, call)?;
+        print!(sheet; "{call} => ");
+        show_call(sheet, wire, link, call);
     }
-    link.show(rt, alloc)
+    link.show(sheet);
 }
 
 /// Shows what the link answers to the call.
-fn show_call<L: Link + Shown>(
-    rt: &impl Print,
-    alloc: Global,
-    wire: &Wire,
-    link: &mut L,
-    call: &str,
-) -> io::Result<()> {
+fn show_call<L: Link + Shown>(sheet: &mut Sheet, wire: &Wire, link: &mut L, call: &str) {
     let (word, rest) = words(call);
     match word {
-        "read" | "write" | "shut" | "close" | "show" => show_answer(rt, alloc, link, word, rest),
-        _ => show_pace(rt, wire, word, rest),
+        "read" | "write" | "shut" | "close" | "show" => show_answer(sheet, link, word, rest),
+        _ => show_pace(sheet, wire, word, rest),
     }
 }
 
 /// Shows what the link of that number answers to a call of it.
-pub fn show_link_call(
-    rt: &impl Print,
-    alloc: Global,
-    links: &mut [ScriptLink],
-    word: &str,
-    rest: &str,
-) -> io::Result<()> {
+pub fn show_link_call(sheet: &mut Sheet, links: &mut [ScriptLink], word: &str, rest: &str) {
     let (number, what) = words(rest);
     match links.get_mut(small_of(number) as usize) {
-        Some(link) => show_answer(rt, alloc, link, word, what),
-        None => println!(rt; "there is no such link"),
+        Some(link) => show_answer(sheet, link, word, what),
+        None => sheet.print("there is no such link\n"),
     }
 }
 
 /// Shows what the link answers to the call, or what it says of itself.
-fn show_answer<L: Link + Shown>(
-    rt: &impl Print,
-    alloc: Global,
-    link: &mut L,
-    word: &str,
-    what: &str,
-) -> io::Result<()> {
+fn show_answer<L: Link + Shown>(sheet: &mut Sheet, link: &mut L, word: &str, what: &str) {
     match word {
-        "read" => show_read(rt, alloc, link, number_of(what)),
-        "write" => println!(rt; "{:?}", link.write(what.as_bytes())),
-        "shut" => println!(rt; "{}", link.shut()),
+        "read" => show_read(sheet, link, number_of(what)),
+        "write" => println!(sheet; "{:?}", link.write(what.as_bytes())),
+        "shut" => println!(sheet; "{}", link.shut()),
         "close" => {
             link.close();
-            println!(rt; "done")
+            sheet.print("done\n");
         }
-        _ => link.show(rt, alloc),
+        _ => link.show(sheet),
     }
 }
 
 /// Shows what a read into so many bytes answers, at most eight.
-fn show_read<L: Link>(rt: &impl Print, alloc: Global, link: &mut L, room: u64) -> io::Result<()> {
+fn show_read<L: Link>(sheet: &mut Sheet, link: &mut L, room: u64) {
     let mut buffer = [0u8; 8];
     let end = room.min(8) as usize;
     let got = link.read(&mut buffer[..end]);
-    print!(rt; "{got:?}")?;
+    print!(sheet; "{got:?}");
     if let Got::Got(count) = got {
-        show_bytes(rt, alloc, "", &buffer[..count as usize])?;
+        sheet.bytes("", &buffer[..count as usize]);
     }
-    println!(rt; "")
+    sheet.print("\n");
 }
 
 /// What paces the link says so, and what it then tells.
-fn show_pace(rt: &impl Print, wire: &Wire, word: &str, rest: &str) -> io::Result<()> {
+fn show_pace(sheet: &mut Sheet, wire: &Wire, word: &str, rest: &str) {
     match word {
         "brings" => wire.bring(number_of(rest)),
         "ends" => wire.end(),
@@ -188,10 +196,10 @@ fn show_pace(rt: &impl Print, wire: &Wire, word: &str, rest: &str) -> io::Result
         "fails" => wire.fail(LinkCall::Write),
         _ => wire.drop_link(),
     }
-    println!(rt;
+    println!(sheet;
         "came {}, ended {}, closed {}",
         wire.came(),
         wire.ended(),
         wire.closed()
-    )
+    );
 }

@@ -40,48 +40,62 @@ mod scripts;
 mod sinks;
 mod stores;
 
+use mpm_base::NoMemory;
 use std::alloc::Global;
 use std::io;
 use std::sync::Wait;
-use test_rows::{Section, begin_section, sections_of};
+use test_rows::{Section, Sheet, grown, open_section, sections_of};
 
 fn main(rt: HostRuntime) -> io::Result<()> {
     let input = io::read_to_string(rt.alloc(), rt.reader())?;
-    show_sections(&rt, rt.alloc(), input.as_str())
-}
-
-/// Shows what comes of each section of the input.
-fn show_sections<R: Print + Wait>(rt: &R, alloc: Global, input: &str) -> io::Result<()> {
-    for text in sections_of(input) {
-        let section = begin_section(rt, text)?;
-        show_section(rt, alloc, section)?;
+    for text in sections_of(input.as_str()) {
+        let sheet = grown(sheet_of(&rt, rt.alloc(), text))?;
+        sheet.show(&rt)?;
     }
     Ok(())
 }
 
+/// What comes of the section of this text.
+fn sheet_of<R: Wait>(rt: &R, alloc: Global, text: &str) -> Result<Sheet, NoMemory> {
+    let mut sheet = Sheet::make(alloc);
+    let section = open_section(&mut sheet, text);
+    show_section(&mut sheet, rt, alloc, section)?;
+    Ok(sheet)
+}
+
 /// Shows what comes of the rows of the section.
-fn show_section<R: Print + Wait>(rt: &R, alloc: Global, section: Section<'_>) -> io::Result<()> {
+fn show_section<R: Wait>(
+    sheet: &mut Sheet,
+    rt: &R,
+    alloc: Global,
+    section: Section<'_>,
+) -> Result<(), NoMemory> {
     let Section { word, rows, .. } = section;
     match word {
-        "plain" | "listed" | "paced" => links::show_link(rt, alloc, word, rows),
-        "sink" => sinks::show_sink(rt, alloc, false, rows),
-        "slow" => sinks::show_sink(rt, alloc, true, rows),
-        "log" => sinks::show_log(rt, alloc, false, rows),
-        "slow-log" => sinks::show_log(rt, alloc, true, rows),
-        "files" => stores::show_files(rt, alloc, rows),
-        "store" => match rows.split_once("--\n") {
-            Some((files, calls)) => stores::show_store(rt, alloc, files, calls),
-            None => script_stores::show_stores(rt, alloc, rows),
-        },
-        "editions" => stores::show_editions(rt, alloc, rows),
-        "history" => stores::show_history(rt, alloc, rows),
-        "notes" => notes::show_notes(rt, alloc, rows),
-        "script" => scripts::show_scripts(rt, alloc, rows),
-        "load" => scripts::show_loads(rt, alloc, rows),
+        "plain" | "listed" | "paced" => links::show_link(sheet, alloc, word, rows),
+        "sink" => sinks::show_sink(sheet, alloc, false, rows),
+        "slow" => sinks::show_sink(sheet, alloc, true, rows),
+        "log" => sinks::show_log(sheet, alloc, false, rows),
+        "slow-log" => sinks::show_log(sheet, alloc, true, rows),
+        "files" => stores::show_files(sheet, alloc, rows),
+        "store" => show_stores(sheet, alloc, rows),
+        "editions" => stores::show_editions(sheet, alloc, rows),
+        "history" => stores::show_history(sheet, alloc, rows),
+        "notes" => notes::show_notes(sheet, alloc, rows),
+        "script" => scripts::show_scripts(sheet, alloc, rows),
+        "load" => scripts::show_loads(sheet, alloc, rows),
         "failing" => {
             let (lists, rest) = rows.split_once('\n').unwrap_or((rows, ""));
-            fronts::show_front(rt, alloc, lists, rest)
+            fronts::show_front(sheet, rt, alloc, lists, rest)
         }
-        _ => fronts::show_front(rt, alloc, "", rows),
+        _ => fronts::show_front(sheet, rt, alloc, "", rows),
+    }
+}
+
+/// Shows what a store of the files answers to the calls behind `--`, or where there are none, what the stores of scripts have.
+fn show_stores(sheet: &mut Sheet, alloc: Global, rows: &str) -> Result<(), NoMemory> {
+    match rows.split_once("--\n") {
+        Some((files, calls)) => stores::show_store(sheet, alloc, files, calls),
+        None => script_stores::show_stores(sheet, alloc, rows),
     }
 }

@@ -1,23 +1,26 @@
 //! What notes say.
-use mpm_base::{Note, Notes};
+use mpm_base::{NoMemory, Note, Notes};
 use std::alloc::Global;
-use std::io;
-use test_rows::grown;
+use test_rows::Sheet;
 
 /// Shows whether the last note says that it is the last, at first and behind each of these.
-pub fn show_notes(rt: &impl Print, alloc: Global, rows: &str) -> io::Result<()> {
+pub fn show_notes(sheet: &mut Sheet, alloc: Global, rows: &str) -> Result<(), NoMemory> {
     let mut notes = Notes::make(alloc);
-    println!(rt; "at first => {}", notes.says_last())?;
+    println!(sheet; "at first => {}", notes.says_last());
     for row in rows.lines() {
-        let last = row == "last";
-        grown(notes.push(Note {
-            date: 1,
-            asked_close: !last,
-            last,
-            code: 200,
-            page: None,
-        }))?;
-        println!(rt; "{row} => {}", notes.says_last())?;
+        add_note(&mut notes, row == "last")?;
+        println!(sheet; "{row} => {}", notes.says_last());
     }
     Ok(())
+}
+
+/// Adds a note that says whether it is the last.
+fn add_note(notes: &mut Notes, last: bool) -> Result<(), NoMemory> {
+    notes.push(Note {
+        date: 1,
+        asked_close: !last,
+        last,
+        code: 200,
+        page: None,
+    })
 }

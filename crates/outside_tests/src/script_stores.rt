@@ -1,27 +1,29 @@
 //! The files of scripts' stores, edition by edition.
-use mpm_base::{Content, Second, Store, StoreFault};
+use mpm_base::{Content, Names, NoMemory, Octets, Second, Store, StoreFault};
 use mpm_script::{ScriptFault, read_script};
 use script_front::{CONF_NAME, script_store};
 use stand_ins::PlainStore;
 use std::alloc::Global;
-use std::io;
-use test_rows::{Marks, grown, show_bytes, text_of};
+use test_rows::{Marks, Sheet, text_of};
 
 /// Shows what the store of each script has at first, and behind each of three renewals.
-pub fn show_stores(rt: &impl Print, alloc: Global, rows: &str) -> io::Result<()> {
+pub fn show_stores(sheet: &mut Sheet, alloc: Global, rows: &str) -> Result<(), NoMemory> {
     for row in rows.lines() {
-        print!(rt; "{row} =>")?;
-        show_store(rt, alloc, row)?;
+        print!(sheet; "{row} =>");
+        show_store(sheet, alloc, row)?;
     }
     Ok(())
 }
 
 /// Shows the same of the store of one script, or why it is refused.
-fn show_store(rt: &impl Print, alloc: Global, row: &str) -> io::Result<()> {
-    let text = grown(text_of(alloc, row, Marks::Controls))?;
+fn show_store(sheet: &mut Sheet, alloc: Global, row: &str) -> Result<(), NoMemory> {
+    let text = text_of(alloc, row, Marks::Controls)?;
     match store_of(alloc, text.as_slice()) {
-        Ok(mut store) => show_editions(rt, alloc, &mut store),
-        Err(fault) => println!(rt; " {fault:?}"),
+        Ok(mut store) => show_editions(sheet, alloc, &mut store),
+        Err(fault) => {
+            println!(sheet; " {fault:?}");
+            Ok(())
+        }
     }
 }
 
@@ -32,13 +34,14 @@ fn store_of(alloc: Global, bytes: &[u8]) -> Result<PlainStore, ScriptFault> {
 }
 
 /// Shows what the store has, and then behind each renewal.
-fn show_editions(rt: &impl Print, alloc: Global, store: &mut PlainStore) -> io::Result<()> {
-    show_files(rt, alloc, store)?;
+fn show_editions(sheet: &mut Sheet, alloc: Global, store: &mut PlainStore) -> Result<(), NoMemory> {
+    show_files(sheet, alloc, store)?;
     for _ in 0..3 {
         renew(store);
-        show_files(rt, alloc, store)?;
+        show_files(sheet, alloc, store)?;
     }
-    println!(rt; "")
+    sheet.print("\n");
+    Ok(())
 }
 
 fn renew(store: &mut PlainStore) {
@@ -46,44 +49,52 @@ fn renew(store: &mut PlainStore) {
 }
 
 /// Shows the configuration, and each file below `htdocs`.
-fn show_files(rt: &impl Print, alloc: Global, store: &mut PlainStore) -> io::Result<()> {
-    show_file(rt, alloc, store, CONF_NAME)?;
-    match store.names(alloc, "htdocs", 9) {
-        Ok(names) => show_names(rt, alloc, store, names.as_slice())?,
-        Err(fault) => print!(rt; " {fault:?}")?,
+fn show_files(sheet: &mut Sheet, alloc: Global, store: &mut PlainStore) -> Result<(), NoMemory> {
+    show_file(sheet, alloc, store, CONF_NAME);
+    match names_of(alloc, store) {
+        Ok(names) => show_names(sheet, alloc, store, names.as_slice())?,
+        Err(fault) => print!(sheet; " {fault:?}"),
     }
-    print!(rt; ";")
+    sheet.print(";");
+    Ok(())
+}
+
+/// The names of at most nine files below `htdocs`. It has no clause, for the same reason as above.
+fn names_of(alloc: Global, store: &mut PlainStore) -> Result<Names, StoreFault> {
+    store.names(alloc, "htdocs", 9)
 }
 
 fn show_names(
-    rt: &impl Print,
+    sheet: &mut Sheet,
     alloc: Global,
     store: &mut PlainStore,
     names: &[Octets],
-) -> io::Result<()> {
+) -> Result<(), NoMemory> {
     for name in names {
-        let text = String::from_utf8_lossy(alloc, name.as_slice())?;
-        show_file(rt, alloc, store, text.as_str())?;
+        let Ok(text) = String::from_utf8_lossy(alloc, name.as_slice()) else {
+            return Err(NoMemory);
+        };
+        show_file(sheet, alloc, store, text.as_str());
     }
     Ok(())
 }
 
-fn show_file(rt: &impl Print, alloc: Global, store: &mut PlainStore, name: &str) -> io::Result<()> {
-    print!(rt; " ")?;
+fn show_file(sheet: &mut Sheet, alloc: Global, store: &mut PlainStore, name: &str) {
+    print!(sheet; " {name}");
     match file_of(alloc, store, name) {
         Ok(content) => {
-            show_bytes(rt, alloc, name, content.bytes.as_slice())?;
-            show_second(rt, &content.second)
+            sheet.bytes("", content.bytes.as_slice());
+            show_second(sheet, &content.second);
         }
-        Err(fault) => print!(rt; "{name} {fault:?}"),
+        Err(fault) => print!(sheet; " {fault:?}"),
     }
 }
 
 /// Shows in which second a file was changed, where that isn't the first.
-fn show_second(rt: &impl Print, second: &Second) -> io::Result<()> {
+fn show_second(sheet: &mut Sheet, second: &Second) {
     match second.number() {
-        0 => Ok(()),
-        number => print!(rt; " at {number}"),
+        0 => (),
+        number => print!(sheet; " at {number}"),
     }
 }
 

@@ -4,25 +4,25 @@ ghost use Rattle.std.specs.Prelude.{◌≤◌};
 use mpm_base::{ClientAct, NoMemory, ScriptLine, SiteLine};
 use mpm_script::{Script, ScriptFault, load_script, read_script};
 use std::alloc::Global;
-use std::io;
-use test_rows::{Marks, grown, show_bytes, small_of, text_of};
+use test_rows::{Marks, Sheet, small_of, text_of};
 
 /// Shows the lines of each script, or why it is refused.
-pub fn show_scripts(rt: &impl Print, alloc: Global, rows: &str) -> io::Result<()> {
+pub fn show_scripts(sheet: &mut Sheet, alloc: Global, rows: &str) -> Result<(), NoMemory> {
     for row in rows.lines() {
-        print!(rt; "{row} =>")?;
-        show_script(rt, alloc, row)?;
+        print!(sheet; "{row} =>");
+        show_script(sheet, alloc, row)?;
     }
     Ok(())
 }
 
 /// Shows the lines of the script, or why it is refused.
-fn show_script(rt: &impl Print, alloc: Global, row: &str) -> io::Result<()> {
-    let text = grown(text_of(alloc, row, Marks::Controls))?;
+fn show_script(sheet: &mut Sheet, alloc: Global, row: &str) -> Result<(), NoMemory> {
+    let text = text_of(alloc, row, Marks::Controls)?;
     match read(alloc, text.as_slice()) {
-        Ok(script) => show_lines(rt, alloc, script.lines()),
-        Err(fault) => println!(rt; " {fault:?}"),
+        Ok(script) => show_lines(sheet, script.lines()),
+        Err(fault) => println!(sheet; " {fault:?}"),
     }
+    Ok(())
 }
 
 /// The script of the bytes. It has no clause, so that what `read_script` says isn't carried through what is shown.
@@ -31,65 +31,67 @@ fn read(alloc: Global, bytes: &[u8]) -> Result<Script, ScriptFault> {
 }
 
 /// Shows how many lines there are, and each of them.
-fn show_lines(rt: &impl Print, alloc: Global, lines: &[ScriptLine]) -> io::Result<()> {
-    print!(rt; " {} lines:", lines.len())?;
+fn show_lines(sheet: &mut Sheet, lines: &[ScriptLine]) {
+    print!(sheet; " {} lines:", lines.len());
     for line in lines {
-        show_line(rt, alloc, line)?;
-        print!(rt; ";")?;
+        show_line(sheet, line);
+        sheet.print(";");
     }
-    println!(rt; "")
+    sheet.print("\n");
 }
 
-fn show_line(rt: &impl Print, alloc: Global, line: &ScriptLine) -> io::Result<()> {
+fn show_line(sheet: &mut Sheet, line: &ScriptLine) {
     match line {
-        ScriptLine::At(moment) => print!(rt; " at {moment}"),
-        ScriptLine::Conn(name) => show_bytes(rt, alloc, " conn", name.as_slice()),
+        ScriptLine::At(moment) => print!(sheet; " at {moment}"),
+        ScriptLine::Conn(name) => sheet.bytes(" conn", name.as_slice()),
         ScriptLine::Client(name, act) => {
-            show_bytes(rt, alloc, " client", name.as_slice())?;
-            show_act(rt, alloc, act)
+            sheet.bytes(" client", name.as_slice());
+            show_act(sheet, act);
         }
-        ScriptLine::Command(word) => print!(rt; " command {word:?}"),
-        ScriptLine::Site(site) => show_site(rt, alloc, site),
+        ScriptLine::Command(word) => print!(sheet; " command {word:?}"),
+        ScriptLine::Site(site) => show_site(sheet, site),
     }
 }
 
-fn show_act(rt: &impl Print, alloc: Global, act: &ClientAct) -> io::Result<()> {
+fn show_act(sheet: &mut Sheet, act: &ClientAct) {
     match act {
-        ClientAct::Send(bytes) => show_bytes(rt, alloc, " sends", bytes.as_slice()),
-        ClientAct::End => print!(rt; " ends"),
-        ClientAct::Drop => print!(rt; " drops"),
-        ClientAct::Room(room) => print!(rt; " has room {room:?}"),
-        ClientAct::Fail(call, number) => print!(rt; " fails {call:?} {number}"),
+        ClientAct::Send(bytes) => sheet.bytes(" sends", bytes.as_slice()),
+        ClientAct::End => sheet.print(" ends"),
+        ClientAct::Drop => sheet.print(" drops"),
+        ClientAct::Room(room) => print!(sheet; " has room {room:?}"),
+        ClientAct::Fail(call, number) => print!(sheet; " fails {call:?} {number}"),
     }
 }
 
-fn show_site(rt: &impl Print, alloc: Global, site: &SiteLine) -> io::Result<()> {
+fn show_site(sheet: &mut Sheet, site: &SiteLine) {
     match site {
-        SiteLine::Conf(text) => show_bytes(rt, alloc, " conf", text.as_slice()),
-        SiteLine::Clear => print!(rt; " clear"),
+        SiteLine::Conf(text) => sheet.bytes(" conf", text.as_slice()),
+        SiteLine::Clear => sheet.print(" clear"),
         SiteLine::File(name, bytes) => {
-            show_bytes(rt, alloc, " file", name.as_slice())?;
-            show_bytes(rt, alloc, "", bytes.as_slice())
+            sheet.bytes(" file", name.as_slice());
+            sheet.bytes("", bytes.as_slice());
         }
-        SiteLine::Unfile(name) => show_bytes(rt, alloc, " unfile", name.as_slice()),
+        SiteLine::Unfile(name) => sheet.bytes(" unfile", name.as_slice()),
     }
 }
 
 /// Shows the script of a load of so many connections, for each row.
-pub fn show_loads(rt: &impl Print, alloc: Global, rows: &str) -> io::Result<()> {
+pub fn show_loads(sheet: &mut Sheet, alloc: Global, rows: &str) -> Result<(), NoMemory> {
     for row in rows.lines() {
-        print!(rt; "{row} =>")?;
-        show_load(rt, alloc, small_of(row))?;
+        print!(sheet; "{row} =>");
+        show_load(sheet, alloc, small_of(row))?;
     }
     Ok(())
 }
 
-fn show_load(rt: &impl Print, alloc: Global, count: u32) -> io::Result<()> {
+fn show_load(sheet: &mut Sheet, alloc: Global, count: u32) -> Result<(), NoMemory> {
     if count < 1 || count > 100_000 {
-        return println!(rt; " no load");
+        sheet.print(" no load\n");
+        return Ok(());
     }
-    let script = grown(load(alloc, count))?;
-    show_lines(rt, alloc, script.lines())
+    let script = load(alloc, count)?;
+    show_lines(sheet, script.lines());
+    Ok(())
 }
 
 /// The script of the load. It has no clause, so that what `load_script` says isn't carried through what is shown.

@@ -1,90 +1,118 @@
 //! What outputs and logs answer and keep.
 use crate::calls::calls_of;
 use failing_stand_ins::{MemLog, MemSink};
-use mpm_base::{Logs, Sink};
+use mpm_base::{Logs, NoMemory, Sink};
 use stand_ins::PlainSink;
 use std::alloc::Global;
-use std::io;
-use test_rows::{Marks, grown, show_bytes, text_of, words};
+use test_rows::{Marks, Sheet, text_of, words};
 
 /// Shows what an output answers to each piece, and what it keeps; and what one answers that keeps nothing.
-pub fn show_sink(rt: &impl Print, alloc: Global, slow: bool, rows: &str) -> io::Result<()> {
+pub fn show_sink(sheet: &mut Sheet, alloc: Global, slow: bool, rows: &str) -> Result<(), NoMemory> {
     let (fails, pieces) = rows.split_once('\n').unwrap_or((rows, ""));
-    let calls = grown(calls_of(alloc, fails))?;
+    let calls = calls_of(alloc, fails)?;
     let mut sink = if slow {
         MemSink::slow(alloc, calls)
     } else {
         MemSink::make(alloc, calls)
     };
-    show_writes(rt, alloc, &mut sink, pieces)?;
-    show_bytes(rt, alloc, "kept", sink.bytes())?;
-    println!(rt; ", {} faults", sink.faults())?;
-    show_writes(rt, alloc, &mut PlainSink, pieces)
+    show_kept(sheet, alloc, &mut sink, pieces)?;
+    show_writes(sheet, alloc, &mut PlainSink, pieces)
+}
+
+/// Shows what the output answers to each piece, and what it keeps.
+fn show_kept(
+    sheet: &mut Sheet,
+    alloc: Global,
+    sink: &mut MemSink,
+    pieces: &str,
+) -> Result<(), NoMemory> {
+    show_writes(sheet, alloc, sink, pieces)?;
+    sheet.bytes("kept", sink.bytes());
+    println!(sheet; ", {} faults", sink.faults());
+    Ok(())
 }
 
 /// Shows what the output answers to each piece.
 fn show_writes<K: Sink>(
-    rt: &impl Print,
+    sheet: &mut Sheet,
     alloc: Global,
     sink: &mut K,
     pieces: &str,
-) -> io::Result<()> {
+) -> Result<(), NoMemory> {
     for piece in pieces.lines() {
-        show_write(rt, alloc, sink, piece)?;
+        show_write(sheet, alloc, sink, piece)?;
     }
     Ok(())
 }
 
 /// Shows what the output answers to the piece.
 fn show_write<K: Sink>(
-    rt: &impl Print,
+    sheet: &mut Sheet,
     alloc: Global,
     sink: &mut K,
     piece: &str,
-) -> io::Result<()> {
-    let text = grown(text_of(alloc, piece, Marks::Lines))?;
+) -> Result<(), NoMemory> {
+    let text = text_of(alloc, piece, Marks::Lines)?;
     let put = sink.write(text.as_slice());
-    println!(rt; "{piece} => {put:?}")
+    println!(sheet; "{piece} => {put:?}");
+    Ok(())
 }
 
 /// Shows what a log answers to each call, and what was written behind each of its openings.
-pub fn show_log(rt: &impl Print, alloc: Global, slow: bool, rows: &str) -> io::Result<()> {
+pub fn show_log(sheet: &mut Sheet, alloc: Global, slow: bool, rows: &str) -> Result<(), NoMemory> {
     let (fails, calls) = rows.split_once('\n').unwrap_or((rows, ""));
-    let listed = grown(calls_of(alloc, fails))?;
+    let listed = calls_of(alloc, fails)?;
     let mut log = if slow {
         MemLog::slow(alloc, listed)
     } else {
         MemLog::make(alloc, listed)
     };
+    show_log_calls(sheet, alloc, &mut log, calls)?;
+    show_openings(sheet, &log);
+    Ok(())
+}
+
+/// Shows what the log answers to each call.
+fn show_log_calls<K: Logs>(
+    sheet: &mut Sheet,
+    alloc: Global,
+    log: &mut K,
+    calls: &str,
+) -> Result<(), NoMemory> {
     for call in calls.lines() {
-        show_log_call(rt, alloc, &mut log, call)?;
+        show_log_call(sheet, alloc, log, call)?;
     }
-    for place in 0..log.opened() {
-        show_opening(rt, alloc, &log, place)?;
-    }
-    show_bytes(rt, alloc, "kept", log.bytes())?;
-    println!(rt; ", {} faults", log.faults())
+    Ok(())
 }
 
 /// Shows what the log answers to a call.
 fn show_log_call<K: Logs>(
-    rt: &impl Print,
+    sheet: &mut Sheet,
     alloc: Global,
     log: &mut K,
     call: &str,
-) -> io::Result<()> {
+) -> Result<(), NoMemory> {
     let (word, rest) = words(call);
     if word == "write" {
-        return show_write(rt, alloc, log, rest);
+        return show_write(sheet, alloc, log, rest);
     }
     let is_open = log.begin(rest);
-    println!(rt; "{call} => {is_open}")
+    println!(sheet; "{call} => {is_open}");
+    Ok(())
+}
+
+/// Shows what was written behind each opening of the log, and in all, and how many calls failed.
+fn show_openings(sheet: &mut Sheet, log: &MemLog) {
+    for place in 0..log.opened() {
+        show_opening(sheet, log, place);
+    }
+    sheet.bytes("kept", log.bytes());
+    println!(sheet; ", {} faults", log.faults());
 }
 
 /// Shows the name of the opening at that place, and what was written behind it.
-fn show_opening(rt: &impl Print, alloc: Global, log: &MemLog, place: usize) -> io::Result<()> {
-    show_bytes(rt, alloc, "opened", log.name(place).unwrap_or(b"none"))?;
-    print!(rt; ", ")?;
-    show_bytes(rt, alloc, "written", log.written(place).unwrap_or(b"none"))?;
-    println!(rt)
+fn show_opening(sheet: &mut Sheet, log: &MemLog, place: usize) {
+    sheet.bytes("opened", log.name(place).unwrap_or(b"none"));
+    sheet.bytes(", written", log.written(place).unwrap_or(b"none"));
+    sheet.print("\n");
 }

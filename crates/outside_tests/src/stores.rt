@@ -2,10 +2,9 @@
 use crate::calls::calls_of;
 use failing_stand_ins::MemStore;
 use mpm_base::{NoMemory, Second, Store};
-use stand_ins::{Calls, Files, History, PlainStore};
+use stand_ins::{Calls, Files, History, PlainStore, Slot};
 use std::alloc::Global;
-use std::io;
-use test_rows::{grown, number_of, show_bytes, small_of, words};
+use test_rows::{Sheet, number_of, small_of, words};
 
 /// The files that the rows set and unset.
 fn files_of(alloc: Global, rows: &str) -> Result<Files, NoMemory> {
@@ -23,85 +22,99 @@ fn files_of(alloc: Global, rows: &str) -> Result<Files, NoMemory> {
 }
 
 /// Shows the files that the rows set and unset, in their order.
-pub fn show_files(rt: &impl Print, alloc: Global, rows: &str) -> io::Result<()> {
-    let files = grown(files_of(alloc, rows))?;
+pub fn show_files(sheet: &mut Sheet, alloc: Global, rows: &str) -> Result<(), NoMemory> {
+    let files = files_of(alloc, rows)?;
     for slot in files.slots() {
-        if let Some(content) = &slot.content {
-            let name = String::from_utf8_lossy(alloc, slot.name.as_slice())?;
-            show_bytes(rt, alloc, name.as_str(), content.bytes.as_slice())?;
-            println!(rt; "")?;
-        }
+        show_slot(sheet, slot);
     }
     Ok(())
 }
 
-/// Shows what a store of the files answers whose listed calls fail, and where call 0 is listed, which is none, also what a plain one does.
-pub fn show_store(rt: &impl Print, alloc: Global, files: &str, rows: &str) -> io::Result<()> {
-    let (fails, calls) = rows.split_once('\n').unwrap_or((rows, ""));
-    let listed = grown(calls_of(alloc, fails))?;
-    let mut store = MemStore::make(alloc, grown(files_of(alloc, files))?, listed);
-    show_calls(rt, alloc, &mut store, calls)?;
-    println!(rt; "{} faults", store.faults())?;
-    if fails.starts_with('0') {
-        let mut plain = PlainStore::make(alloc, grown(files_of(alloc, files))?);
-        show_calls(rt, alloc, &mut plain, calls)?;
+/// Shows the name of the slot and its bytes, where it has some.
+fn show_slot(sheet: &mut Sheet, slot: &Slot) {
+    if let Some(content) = &slot.content {
+        sheet.text(slot.name.as_slice());
+        sheet.bytes("", content.bytes.as_slice());
+        sheet.print("\n");
     }
+}
+
+/// Shows what a store of the files answers whose listed calls fail, and where call 0 is listed, which is none, also what a plain one does.
+pub fn show_store(
+    sheet: &mut Sheet,
+    alloc: Global,
+    files: &str,
+    rows: &str,
+) -> Result<(), NoMemory> {
+    let (fails, calls) = rows.split_once('\n').unwrap_or((rows, ""));
+    show_failing(sheet, alloc, files, fails, calls)?;
+    if fails.starts_with('0') {
+        let mut plain = PlainStore::make(alloc, files_of(alloc, files)?);
+        show_calls(sheet, alloc, &mut plain, calls);
+    }
+    Ok(())
+}
+
+/// Shows what a store of the files answers whose listed calls fail.
+fn show_failing(
+    sheet: &mut Sheet,
+    alloc: Global,
+    files: &str,
+    fails: &str,
+    calls: &str,
+) -> Result<(), NoMemory> {
+    let listed = calls_of(alloc, fails)?;
+    let mut store = MemStore::make(alloc, files_of(alloc, files)?, listed);
+    show_calls(sheet, alloc, &mut store, calls);
+    println!(sheet; "{} faults", store.faults());
     Ok(())
 }
 
 /// Shows what the store answers to each call.
-fn show_calls<D: Store>(
-    rt: &impl Print,
-    alloc: Global,
-    store: &mut D,
-    calls: &str,
-) -> io::Result<()> {
+fn show_calls<D: Store>(sheet: &mut Sheet, alloc: Global, store: &mut D, calls: &str) {
     for call in calls.lines() {
-        print!(rt; "{call} =>")?;
-        show_call(rt, alloc, store, call)?;
-        println!(rt; "")?;
+        print!(sheet; "{call} =>");
+        show_call(sheet, alloc, store, call);
+        sheet.print("\n");
     }
-    Ok(())
 }
 
 /// Shows what the store answers to the call.
-fn show_call<D: Store>(
-    rt: &impl Print,
-    alloc: Global,
-    store: &mut D,
-    call: &str,
-) -> io::Result<()> {
+fn show_call<D: Store>(sheet: &mut Sheet, alloc: Global, store: &mut D, call: &str) {
     let (word, rest) = words(call);
     let (name, most) = words(rest);
     match word {
         "read" => match store.read_bytes(alloc, name, number_of(most)) {
-            Ok(bytes) => show_bytes(rt, alloc, "", bytes.as_slice()),
-            Err(fault) => print!(rt; " {fault:?}"),
+            Ok(bytes) => sheet.bytes("", bytes.as_slice()),
+            Err(fault) => print!(sheet; " {fault:?}"),
         },
         "names" => match store.names(alloc, name, small_of(most)) {
-            Ok(names) => print!(rt; " {} names", names.len()),
-            Err(fault) => print!(rt; " {fault:?}"),
+            Ok(names) => print!(sheet; " {} names", names.len()),
+            Err(fault) => print!(sheet; " {fault:?}"),
         },
-        _ => {
-            store.renew();
-            Ok(())
-        }
+        _ => store.renew(),
     }
 }
 
 /// Shows what a file is in each edition, and in one more.
-pub fn show_editions(rt: &impl Print, alloc: Global, rows: &str) -> io::Result<()> {
+pub fn show_editions(sheet: &mut Sheet, alloc: Global, rows: &str) -> Result<(), NoMemory> {
     let mut store = MemStore::make(alloc, Files::make(alloc), Calls::make(alloc));
-    for row in rows.lines() {
-        let files = grown(files_of(alloc, row))?;
-        grown(store.later(files))?;
-    }
+    add_editions(alloc, &mut store, rows)?;
     show_calls(
-        rt,
+        sheet,
         alloc,
         &mut store,
         "read a 9\nrenew\nread a 9\nrenew\nread a 9\nrenew\nread a 9\nrenew\nread a 9",
-    )
+    );
+    Ok(())
+}
+
+/// Adds an edition for each row.
+fn add_editions(alloc: Global, store: &mut MemStore, rows: &str) -> Result<(), NoMemory> {
+    for row in rows.lines() {
+        store.later(files_of(alloc, row)?)?;
+    }
+    Ok(())
 }
 
 /// The history of the changes and ends that the rows say.
@@ -120,9 +133,9 @@ fn history_of(alloc: Global, rows: &str) -> Result<History, NoMemory> {
 }
 
 /// Shows what the store of a history answers.
-pub fn show_history(rt: &impl Print, alloc: Global, rows: &str) -> io::Result<()> {
+pub fn show_history(sheet: &mut Sheet, alloc: Global, rows: &str) -> Result<(), NoMemory> {
     let (changes, calls) = rows.split_once("--\n").unwrap_or((rows, ""));
-    let history = grown(history_of(alloc, changes))?;
-    let mut store = grown(PlainStore::of_history(alloc, history))?;
-    show_calls(rt, alloc, &mut store, calls)
+    let mut store = PlainStore::of_history(alloc, history_of(alloc, changes)?)?;
+    show_calls(sheet, alloc, &mut store, calls);
+    Ok(())
 }

@@ -98,17 +98,21 @@ fn take_line(alloc: Global, case: &mut Case, line: &str) -> Result<(), NoMemory>
         "words" => add_words(&mut case.words, rest),
         "file" => begin_file(alloc, case, rest),
         "edition" => begin_edition(alloc, case),
-        "front" => {
-            case.front = Some(String::from_str(alloc, rest)?);
-            Ok(())
-        }
         "|" => add_line(&mut case.file, rest),
         "+" => case.file.add(rest.as_bytes()),
         "times" => add_often(&mut case.file, rest),
         "each" => add_each(&mut case.file, rest),
+        _ => take_setting(alloc, case, word, rest),
+    }
+}
+
+/// Takes what the line of that word says of the front of the run, and of the calls that fail.
+fn take_setting(alloc: Global, case: &mut Case, word: &str, rest: &str) -> Result<(), NoMemory> {
+    match word {
+        "front" => set_front(alloc, case, rest),
+        "back" => add_line(&mut case.back, rest),
         "wait" => case.bad_waits.add(number_of(rest)),
         "accept" => case.bad_accepts.add(number_of(rest)),
-        "back" => add_line(&mut case.back, rest),
         "watch" => case.bad_watches.add(number_of(rest)),
         "store" => case.bad_reads.add(number_of(rest)),
         "output" => case.bad_writes.add(number_of(rest)),
@@ -117,6 +121,12 @@ fn take_line(alloc: Global, case: &mut Case, line: &str) -> Result<(), NoMemory>
             Ok(())
         }
     }
+}
+
+/// Has the front of the run play the script of the file of that name.
+fn set_front(alloc: Global, case: &mut Case, name: &str) -> Result<(), NoMemory> {
+    case.front = Some(String::from_str(alloc, name)?);
+    Ok(())
 }
 
 /// Takes what the word says of the run.

@@ -64,7 +64,7 @@ pub fn script_of(alloc: Global, case: &Case) -> Result<Option<Script>, ScriptFau
 /// The script of the file of that name.
 fn script_in(alloc: Global, files: &Files, name: &str) -> Result<Script, ScriptFault> {
     match files.get(name) {
-        Some(text) => read_script(alloc, text.as_slice()),
+        Some(content) => read_script(alloc, content.bytes.as_slice()),
         None => Err(ScriptFault::BadLine(0)),
     }
 }

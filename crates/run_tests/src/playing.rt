@@ -107,16 +107,34 @@ fn play_over<R: Print + Threads + Wait + Sync>(
     requires unused { IfSome (failing_front_seen front.old.front).told IsUnused }
 {
     let mut given = grown(given_of(alloc, case))?;
-    let outcome = end_over(rt, alloc, &case.words, &mut given, front);
-    show_run(
-        rt,
-        alloc,
-        &outcome,
-        Some(front.front().front()),
-        &given,
-        case.view,
-    )?;
-    show_answers(rt, alloc, front, case.view)
+    play_given(rt, alloc, case, &mut given, front)
+}
+
+/// The same, over the store and the output.
+fn play_given<R: Print + Threads + Wait + Sync>(
+    rt: &R,
+    alloc: Global,
+    case: &Case,
+    given: &mut Given,
+    front: &mut AnsweredFront,
+) -> io::Result<()>
+    requires unused { IfSome (failing_front_seen front.old.front).told IsUnused }
+{
+    let outcome = end_over(rt, alloc, &case.words, given, front);
+    show_over(rt, alloc, &outcome, front, given, case.view)
+}
+
+/// Shows what came of the run over the front, and what the senders of its command lines were answered.
+fn show_over(
+    rt: &impl Print,
+    alloc: Global,
+    outcome: &Outcome<ScriptLink>,
+    front: &AnsweredFront,
+    given: &Given,
+    view: View,
+) -> io::Result<()> {
+    show_run(rt, alloc, outcome, Some(front.front().front()), given, view)?;
+    show_answers(rt, alloc, front, view)
 }
 
 /// Shows what the senders of command lines were answered, where that is asked for.
@@ -145,8 +163,19 @@ fn play_alone<R: Print + Threads + Wait + Sync>(
     let mut given = grown(given_of(alloc, case))?;
     let back = mem::replace(&mut case.back, Octets::make(alloc));
     let mut front = ShutFront::make(!case.undialled, back);
-    let outcome = end_alone(rt, alloc, &case.words, &mut given, &mut front);
-    show_alone(rt, alloc, &outcome, &front, &given, case.view)
+    play_shut(rt, alloc, case, &mut given, &mut front)
+}
+
+/// The same, over the store and the output.
+fn play_shut<R: Print + Threads + Wait + Sync>(
+    rt: &R,
+    alloc: Global,
+    case: &Case,
+    given: &mut Given,
+    front: &mut ShutFront,
+) -> io::Result<()> {
+    let outcome = end_alone(rt, alloc, &case.words, given, front);
+    show_alone(rt, alloc, &outcome, front, given, case.view)
 }
 
 /// Shows what came of the run over the front to which nothing comes, and its last dial.

@@ -1,9 +1,10 @@
 -- What lies below a folder, and a listing with one more entry.
-use Rattle.std.proofs.Common.{◌≡◌, ℕ, ◌≤◌, true, List, [], ◌∷◌, ◌++◌, IsUtf8, length, nat_eq, sym, ◌∙◌, ap, subst, refl, arith}
+use Rattle.std.proofs.Common.{◌≡◌, ℕ, ◌≤◌, true, Option, IfSome, List, [], ◌∷◌, ◌++◌, IsUtf8, length, nat_eq, sym, ◌∙◌, ap, subst, refl, arith}
 use Rattle.std.proofs.lemmas.Grind.{common_steps}
 use Rattle.std.specs.List.{starts_with}
+use Rattle.std.specs.Option.{option_to_list}
 use Rattle.std.proofs.lemmas.List.{append_assoc}
-use Rattle.std.proofs.lemmas.List.Elements.{All-push, All-cons, All-nil}
+use Rattle.std.proofs.lemmas.List.Elements.{All-push, All-pop, All-cons, All-nil}
 use Rattle.mpm_base.specs.Store.{lies_under}
 use Rattle.system_outside.specs.declared.entry.EntryKind.{EntryKind}
 use Rattle.system_outside.specs.declared.entry.EntryKind.TheVariants as entry
@@ -58,6 +59,13 @@ listing_more under folder name whole most l m b e d f u h few =
     let F : SeenListing → Type 0 = λ k. length l.names ≤ most → length k.names ≤ most in
     let same : m ≡ with_entry l (folder ++ 47 ∷ name) b = d ∙ ap (λ w. with_entry l w b) e in
     subst P (sym same) (listing_with under folder name most l b f (subst IsUtf8 e u) h (subst F same few))
+
+-- a listing without the folder that is gone through next
+pub listing_less : (under : List ℕ) (most : ℕ) (l m : SeenListing) (next : Option (List ℕ))
+    → m.names ≡ l.names → l.folders ≡ m.folders ++ option_to_list next → IsListing under most l → IsListing under most m × IfSome next (IsFolderOf under)
+listing_less under most l m next same taken h =
+    let left = All-pop (IsFolderOf under) l.folders m.folders next taken h.folders in
+    (record { few = rw same h.few; text = rw same h.text; below = rw same h.below; folders = left.0 }, left.1)
 
 -- a listing of nothing yet
 pub first_is_listing : (under : List ℕ) (most : ℕ) → IsListing under most (first_listing under)

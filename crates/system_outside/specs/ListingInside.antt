@@ -32,6 +32,11 @@ pub record IsListing (under : List ℕ) (most : ℕ) (l : SeenListing) : Type 0 
   pub below : All (λ name. lies_under under name ≡ true) l.names
   pub folders : All (IsFolderOf under) l.folders
 
+-- what was a listing of a folder in which this one is, or lies below it, is one still
+abbrev pub KeepsListings : List ℕ → ℕ → SeenListing → SeenListing → Type 0
+KeepsListings folder most old new =
+    (under : List ℕ) → IsFolderOf under folder → IsListing under most old → IsListing under most new
+
 -- a listing may be refused so
 abbrev pub IsListFault : StoreFault → Type 0
 IsListFault fault.Missing = ⊥

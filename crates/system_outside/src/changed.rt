@@ -1,5 +1,5 @@
 //! When a file was changed.
-ghost use Rattle.std.specs.Prelude.{◌≡◌};
+ghost use Rattle.std.specs.Prelude.{◌≡◌, IfErr};
 ghost use Rattle.system_outside.specs.Changed.{second_for};
 
 use mpm_base::Second;
@@ -21,7 +21,9 @@ pub fn second_of(told: io::Result<SystemTime>) -> Second
 }
 
 /// The second in which the file was changed of which the system told this. 0 where it told nothing.
-pub fn second_told(told: io::Result<Metadata>) -> Second {
+pub fn second_told(told: io::Result<Metadata>) -> Second
+    ensures { IfErr told (λ _. result ≡ 0) }
+{
     match told {
         Ok(metadata) => second_of(metadata.modified()),
         Err(_) => Second::of(0),

@@ -15,7 +15,7 @@ use crate::operator::Operator;
 use crate::whole_file::{Reading, read_whole};
 use mpm_base::{Content, Names, Store, StoreFault};
 use std::alloc::Global;
-use std::fs::Metadata;
+use std::fs::{Metadata, OpenFile};
 use std::rt::Files;
 use std::{fs, io};
 

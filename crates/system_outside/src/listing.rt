@@ -7,13 +7,14 @@ ghost use Rattle.mpm_base.specs.Store.{MayList, lies_under};
 ghost use Rattle.mpm_base.specs.declared.store.StoreFault.TheVariants as fault;
 ghost use Rattle.system_outside.specs.declared.entry.EntryKind.TheVariants as entry;
 ghost use Rattle.system_outside.specs.Listing.{listing_fault, missing_folder};
-ghost use Rattle.system_outside.specs.ListingInside.{IsFolderOf, IsListing, IsListFault, MayRefuse, first_listing, with_entry};
+ghost use Rattle.system_outside.specs.ListingInside.{IsListing, IsListFault, KeepsListings, MayRefuse, first_listing, with_entry};
 
 use crate::entry::{EntryKind, entry_given, kind_in};
 use crate::fault::fault_of;
 use crate::operator::Operator;
 use mpm_base::{Names, Octets, StoreFault};
 use std::alloc::Global;
+use std::fs::DirEntry;
 use std::marker::Model;
 use std::rt::Files;
 use std::{fs, io};
@@ -178,36 +179,61 @@ pub fn list<R: Files + AllocGlobal + Eprint + Clone + Drop>(
     ensures below { IfOk result (All (λ name. lies_under under.now name ≡ true)) }
 {
     let mut listing = Listing::begin(alloc, under)?;
-    for _ in 0..u64::MAX {
-        let Some(folder) = listing.next_folder() else {
-            return Ok(listing.finish());
-        };
-        list_one(
-            rt,
-            operator,
-            alloc,
-            under,
-            folder.as_str(),
-            most,
-            &mut listing,
-        )?;
-    }
-    Err(StoreFault::Failed)
+    list_all(rt, operator, alloc, under, most, &mut listing)?;
+    Ok(listing.finish())
 }
 
-/// Adds what stands right in the folder, which is the one of the listing or lies below it.
-fn list_one<R: Files + AllocGlobal + Eprint + Clone + Drop>(
+/// Goes through one folder of the listing after the other, until none is left.
+fn list_all<R: Files + AllocGlobal + Eprint + Clone + Drop>(
     rt: &R,
     operator: &Operator<'_, R>,
     alloc: Global,
     under: &str,
+    most: u32,
+    listing: &mut Listing,
+) -> Result<(), StoreFault>
+    requires { IsListing under.now most listing.old }
+    ensures ok { OnOk result (IsListing under.now most listing.new) }
+    ensures fault { IfErr result IsListFault }
+{
+    for _ in 0..u64::MAX {
+        if !list_next(rt, operator, alloc, under, most, listing)? {
+            return Ok(());
+        }
+    }
+    Err(StoreFault::Failed)
+}
+
+/// Goes through the next folder of the listing, and answers whether there was one.
+fn list_next<R: Files + AllocGlobal + Eprint + Clone + Drop>(
+    rt: &R,
+    operator: &Operator<'_, R>,
+    alloc: Global,
+    under: &str,
+    most: u32,
+    listing: &mut Listing,
+) -> Result<bool, StoreFault>
+    requires { IsListing under.now most listing.old }
+    ensures ok { OnOk result (IsListing under.now most listing.new) }
+    ensures fault { IfErr result IsListFault }
+{
+    let Some(folder) = listing.next_folder() else {
+        return Ok(false);
+    };
+    list_one(rt, operator, alloc, folder.as_str(), most, listing)?;
+    Ok(true)
+}
+
+/// Adds what stands right in the folder.
+fn list_one<R: Files + AllocGlobal + Eprint + Clone + Drop>(
+    rt: &R,
+    operator: &Operator<'_, R>,
+    alloc: Global,
     folder: &str,
     most: u32,
     listing: &mut Listing,
 ) -> Result<(), StoreFault>
-    requires folder { IsFolderOf under.now folder.now }
-    requires listing { IsListing under.now most listing.old }
-    ensures ok { OnOk result (IsListing under.now most listing.new) }
+    ensures ok { OnOk result (KeepsListings folder.now most listing.old listing.new) }
     ensures fault { IfErr result IsListFault }
 {
     let entries = match fs::read_dir(rt, folder) {
@@ -219,12 +245,45 @@ fn list_one<R: Files + AllocGlobal + Eprint + Clone + Drop>(
         }
     };
     for entry in entries {
-        let Some(entry) = listed(operator, folder, entry_given(entry))? else {
-            continue;
-        };
-        let kind = listed(operator, entry.path().as_str(), kind_in(rt, &entry))?;
-        let name = name_in(alloc, folder, entry.file_name())?;
-        listing.add(alloc, name, kind, most)?;
+        list_entry(rt, operator, alloc, folder, entry, most, listing)?;
     }
+    Ok(())
+}
+
+/// Adds the entry of the folder of which the system told this. One whose name isn't UTF-8 is left out.
+fn list_entry<R: Files + AllocGlobal + Eprint + Clone + Drop>(
+    rt: &R,
+    operator: &Operator<'_, R>,
+    alloc: Global,
+    folder: &str,
+    told: io::Result<DirEntry<R>>,
+    most: u32,
+    listing: &mut Listing,
+) -> Result<(), StoreFault>
+    ensures ok { OnOk result (KeepsListings folder.now most listing.old listing.new) }
+    ensures fault { IfErr result IsListFault }
+{
+    match listed(operator, folder, entry_given(told))? {
+        Some(entry) => add_entry(rt, operator, alloc, folder, &entry, most, listing),
+        None => Ok(()),
+    }
+}
+
+/// Adds the entry of the folder, by what it leads to.
+fn add_entry<R: Files + AllocGlobal + Eprint + Clone + Drop>(
+    rt: &R,
+    operator: &Operator<'_, R>,
+    alloc: Global,
+    folder: &str,
+    entry: &DirEntry<R>,
+    most: u32,
+    listing: &mut Listing,
+) -> Result<(), StoreFault>
+    ensures ok { OnOk result (KeepsListings folder.now most listing.old listing.new) }
+    ensures fault { IfErr result IsListFault }
+{
+    let kind = listed(operator, entry.path().as_str(), kind_in(rt, entry))?;
+    let name = name_in(alloc, folder, entry.file_name())?;
+    listing.add(alloc, name, kind, most)?;
     Ok(())
 }

@@ -15,5 +15,7 @@ pub returns-clause-ok : goal.returns-clause-ok
 returns-clause-ok c =
     let h = c.args.history.now in
     on_ok_weaker c.set.result (λ e.
-    let is : c.set.new.self ≡ record h { files = with_file conf_name (record { bytes = c.args.conf.now; second = 0 }) h.files } = e in
+    let at_zero : c.of.result ≡ 0 = c.of.ensures in
+    let is : c.set.new.self ≡ record h { files = with_file conf_name (record { bytes = c.args.conf.now; second = 0 }) h.files } =
+    e ∙ ap (λ s. let history : SeenHistory = record h { files = with_file conf_name (record { bytes = c.args.conf.now; second = s }) h.files } in history) at_zero in
     is ∙ ap (λ files. let history : SeenHistory = record h { files = files } in history) (conf-set h.files c.args.conf.now c.args.changed c.requires)) c.set.ensures.ok

@@ -1,34 +1,16 @@
--- Each folder that is gone through is the first one, or lies below it.
-use Rattle.std.proofs.Common.{IfSome, subst, sym, option_map}
-use Rattle.std.specs.String.{string_bytes}
-use Rattle.std.proofs.lemmas.List.Elements.{All-pop}
-use Rattle.system_outside.specs.ListingInside.{IsFolderOf}
+-- The listing begins as one, and ends as one.
 use Rattle.system_outside.proofs.ListingLemmas.{first_is_listing}
 use Rattle.system_outside.proofs.listing.list.Goals as goal
 
-pub loop-init : goal.loop-init
-loop-init g c = rw c.in_ok-listing.ensures.ok (first_is_listing c.args.under.now c.args.most)
+pub list_all-requires : goal.list_all-requires
+list_all-requires g c = rw c.in_ok-listing.ensures.ok (first_is_listing c.args.under.now c.args.most)
 
-pub returns-in_default-clause-listed : goal.returns-in_default-clause-listed
-returns-in_default-clause-listed g c =
-    let h = c.loop.invariant in
-    rw (c.finish.ensures, c.next_folder.ensures.names) (h.few, h.text, tt)
+pub returns-clause-listed : goal.returns-clause-listed
+returns-clause-listed g c =
+    let h = c.in_ok-list_all.ensures.ok in
+    rw c.finish.ensures (h.few, h.text, tt)
 
-pub list_one-requires-clause-folder : goal.list_one-requires-clause-folder
-list_one-requires-clause-folder g c =
-    let h = c.loop.invariant in
-    let p = All-pop (IsFolderOf c.args.under.now) c.loop.listing.folders c.next_folder.new.self.folders (option_map string_bytes c.next_folder.result) c.next_folder.ensures.folders h.folders in
-    let q : IsFolderOf c.args.under.now (string_bytes c.in-Some.folder) =
-    subst (λ r. IfSome (option_map string_bytes r) (IsFolderOf c.args.under.now)) c.in-Some.is p.1 in
-    subst (IsFolderOf c.args.under.now) (sym c.as_str.ensures.value) q
-
-pub list_one-requires-clause-listing : goal.list_one-requires-clause-listing
-list_one-requires-clause-listing g c =
-    let h = c.loop.invariant in
-    let p = All-pop (IsFolderOf c.args.under.now) c.loop.listing.folders c.next_folder.new.self.folders (option_map string_bytes c.next_folder.result) c.next_folder.ensures.folders h.folders in
-    record {
-      few = rw c.next_folder.ensures.names h.few;
-      text = rw c.next_folder.ensures.names h.text;
-      below = rw c.next_folder.ensures.names h.below;
-      folders = p.0;
-    }
+pub returns-clause-below : goal.returns-clause-below
+returns-clause-below g c =
+    let h = c.in_ok-list_all.ensures.ok in
+    rw c.finish.ensures h.below
