@@ -39,14 +39,9 @@ fn kind_of(text: &str) -> BodyKind {
 /// its last 64 bytes; or how many bytes of a chunked one are looked at.
 pub fn show_body(sheet: &mut Sheet, kind: &str, text: &[u8]) {
     if kind == "looks" {
-        println!(sheet; " {} of {}", looked_at(text), text.len());
-    } else {
-        show_answers(sheet, kind_of(kind), text);
+        return println!(sheet; " {} of {}", looked_at(text), text.len());
     }
-}
-
-/// Shows the answers to the body.
-fn show_answers(sheet: &mut Sheet, kind: BodyKind, text: &[u8]) {
+    let kind = kind_of(kind);
     let answer = read_cut(kind, text, text.len(), 1);
     println!(sheet; " {answer:?}");
     show_other(sheet, answer, read_cut(kind, text, 0, 1), 0);
@@ -79,11 +74,16 @@ pub fn show_gibibyte(
     let (kind, _) = row.split_once(": ").unwrap_or((row, ""));
     let front = &text[text.len().min(kind.len().saturating_add(2))..];
     let piece = text_of(alloc, "`4096 0123456789abcdef`", Marks::Heads)?;
+    show_many(sheet, kind_of(kind), front, piece.as_slice());
+    Ok(())
+}
+
+/// Shows the last answer to a body of a gibibyte that begins with the front, where that is no longer than the piece.
+fn show_many(sheet: &mut Sheet, kind: BodyKind, front: &[u8], piece: &[u8]) {
     if front.len() <= piece.len() {
-        let answer = read_many(kind_of(kind), front, piece.as_slice(), 16383);
+        let answer = read_many(kind, front, piece, 16383);
         println!(sheet; " {answer:?}");
     }
-    Ok(())
 }
 
 /// The last answer, where the front is followed by so many pieces and one more.

@@ -81,15 +81,21 @@ fn show_rows(
     rows: &str,
 ) -> Result<(), NoMemory> {
     for row in rows.lines() {
+        let (turns, end) = row.rsplit_once("; ").unwrap_or(("", row));
         let wire = Arc::new(alloc, Wire::make())?;
-        show_row(sheet, &wire, conn_of(alloc, site, text, &wire)?, row);
+        show_row(sheet, &wire, conn_of(alloc, site, text, &wire)?, turns, end);
     }
     Ok(())
 }
 
-/// Shows what comes of the row of turns of the connection.
-fn show_row(sheet: &mut Sheet, wire: &Wire, mut conn: TestConn<ScriptLink>, row: &str) {
-    let (turns, end) = row.rsplit_once("; ").unwrap_or(("", row));
+/// Shows what comes of the turns of the connection, which is to be ended so.
+fn show_row(
+    sheet: &mut Sheet,
+    wire: &Wire,
+    mut conn: TestConn<ScriptLink>,
+    turns: &str,
+    end: &str,
+) {
     show_each(sheet, wire, &mut conn, turns);
     let ended = end_as(conn, end);
     show_end(sheet, ended.as_ref(), end);
@@ -227,11 +233,21 @@ fn show_cut(
     whole: Option<&Ended<ScriptLink>>,
 ) -> Result<(), NoMemory> {
     let ended = talk_cut(alloc, site, text, count)?;
-    if differ(ended.as_ref(), whole) {
-        print!(sheet; "but {count} => ");
-        show_end(sheet, ended.as_ref(), "");
-    }
+    show_other(sheet, count, ended.as_ref(), whole);
     Ok(())
+}
+
+/// Shows what came of a client of whose text so many bytes came first, if it is something else than the whole.
+fn show_other(
+    sheet: &mut Sheet,
+    count: usize,
+    ended: Option<&Ended<ScriptLink>>,
+    whole: Option<&Ended<ScriptLink>>,
+) {
+    if differ(ended, whole) {
+        print!(sheet; "but {count} => ");
+        show_end(sheet, ended, "");
+    }
 }
 
 /// Whether the two connections sent other bytes, or ended for other causes.

@@ -93,16 +93,11 @@ fn show_end(sheet: &mut Sheet, ended: Option<&Ended<LongLink>>) {
         ended.notes.len()
     );
     show_bytes(sheet, ", sent", ended.link.taken.as_slice());
-    show_use(sheet, ended.link.calls);
-}
-
-/// Shows how a link was called.
-fn show_use(sheet: &mut Sheet, calls: LinkUse) {
     let LinkUse {
         reads,
         room,
         writes,
-    } = calls;
+    } = ended.link.calls;
     println!(sheet; ", {writes} writes, {reads} reads of {room} bytes at most");
 }
 
