@@ -1,7 +1,8 @@
 -- A turn with the small value may be given back.
 use Rattle.std.proofs.Common.{◌≡◌, ◌⊎◌, inl, inr, ⊎_elim, ℕ, zero, suc, ◌+◌, ◌<◌, ◌≤◌, Bool, true, false, List, [], ◌∷◌, ◌++◌, length, Option, Some, None, refl, sym, ap, subst, ◌∙◌, add-zero, append-nil, length-append, arith}
 use Rattle.std.proofs.lemmas.List.{append_cancel_left, length-replicate}
-use Rattle.std.specs.Prelude.{replicate, slice_get, slice_index, option_to_list, IfSome}
+use Rattle.std.specs.Prelude.{replicate, slice_get, slice_index, slice_index_or, option_to_list, IfSome}
+use Rattle.std.specs.List.{remove}
 use Rattle.atomic_table.specs.Table.{Me}
 use Rattle.mpm_base.specs.declared.conn.ConnName.{ConnName}
 use Rattle.conn_machine.specs.declared.event.Entry.{Entry}
@@ -395,3 +396,15 @@ pub last_has : {X : Type 0} (P : X → Type 0) (old new : List X) (o : Option X)
     → ((i : ℕ) (x : X) → slice_get old i ≡ Some x → P x) → IfSome o P
 last_has P old new None e all = tt
 last_has P old new (Some x) e all = all (length new) x (ap (λ l. slice_get l (length new)) e ∙ at_between new [] x)
+
+-- what is left behind the first item is as all are
+pub rest_has : {X : Type 0} (P : X → Type 0) (old new : List X) → new ≡ remove old 0
+    → ((i : ℕ) (x : X) → slice_get old i ≡ Some x → P x) → (i : ℕ) (x : X) → slice_get new i ≡ Some x → P x
+rest_has P [] new e all i x at = all i x (ap (λ l. slice_get l i) (sym e) ∙ at)
+rest_has P (y ∷ ys) new e all i x at = all (suc i) x (ap (λ l. slice_get l i) (sym e) ∙ at)
+
+-- the first item is as all are
+pub first_has : {X : Type 0} (P : X → Type 0) (old : List X) (x : X) → 0 < length old → x ≡ slice_index_or old 0 x
+    → ((i : ℕ) (x : X) → slice_get old i ≡ Some x → P x) → P x
+first_has P [] x some e all = absurd (omega arith)
+first_has P (y ∷ ys) x some e all = all 0 x (ap Some (sym e))

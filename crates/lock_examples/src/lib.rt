@@ -17,7 +17,7 @@ mod turns;
 
 pub use holding::{ASKS, HAS_TURN, holds, wait_for};
 pub use idles::{credits, reserves, reserves_once};
-pub use opening::{last_of, opened, opened_plain};
+pub use opening::{first_pass, opened, opened_plain};
 pub use player::{Player, players};
 pub use resting::{last_looks, rests_one};
 pub use seats::last_seat;

@@ -66,8 +66,8 @@ fn opened_with<K: Kept>(
     }
 }
 
-/// The last of the passes.
-pub fn last_of<K: Kept>(shared: &Shared<K>, passes: &mut Vec<Pass<K>>) -> Option<Pass<K>>
+/// The first of the passes.
+pub fn first_pass<K: Kept>(shared: &Shared<K>, passes: &mut Vec<Pass<K>>) -> Option<Pass<K>>
     requires own { (p : ℕ) (pass : _)
         → slice_get passes.old.items p ≡ Some pass
         → pass.seat.table_id ≡ shared.now.table.shared.table_id }
@@ -80,8 +80,11 @@ pub fn last_of<K: Kept>(shared: &Shared<K>, passes: &mut Vec<Pass<K>>) -> Option
     ensures ready { (p : ℕ) (pass : _)
         → slice_get passes.new.items p ≡ Some pass
         → IsReadyPass pass.seat.me }
-    ensures last { IfSome result (λ pass. pass.seat.table_id ≡ shared.now.table.shared.table_id) }
-    ensures last_ready { IfSome result (λ pass. IsReadyPass pass.seat.me) }
+    ensures first { IfSome result (λ pass. pass.seat.table_id ≡ shared.now.table.shared.table_id) }
+    ensures first_ready { IfSome result (λ pass. IsReadyPass pass.seat.me) }
 {
-    passes.pop()
+    if passes.is_empty() {
+        return None;
+    }
+    Some(passes.remove(0))
 }

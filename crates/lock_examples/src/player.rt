@@ -2,7 +2,7 @@
 ghost use Rattle.std.specs.Prelude.{◌≡◌, ℕ, Some, slice_get};
 ghost use Rattle.lock_examples.specs.Toy.{IsReadyPass};
 
-use crate::opening::last_of;
+use crate::opening::first_pass;
 use crate::toy::Toy;
 use board_lock::{Pass, Shared};
 use mpm_base::NoMemory;
@@ -17,7 +17,7 @@ pub struct Player<'a> {
     ghost ready: { IsReadyPass pass.seat.me },
 }
 
-/// Players for so many of the last passes.
+/// Players for so many of the first passes.
 pub fn players<'a>(
     alloc: Global,
     shared: &'a Shared<Box<Toy>>,
@@ -39,7 +39,7 @@ pub fn players<'a>(
 {
     let mut made = Vec::new(alloc);
     for _ in 0..count {
-        if let Some(pass) = last_of(shared, passes) {
+        if let Some(pass) = first_pass(shared, passes) {
             made.push(Player { shared, pass })?;
         }
     }

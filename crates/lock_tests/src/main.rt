@@ -21,18 +21,20 @@
 //!   the queue that `fd_queue` stands on. `bench/lock` times such sections from outside.
 #![tactic(auto)]
 
-mod begins;
 mod contended;
+mod parts;
 mod passes;
 mod perches;
 mod permits;
 mod posts;
 mod queues;
+mod resters;
 mod rounds;
-mod rounds_of_queues;
-mod rounds_of_turns;
 mod sleeps;
+mod starter;
 mod travels;
+mod trials;
+mod trier;
 mod turns;
 
 use mpm_base::NoMemory;
@@ -41,7 +43,7 @@ use std::io;
 use std::sync::Wait;
 use std::thread::Threads;
 use std::time::Clock;
-use test_rows::{Section, Sheet, grown, open_section, sections_of, small_of};
+use test_rows::{Section, Sheet, grown, open_section, sections_of};
 
 fn main(rt: HostRuntime) -> io::Result<()> {
     let input = io::read_to_string(rt.alloc(), rt.reader())?;
@@ -73,15 +75,11 @@ fn show_section<R: Threads + Wait + Clock + Sync>(
 ) -> Result<(), NoMemory> {
     let Section { word, rest, rows } = section;
     match word {
-        "passes" => passes::show_passes(sheet, rt, alloc),
-        "permits" => permits::show_permits(sheet, rt, alloc),
         "perch" => perches::show_perch(sheet, alloc),
-        "turns" => turns::show_turns(sheet, rt, alloc, small_of(rest)),
-        "sleep" => sleeps::show_sleep(sheet, rt, alloc),
-        "contend" => contended::show_contention(sheet, rt, alloc, small_of(rest)),
+        "travel" => travels::show_travel(sheet, rt, alloc),
         "queue" => queues::show_queue(sheet, rt, alloc, rest, rows),
         "relay" => queues::show_relay(sheet, rt, alloc, rest),
         "rounds" => rounds::show_rounds(sheet, rt, alloc, rest),
-        _ => travels::show_travel(sheet, rt, alloc),
+        _ => trials::show_trial(sheet, rt, alloc, trials::plan_of(word, rest)),
     }
 }

@@ -1,41 +1,28 @@
 //! The ends of a way on which carriers travel through a queue.
 ghost use Rattle.std.specs.Prelude.{◌≡◌, ℕ, Some, slice_get};
 ghost use Rattle.crossbeam_queue.specs.Passes.{IsPassOf};
-ghost use Rattle.recycle_perch.specs.Looking.{AllAreOf, AreOf};
-ghost use Rattle.recycle_perch.specs.Resting.{IsFreeCarrier};
+ghost use Rattle.recycle_perch.specs.Looking.{AllAreOf};
 
-use board_lock::{Carrier, Room};
+use crate::resters::{Parcel, Rester, last_rester};
+use board_lock::Room;
 use fd_queue::{FdQueue, FdSeat, Item};
-use lock_examples::{Toy, last_looks, last_seat, reserves_once};
+use lock_examples::{Toy, last_seat};
 use mpm_base::NoMemory;
 use recycle_perch::{Looks, Perch};
 use std::alloc::Global;
-use std::marker::PhantomData;
 use std::sync::Wait;
 use std::thread;
 
 /// How many carriers each thread sends, or receives.
 const ROUNDS: u32 = 1_000;
 
-/// A carrier on its way.
-#[derive(Drop)]
-pub struct Parcel<B: Room> {
-    carrier: Carrier<Box<Toy>>,
-    of: PhantomData<B>,
-    ghost own: { carrier.seat.table_id ≡ B.table },
-    ghost free: { IsFreeCarrier carrier.seat.me },
-}
-
 /// One end of the way.
 #[derive(Drop)]
 pub struct Post<'q, 'p, 'a, B: Room> {
-    perch: &'p Perch<'a, Box<Toy>>,
-    looks: Looks,
+    rester: Rester<'p, 'a, B>,
     queue: &'q FdQueue<Parcel<B>>,
     seat: FdSeat<Parcel<B>>,
     sends: bool,
-    ghost lock: { perch.now.shared.now.table.shared.table_id ≡ B.table },
-    ghost at: { AreOf perch.now.places looks },
     ghost own: { IsPassOf queue.now.ring seat },
 }
 
@@ -43,11 +30,8 @@ impl<'q, 'p, 'a, B: Room> Post<'q, 'p, 'a, B> {
     /// Takes a carrier as soon as one rests.
     fn take<R: Wait>(&mut self, rt: &R) -> Parcel<B> {
         for _ in rt.forever() {
-            if let Some(carrier) = self.perch.take(&mut self.looks) {
-                return Parcel {
-                    carrier,
-                    of: PhantomData,
-                };
+            if let Some(parcel) = self.rester.take() {
+                return parcel;
             }
             thread::yield_now();
         }
@@ -77,16 +61,6 @@ impl<'q, 'p, 'a, B: Room> Post<'q, 'p, 'a, B> {
         unreachable!()
     }
 
-    /// The carrier lies down, after it tried for a permit: whether it did.
-    fn lies_down(&mut self, item: Item<Parcel<B>>) -> bool {
-        let Item::Work(parcel) = item else {
-            return false;
-        };
-        let Parcel { mut carrier, of: _ } = parcel;
-        let _ = reserves_once(self.perch.shared, &mut carrier);
-        self.perch.give(&mut self.looks, carrier).is_ok()
-    }
-
     /// Sends or receives a carrier, and lays down the one that comes: whether that was done.
     fn plays_once<R: Wait>(&mut self, rt: &R) -> bool {
         if self.sends {
@@ -94,8 +68,10 @@ impl<'q, 'p, 'a, B: Room> Post<'q, 'p, 'a, B> {
             self.send(rt, parcel);
             return true;
         }
-        let item = self.receive(rt);
-        self.lies_down(item)
+        match self.receive(rt) {
+            Item::Work(parcel) => self.rester.lay_behind_try(parcel),
+            Item::End => false,
+        }
     }
 
     /// Sends carriers, or lays down those that come: whether all were.
@@ -120,23 +96,19 @@ pub fn posts<'q, 'p, 'a, B: Room>(
     requires lock { perch.now.shared.now.table.shared.table_id ≡ B.table }
     requires looks { AllAreOf perch.now.places all.old.items }
     requires seats { (i : ℕ) (seat : _) → slice_get seats.items i ≡ Some seat → IsPassOf queue.now.ring seat }
-    ensures looks { AllAreOf perch.now.places all.new.items }
 {
     let mut made = Vec::new(alloc);
     for number in 0..seats.len() {
-        let Some(seat) = last_seat(queue, &mut seats) else {
-            return Ok(made);
-        };
-        let Some(looks) = last_looks(perch, all) else {
-            return Ok(made);
-        };
-        made.push(Post {
-            perch,
-            looks,
-            queue,
-            seat,
-            sends: number % 2 == 0,
-        })?;
+        if let Some(seat) = last_seat(queue, &mut seats) {
+            if let Some(rester) = last_rester(perch, all) {
+                made.push(Post {
+                    rester,
+                    queue,
+                    seat,
+                    sends: number % 2 == 0,
+                })?;
+            }
+        }
     }
     Ok(made)
 }

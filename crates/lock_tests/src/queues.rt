@@ -1,5 +1,5 @@
-//! The queue by example, on one thread and between two.
-ghost use Rattle.std.specs.Prelude.{◌≤◌};
+//! The queue by example, on one thread and between several.
+ghost use Rattle.std.specs.Prelude.{◌≡◌, ◌≤◌, ℕ, Some, slice_get};
 ghost use Rattle.crossbeam_queue.specs.Passes.{IsPassOf};
 
 use fd_queue::{FdQueue, FdSeat, Item};
@@ -7,46 +7,48 @@ use lock_examples::last_seat;
 use mpm_base::NoMemory;
 use std::alloc::Global;
 use std::sync::Wait;
-use std::thread::{self, Threads, join};
+use std::thread::{self, Threads};
 use test_rows::{Sheet, small_of, words};
 
 /// How many numbers go from one thread to the other.
 const NUMBERS: u32 = 1_000;
 
+/// What each thread does with its seat.
+#[derive(Clone, Copy)]
+pub enum Work {
+    /// The first one puts numbers, and each other one takes them.
+    Relay,
+    /// It puts an item and takes one so often.
+    Rounds(u32),
+}
+
 /// A seat at a queue of numbers.
 #[derive(Drop)]
-struct Seated<'q> {
+pub struct Seated<'q> {
     queue: &'q FdQueue<u32>,
     seat: FdSeat<u32>,
+    is_first: bool,
     ghost own: { IsPassOf queue.now.ring seat },
 }
 
 impl<'q> Seated<'q> {
-    /// Puts the item, or gives it back.
-    fn push<R: Wait>(&mut self, rt: &R, item: Item<u32>) -> Result<(), Item<u32>> {
-        self.queue.push(rt, &mut self.seat, item)
-    }
-
-    /// Takes the first item.
-    fn pop<R: Wait>(&mut self, rt: &R) -> Option<Item<u32>> {
-        self.queue.pop(rt, &mut self.seat)
-    }
-
-    /// Puts End so often, and gives how often that was done.
-    fn end<R: Wait>(&mut self, rt: &R, times: u32) -> u32 {
-        self.queue.end_items(rt, &mut self.seat, times)
-    }
-
     /// Shows what the queue answers to the call.
     fn show_call<R: Wait>(&mut self, sheet: &mut Sheet, rt: &R, row: &str) {
         let (word, rest) = words(row);
+        let number = small_of(rest);
         match word {
             "push" => {
-                let pushed = self.push(rt, Item::Work(small_of(rest)));
+                let pushed = self.queue.push(rt, &mut self.seat, Item::Work(number));
                 println!(sheet; "{row} => {pushed:?}");
             }
-            "end" => println!(sheet; "{row} => {}", self.end(rt, small_of(rest))),
-            _ => println!(sheet; "{row} => {:?}", self.pop(rt)),
+            "end" => {
+                let ends = self.queue.end_items(rt, &mut self.seat, number);
+                println!(sheet; "{row} => {ends}");
+            }
+            _ => {
+                let popped = self.queue.pop(rt, &mut self.seat);
+                println!(sheet; "{row} => {popped:?}");
+            }
         }
     }
 
@@ -60,39 +62,102 @@ impl<'q> Seated<'q> {
     /// Puts the number as soon as there is a place.
     fn put<R: Wait>(&mut self, rt: &R, number: u32) {
         for _ in rt.forever() {
-            if self.push(rt, Item::Work(number)).is_ok() {
+            let pushed = self.queue.push(rt, &mut self.seat, Item::Work(number));
+            if pushed.is_ok() {
                 return;
             }
             thread::yield_now();
         }
     }
 
-    /// Takes an item as soon as there is one.
-    fn take<R: Wait>(&mut self, rt: &R) -> Item<u32> {
+    /// Takes an item as soon as there is one: whether it is the number.
+    fn takes<R: Wait>(&mut self, rt: &R, number: u32) -> bool {
         for _ in rt.forever() {
-            if let Some(item) = self.pop(rt) {
-                return item;
+            if let Some(item) = self.queue.pop(rt, &mut self.seat) {
+                return item == Item::Work(number);
             }
             thread::yield_now();
         }
         unreachable!()
     }
 
-    /// Puts the numbers from 0 on.
-    fn put_all<R: Wait>(mut self, rt: &R) {
+    /// Puts the numbers from 0 on, or takes as many items: how many were put, or were the numbers from 0 on.
+    fn relays<R: Wait>(mut self, rt: &R) -> u32 {
         for number in 0..NUMBERS {
-            self.put(rt, number);
-        }
-    }
-
-    /// Takes as many items: whether they were the numbers from 0 on.
-    fn take_all<R: Wait>(mut self, rt: &R) -> bool {
-        for number in 0..NUMBERS {
-            if self.take(rt) != Item::Work(number) {
-                return false;
+            if self.is_first {
+                self.put(rt, number);
+            } else if !self.takes(rt, number) {
+                return number;
             }
         }
-        true
+        NUMBERS
+    }
+}
+
+/// A seat for each place of the list, the first of which puts where numbers are relayed.
+fn all_seated<'q>(
+    alloc: Global,
+    queue: &'q FdQueue<u32>,
+    mut seats: Vec<FdSeat<u32>>,
+) -> Result<Vec<Seated<'q>>, NoMemory>
+    requires seats { (i : ℕ) (seat : _) → slice_get seats.items i ≡ Some seat → IsPassOf queue.now.ring seat }
+{
+    let mut made = Vec::new(alloc);
+    for number in 0..seats.len() {
+        if let Some(seat) = last_seat(queue, &mut seats) {
+            made.push(Seated {
+                queue,
+                seat,
+                is_first: number == 0,
+            })?;
+        }
+    }
+    Ok(made)
+}
+
+/// Puts an item and takes one: how often both were done.
+fn puts_and_takes<R: Wait>(rt: &R, seated: Seated, rounds: u32) -> u32
+    ensures { result ≤ rounds }
+{
+    let Seated {
+        queue,
+        mut seat,
+        is_first: _,
+    } = seated;
+    let mut done = 0;
+    for number in 0..rounds {
+        let put = queue.push(rt, &mut seat, Item::Work(number));
+        if put.is_ok() && queue.pop(rt, &mut seat).is_some() {
+            done += 1;
+        }
+    }
+    done
+}
+
+/// Does the work with the seat: how much of it was done.
+fn works<R: Wait>(rt: &R, seated: Seated, work: Work) -> u32 {
+    match work {
+        Work::Relay => seated.relays(rt),
+        Work::Rounds(rounds) => puts_and_takes(rt, seated, rounds),
+    }
+}
+
+/// So many threads do the work at a queue of so many places: how much of it each of them did.
+pub fn work_all<R: Wait + Threads + Sync>(
+    rt: &R,
+    alloc: Global,
+    places: u32,
+    threads: u32,
+    work: Work,
+) -> Result<Vec<u32>, NoMemory>
+    requires places { (1 ≤ places) × (places ≤ 64) }
+    requires threads { (1 ≤ threads) × (threads ≤ 64) }
+{
+    let (queue, seats) = FdQueue::make(alloc, places, threads)?;
+    let all = all_seated(alloc, &queue, seats)?;
+    match thread::map_vec(rt, all, &|seated: Seated| works(rt, seated, work)) {
+        Ok(done) => Ok(done),
+        Err(_) => Err(NoMemory),
     }
 }
 
@@ -112,10 +177,10 @@ pub fn show_queue<R: Wait>(
     places: &str,
     rows: &str,
 ) -> Result<(), NoMemory> {
-    let (queue, mut seats) = FdQueue::make(alloc, places_of(places), 1)?;
-    let queue = &queue;
-    match last_seat(queue, &mut seats) {
-        Some(seat) => Seated { queue, seat }.show_calls(sheet, rt, rows),
+    let (queue, seats) = FdQueue::make(alloc, places_of(places), 1)?;
+    let mut all = all_seated(alloc, &queue, seats)?;
+    match all.pop() {
+        Some(seated) => seated.show_calls(sheet, rt, rows),
         None => sheet.println("a seat is missing"),
     }
     Ok(())
@@ -128,36 +193,11 @@ pub fn show_relay<R: Threads + Wait + Sync>(
     alloc: Global,
     places: &str,
 ) -> Result<(), NoMemory> {
-    match relay(rt, alloc, places_of(places))? {
-        Some(is_ordered) => println!(sheet; "the numbers come in order => {is_ordered}"),
-        None => sheet.println("a seat is missing"),
-    }
+    let done = work_all(rt, alloc, places_of(places), 2, Work::Relay)?;
+    let is_ordered = match done.as_slice() {
+        [put, taken] => *put == NUMBERS && *taken == NUMBERS,
+        _ => false,
+    };
+    println!(sheet; "the numbers come in order => {is_ordered}");
     Ok(())
-}
-
-/// A thread puts numbers into a queue of so many places, and another one takes them: whether they come in order.
-fn relay<R: Threads + Wait + Sync>(
-    rt: &R,
-    alloc: Global,
-    places: u32,
-) -> Result<Option<bool>, NoMemory>
-    requires some { 1 ≤ places }
-    requires few { places ≤ 64 }
-{
-    let (queue, mut seats) = FdQueue::make(alloc, places, 2)?;
-    let queue = &queue;
-    let Some(seat) = last_seat(queue, &mut seats) else {
-        return Ok(None);
-    };
-    let sender = Seated { queue, seat };
-    let Some(seat) = last_seat(queue, &mut seats) else {
-        return Ok(None);
-    };
-    let receiver = Seated { queue, seat };
-    let (_, is_ordered) = join(
-        rt,
-        move || sender.put_all(rt),
-        move || receiver.take_all(rt),
-    );
-    Ok(Some(is_ordered))
 }

@@ -1,14 +1,11 @@
 //! A thread that sleeps for the turn.
-ghost use Rattle.std.specs.Prelude.{◌≡◌, ℕ, Some, slice_get};
-ghost use Rattle.lock_examples.specs.Toy.{IsReadyPass};
-
-use board_lock::{Pass, Shared, number};
-use lock_examples::{ASKS, HAS_TURN, Player, Toy, holds, last_of, looks, opened, wait_for};
+use crate::parts::{Part, play_all};
+use board_lock::number;
+use lock_examples::{ASKS, HAS_TURN, Player, holds, looks, wait_for};
 use mpm_base::NoMemory;
-use std::alloc::Global;
 use std::sync::Wait;
 use std::sync::atomic::{AtomicU64, Ordering};
-use std::thread::{Threads, join};
+use std::thread::Threads;
 use std::time::Clock;
 use test_rows::Sheet;
 
@@ -17,56 +14,26 @@ use test_rows::Sheet;
 pub fn show_sleep<R: Threads + Wait + Clock + Sync>(
     sheet: &mut Sheet,
     rt: &R,
-    alloc: Global,
+    all: Vec<Player>,
 ) -> Result<(), NoMemory> {
-    let (shared, mut passes) = opened(alloc, 2)?;
-    match sleep_for_turn(rt, &shared, &mut passes) {
-        Some((held, slept)) => println!(sheet;
-            "one holds the turn and finds {held}, one sleeps for it and finds {slept}"
+    let said = AtomicU64::new(0);
+    let done = play_all(rt, all, Part::Sleeps(&said))?;
+    match done.as_slice() {
+        [held, slept] => println!(sheet;
+            "one holds the turn and finds {}, one sleeps for it and finds {}",
+            held.count, slept.count
         ),
-        None => sheet.println("a pass is missing"),
+        _ => sheet.println("a pass is missing"),
     }
     Ok(())
 }
 
-/// One thread holds the turn until another one sleeps for it: how many entries each found.
-fn sleep_for_turn<R: Threads + Wait + Clock + Sync>(
-    rt: &R,
-    shared: &Shared<Box<Toy>>,
-    passes: &mut Vec<Pass<Box<Toy>>>,
-) -> Option<(u64, u64)>
-    requires own { (p : ℕ) (pass : _)
-        → slice_get passes.old.items p ≡ Some pass
-        → pass.seat.table_id ≡ shared.now.table.shared.table_id }
-    requires ready { (p : ℕ) (pass : _)
-        → slice_get passes.old.items p ≡ Some pass
-        → IsReadyPass pass.seat.me }
-{
-    let pass = last_of(shared, passes)?;
-    let sleeper = Player { shared, pass };
-    let pass = last_of(shared, passes)?;
-    let holder = Player { shared, pass };
-    if number(&sleeper.pass) != 1 || number(&holder.pass) != 0 {
-        return None;
+/// Pass 0 holds the turn until another one sleeps for it, which asks for it once it has it: how many entries the pass found.
+pub fn finds<R: Wait + Clock>(rt: &R, player: Player, said: &AtomicU64) -> u64 {
+    let Player { shared, mut pass } = player;
+    if number(&pass) == 0 {
+        return holds(rt, shared, &mut pass, said);
     }
-    let said = AtomicU64::new(0);
-    let said = &said;
-    Some(join(
-        rt,
-        move || holds_turn(rt, holder, said),
-        move || sleeps(rt, sleeper, said),
-    ))
-}
-
-/// Holds the turn until another thread sleeps for it: how many entries there are.
-fn holds_turn<R: Wait + Clock>(rt: &R, player: Player, said: &AtomicU64) -> u64 {
-    let Player { shared, mut pass } = player;
-    holds(rt, shared, &mut pass, said)
-}
-
-/// Asks for the turn once another thread has it: how many entries there are.
-fn sleeps<R: Wait>(rt: &R, player: Player, said: &AtomicU64) -> u64 {
-    let Player { shared, mut pass } = player;
     wait_for(rt, said, HAS_TURN);
     said.store(ASKS, Ordering::SeqCst);
     looks(rt, shared, &mut pass)

@@ -1,15 +1,14 @@
 //! Carriers that rest on a perch, travel through a queue, and come back.
-ghost use Rattle.std.specs.Prelude.{◌≡◌, ℕ, IfSome, Some, slice_get};
-ghost use Rattle.recycle_perch.specs.Looking.{AllAreOf, AreOf};
-ghost use Rattle.recycle_perch.specs.Resting.{IsFreeCarrier};
+ghost use Rattle.std.specs.Prelude.{◌≡◌, ℕ, Some, slice_get};
+ghost use Rattle.recycle_perch.specs.Looking.{AllAreOf};
 ghost use Rattle.lock_examples.specs.Toy.{IsReadyPass};
 
-use crate::begins::begins;
-use crate::posts::{Parcel, Post, posts};
-use board_lock::{Carrier, Pass, Room, Shared, number};
+use crate::posts::{Post, posts};
+use crate::resters::{Parcel, admit_first, last_rester, number_of};
+use crate::starter::{Left, Starter};
+use board_lock::{Pass, Room, Shared};
 use fd_queue::FdQueue;
-use idle_workers::{idle, uncredit};
-use lock_examples::{Toy, last_looks, last_of, opened};
+use lock_examples::{Player, Toy, first_pass, opened};
 use mpm_base::NoMemory;
 use recycle_perch::{Looks, Perch};
 use std::alloc::Global;
@@ -25,13 +24,10 @@ struct Travelled {
     rested: bool,
     /// How many threads did all.
     done: usize,
-    /// The numbers of those that rest behind them, as they are taken.
+    /// The numbers of those that rest behind them, as they are taken; 0 where none does.
     numbers: [u32; 3],
     /// No further one rests.
     no_more: bool,
-    /// The idle workers behind them, and whether their credit could be taken back.
-    idle: u32,
-    uncredited: bool,
 }
 
 /// Shows what comes of three carriers that travel.
@@ -41,7 +37,86 @@ pub fn show_travel<R: Threads + Wait + Sync>(
     alloc: Global,
 ) -> Result<(), NoMemory> {
     let (shared, mut passes) = opened(alloc, 4)?;
-    show_travelled(sheet, come_back(rt, alloc, &shared, &mut passes))
+    show_answer(sheet, rt, alloc, &shared, &mut passes)
+}
+
+/// The first pass starts the child, and the others travel.
+fn show_answer<R: Threads + Wait + Sync>(
+    sheet: &mut Sheet,
+    rt: &R,
+    alloc: Global,
+    shared: &Shared<Box<Toy>>,
+    passes: &mut Vec<Pass<Box<Toy>>>,
+) -> Result<(), NoMemory>
+    requires own { (p : ℕ) (pass : _)
+        → slice_get passes.old.items p ≡ Some pass
+        → pass.seat.table_id ≡ shared.now.table.shared.table_id }
+    requires ready { (p : ℕ) (pass : _)
+        → slice_get passes.old.items p ≡ Some pass
+        → IsReadyPass pass.seat.me }
+{
+    let starter = match first_pass(shared, passes) {
+        Some(pass) => Starter::begin(rt, Player { shared, pass }),
+        None => None,
+    };
+    let answer = come_back::<Brand, R>(rt, alloc, shared, passes);
+    match starter {
+        Some(starter) => show_travelled(sheet, answer, starter.leave()),
+        None => {
+            sheet.println("the child has no workers");
+            Ok(())
+        }
+    }
+}
+
+/// Three carriers rest, travel, and are taken from where they rest again.
+fn come_back<B: Room + Send + Sync, R: Threads + Wait + Sync>(
+    rt: &R,
+    alloc: Global,
+    shared: &Shared<Box<Toy>>,
+    passes: &mut Vec<Pass<Box<Toy>>>,
+) -> Result<Option<Travelled>, NoMemory>
+    requires lock { shared.now.table.shared.table_id ≡ B.table }
+    requires own { (p : ℕ) (pass : _)
+        → slice_get passes.old.items p ≡ Some pass
+        → pass.seat.table_id ≡ shared.now.table.shared.table_id }
+    requires ready { (p : ℕ) (pass : _)
+        → slice_get passes.old.items p ≡ Some pass
+        → IsReadyPass pass.seat.me }
+{
+    let mut perch = Perch::make(alloc, shared, 3)?;
+    let mut all = perch.looks(alloc, 5)?;
+    let parcels = admit_first::<B>(alloc, &mut perch, &mut all, passes, 3)?;
+    travel_all(rt, alloc, &perch, &mut all, parcels)
+}
+
+/// The carriers rest, travel, and are taken from where they rest again.
+fn travel_all<'a, B: Room + Send + Sync, R: Threads + Wait + Sync>(
+    rt: &R,
+    alloc: Global,
+    perch: &Perch<'a, Box<Toy>>,
+    all: &mut Vec<Looks>,
+    parcels: Vec<Parcel<B>>,
+) -> Result<Option<Travelled>, NoMemory>
+    requires lock { perch.now.shared.now.table.shared.table_id ≡ B.table }
+    requires looks { AllAreOf perch.now.places all.old.items }
+{
+    let Some(mut rester) = last_rester::<B>(perch, all) else {
+        return Ok(None);
+    };
+    let rested = rester.lay_all(parcels) == 3;
+    let done = travel::<B, R>(rt, alloc, perch, all)?;
+    let numbers = [
+        number_of(&rester.take()),
+        number_of(&rester.take()),
+        number_of(&rester.take()),
+    ];
+    Ok(Some(Travelled {
+        rested,
+        done,
+        numbers,
+        no_more: rester.take().is_none(),
+    }))
 }
 
 /// Carriers go from the perch through a queue and back, with as many threads as there are to be: how many did all.
@@ -53,126 +128,32 @@ fn travel<'a, B: Room + Send + Sync, R: Threads + Wait + Sync>(
 ) -> Result<usize, NoMemory>
     requires lock { perch.now.shared.now.table.shared.table_id ≡ B.table }
     requires looks { AllAreOf perch.now.places all.old.items }
-    ensures looks { AllAreOf perch.now.places all.new.items }
 {
     let (queue, seats) = FdQueue::<Parcel<B>>::make(alloc, 2, 4)?;
     let jobs = posts(alloc, perch, all, &queue, seats)?;
-    let Ok(done) = thread::map_vec(rt, jobs, &|post: Post<B>| post.plays(rt)) else {
-        return Err(NoMemory);
-    };
-    Ok(done.iter().filter(|done| **done).count())
-}
-
-/// The pass, where it isn't pass 0 and is the next that has a place on the perch.
-fn admitted<'a>(
-    perch: &mut Perch<'a, Box<Toy>>,
-    all: &mut Vec<Looks>,
-    pass: Pass<Box<Toy>>,
-) -> Option<Carrier<Box<Toy>>>
-    requires looks { AllAreOf perch.old.places all.old.items }
-    requires own { pass.seat.table_id ≡ perch.old.shared.now.table.shared.table_id }
-    requires ready { IsReadyPass pass.seat.me }
-    ensures looks { AllAreOf perch.new.places all.new.items }
-    ensures perch { perch.new.shared.now.table.shared.table_id ≡ perch.old.shared.now.table.shared.table_id }
-    ensures lock { IfSome result (λ carrier. carrier.seat.table_id ≡ perch.old.shared.now.table.shared.table_id) }
-    ensures free { IfSome result (λ carrier. IsFreeCarrier carrier.seat.me) }
-{
-    if number(&pass) == 0 {
-        return None;
-    }
-    match perch.admit(all, pass) {
-        Ok(carrier) => Some(carrier),
-        Err(_) => None,
+    match thread::map_vec(rt, jobs, &|post: Post<B>| post.plays(rt)) {
+        Ok(done) => Ok(count_true(&done)),
+        Err(_) => Err(NoMemory),
     }
 }
 
-/// Three carriers rest, travel, and are taken from where they rest again.
-fn come_back<R: Threads + Wait + Sync>(
-    rt: &R,
-    alloc: Global,
-    shared: &Shared<Box<Toy>>,
-    passes: &mut Vec<Pass<Box<Toy>>>,
-) -> Result<Option<Travelled>, NoMemory>
-    requires own { (p : ℕ) (pass : _)
-        → slice_get passes.old.items p ≡ Some pass
-        → pass.seat.table_id ≡ shared.now.table.shared.table_id }
-    requires ready { (p : ℕ) (pass : _)
-        → slice_get passes.old.items p ≡ Some pass
-        → IsReadyPass pass.seat.me }
-{
-    let Some(three) = last_of(shared, passes) else {
-        return Ok(None);
-    };
-    let Some(two) = last_of(shared, passes) else {
-        return Ok(None);
-    };
-    let Some(one) = last_of(shared, passes) else {
-        return Ok(None);
-    };
-    let Some(mut zero) = last_of(shared, passes) else {
-        return Ok(None);
-    };
-    let mut perch = Perch::make(alloc, shared, 3)?;
-    let mut all = perch.looks(alloc, 5)?;
-    let Some(one) = admitted(&mut perch, &mut all, one) else {
-        return Ok(None);
-    };
-    let Some(two) = admitted(&mut perch, &mut all, two) else {
-        return Ok(None);
-    };
-    let Some(three) = admitted(&mut perch, &mut all, three) else {
-        return Ok(None);
-    };
-    let Some(mut found) = last_looks(&perch, &mut all) else {
-        return Ok(None);
-    };
-    let one_rests = perch.give(&mut found, one).is_ok();
-    let two_rests = perch.give(&mut found, two).is_ok();
-    let three_rests = perch.give(&mut found, three).is_ok();
-    if number(&zero) != 0 || !begins(rt, perch.shared, &mut zero) {
-        return Ok(None);
+/// How many did all.
+fn count_true(all: &[bool]) -> usize {
+    let mut count: usize = 0;
+    for done in all {
+        count = count.wrapping_add(usize::from(*done));
     }
-    let done = travel::<Brand, R>(rt, alloc, &perch, &mut all)?;
-    let numbers = taken_numbers(&perch, &mut found);
-    let no_more = perch.take(&mut found).is_none();
-    let idle_behind = idle(perch.shared, &mut zero, 0);
-    let uncredited = uncredit(perch.shared, &mut zero, 0, 2);
-    Ok(Some(Travelled {
-        rested: one_rests && two_rests && three_rests,
-        done,
-        numbers,
-        no_more,
-        idle: idle_behind,
-        uncredited,
-    }))
-}
-
-/// The numbers of the next three that rest, as they are taken; 0 where none does.
-fn taken_numbers<'a>(perch: &Perch<'a, Box<Toy>>, found: &mut Looks) -> [u32; 3]
-    requires looks { AreOf perch.now.places found.old }
-    ensures looks { AreOf perch.now.places found.new }
-{
-    let first = perch.take(found);
-    let second = perch.take(found);
-    let third = perch.take(found);
-    [number_of(&first), number_of(&second), number_of(&third)]
-}
-
-/// The number of a carrier, and 0 where there is none.
-fn number_of(carrier: &Option<Carrier<Box<Toy>>>) -> u32 {
-    match carrier {
-        Some(carrier) => number(carrier),
-        None => 0,
-    }
+    count
 }
 
 /// Shows what came of it.
 fn show_travelled(
     sheet: &mut Sheet,
     answer: Result<Option<Travelled>, NoMemory>,
+    left: Left,
 ) -> Result<(), NoMemory> {
     let Some(travelled) = answer? else {
-        sheet.println("a carrier is missing, or the child has no workers");
+        sheet.println("a carrier has no place");
         return Ok(());
     };
     let [first, second, third] = travelled.numbers;
@@ -182,7 +163,7 @@ fn show_travelled(
     );
     println!(sheet;
         "nobody rests => {}\nidle => {}\ncredit taken back => {}",
-        travelled.no_more, travelled.idle, travelled.uncredited
+        travelled.no_more, left.idle, left.uncredited
     );
     Ok(())
 }

@@ -1,15 +1,15 @@
 //! Turns of several threads with the small value.
-ghost use Rattle.std.specs.Prelude.{◌≡◌, ℕ, Some, slice_get};
-ghost use Rattle.lock_examples.specs.Toy.{IsReadyPass};
+ghost use Rattle.std.specs.Prelude.{◌≤◌};
 
-use crate::begins::begins;
-use board_lock::{Pass, Shared, number};
+use crate::parts::{Part, play_all, sum_of};
+use crate::starter::Starter;
+use board_lock::number;
 use conn_machine::{Entry, Event, Reply};
-use lock_examples::{Player, Toy, folds, goes_on, last_of, looks, opened, players, serves};
+use lock_examples::{Player, Toy, looks, serves};
 use mpm_base::{ConnName, Kind, NoMemory};
-use std::alloc::Global;
 use std::sync::Wait;
 use std::thread::{self, Threads};
+use std::time::Clock;
 use test_rows::Sheet;
 
 /// How often the connection is served.
@@ -18,68 +18,36 @@ const ROUNDS: u32 = 1_000;
 /// How many turns each thread takes that only looks.
 const TURNS: u32 = 1_000;
 
-/// What the threads left.
-#[derive(Drop)]
-struct Played {
-    /// How many of them did all.
-    done: usize,
-    /// What the lock kept.
-    toy: Box<Toy>,
-}
-
-/// Shows what comes of the turns of so many threads.
-pub fn show_turns<R: Threads + Wait + Sync>(
+/// Shows what comes of the turns of threads, each with a player but the last one's.
+pub fn show_turns<R: Threads + Wait + Clock + Sync>(
     sheet: &mut Sheet,
     rt: &R,
-    alloc: Global,
-    threads: u32,
+    mut all: Vec<Player>,
 ) -> Result<(), NoMemory> {
-    let threads = threads.min(64);
-    let (shared, mut passes) = opened(alloc, threads + 1)?;
-    show_answer(sheet, play_all(rt, alloc, &shared, &mut passes, threads))
+    match all.pop() {
+        Some(last) => play_turns(sheet, rt, last, all),
+        None => {
+            sheet.println("a pass is missing");
+            Ok(())
+        }
+    }
 }
 
-/// Shows what the threads left, or that a pass is missing.
-fn show_answer(
+/// The players take their turns, and behind them the last one takes the value out of the lock.
+fn play_turns<R: Threads + Wait + Clock + Sync>(
     sheet: &mut Sheet,
-    answer: Result<Option<Played>, NoMemory>,
+    rt: &R,
+    last: Player,
+    all: Vec<Player>,
 ) -> Result<(), NoMemory> {
-    match answer? {
-        Some(played) => show_played(sheet, &played),
-        None => sheet.println("a pass is missing"),
-    }
+    let done = play_all(rt, all, Part::Turns)?;
+    let Player { shared, pass } = last;
+    show_played(sheet, &shared.close(rt, pass), sum_of(&done));
     Ok(())
 }
 
-/// So many threads take their turns.
-fn play_all<R: Threads + Wait + Sync>(
-    rt: &R,
-    alloc: Global,
-    shared: &Shared<Box<Toy>>,
-    passes: &mut Vec<Pass<Box<Toy>>>,
-    threads: u32,
-) -> Result<Option<Played>, NoMemory>
-    requires own { (p : ℕ) (pass : _)
-        → slice_get passes.old.items p ≡ Some pass
-        → pass.seat.table_id ≡ shared.now.table.shared.table_id }
-    requires ready { (p : ℕ) (pass : _)
-        → slice_get passes.old.items p ≡ Some pass
-        → IsReadyPass pass.seat.me }
-{
-    let Some(last) = last_of(shared, passes) else {
-        return Ok(None);
-    };
-    let jobs = players(alloc, shared, passes, threads)?;
-    let Ok(all) = thread::map_vec(rt, jobs, &|player: Player| plays(rt, player)) else {
-        return Err(NoMemory);
-    };
-    let done = all.iter().filter(|done| **done).count();
-    let toy = shared.close(rt, last);
-    Ok(Some(Played { done, toy }))
-}
-
 /// Pass 0 signals and folds, pass 1 serves, and each other pass looks: whether all was done.
-fn plays<R: Wait>(rt: &R, player: Player) -> bool {
+pub fn plays<R: Wait>(rt: &R, player: Player) -> bool {
     match number(&player.pass) {
         0 => signals(rt, player),
         1 => works(rt, player),
@@ -90,20 +58,15 @@ fn plays<R: Wait>(rt: &R, player: Player) -> bool {
 /// Turns of pass 0: the child starts, the connection is taken, and it is signalled so often. Each tenth step is made in a
 /// turn that folds.
 fn signals<R: Wait>(rt: &R, player: Player) -> bool {
-    let Player { shared, mut pass } = player;
-    if number(&pass) != 0 || !begins(rt, shared, &mut pass) {
+    let Some(mut starter) = Starter::begin(rt, player) else {
         return false;
-    }
+    };
     let mut left = ROUNDS + 1;
     for _ in rt.forever() {
         if left == 0 {
             return true;
         }
-        let made = match left % 10 {
-            0 => folds(rt, shared, &mut pass),
-            _ => goes_on(rt, shared, &mut pass),
-        };
-        if made {
+        if starter.goes_on(rt, left % 10 == 0) {
             left -= 1;
         } else {
             thread::yield_now();
@@ -145,23 +108,39 @@ fn watches<R: Wait>(rt: &R, player: Player) -> bool {
     grew
 }
 
-/// Shows what the threads left.
-fn show_played(sheet: &mut Sheet, played: &Played) {
-    let entries = played.toy.entries();
-    println!(sheet;
-        "{} threads did all\n{} entries, {} steps folded",
-        played.done,
-        entries.len(),
-        played.toy.folded()
-    );
-    match entries
-        .iter()
-        .enumerate()
-        .find(|(place, entry)| **entry != expected(*place))
-    {
-        Some((place, entry)) => println!(sheet; "another one at {place}: {entry:?}"),
-        None => sheet.println("each entry stands in its place"),
+/// Turns that look at the value: how many found it without entries.
+pub fn takes_turns<R: Wait>(rt: &R, player: Player, rounds: u32) -> u32
+    ensures { result ≤ rounds }
+{
+    let Player { shared, mut pass } = player;
+    let mut done = 0;
+    for _ in 0..rounds {
+        if looks(rt, shared, &mut pass) == 0 {
+            done += 1;
+        }
     }
+    done
+}
+
+/// Shows what the threads left, of which so many did all.
+fn show_played(sheet: &mut Sheet, toy: &Box<Toy>, done: u64) {
+    let entries = toy.entries();
+    println!(sheet;
+        "{done} threads did all\n{} entries, {} steps folded",
+        entries.len(),
+        toy.folded()
+    );
+    for (place, entry) in entries.iter().enumerate() {
+        if !is_expected(place, entry) {
+            return println!(sheet; "another one at {place}: {entry:?}");
+        }
+    }
+    sheet.println("each entry stands in its place");
+}
+
+/// Whether that is the entry which stands at this place of a history.
+fn is_expected(place: usize, entry: &Entry) -> bool {
+    *entry == expected(place)
 }
 
 /// The entry that stands at this place of a history.

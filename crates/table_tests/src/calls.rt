@@ -4,7 +4,7 @@ use mpm_base::{ConnName, Kind, Moment};
 use test_rows::{listed_as, listed_at, name_of, number_of, words};
 
 /// A call of the queues.
-#[derive(Clone, Copy, Debug)]
+#[derive(Clone, Copy)]
 pub enum Call {
     /// Parks the name, where its slot is free.
     Park(ConnName, Kind, Moment),

@@ -1,148 +1,195 @@
 //! The counts that a list of rows keeps beside them, and what a look at each row counts.
-use crate::pages::plain_phase;
-use conn_machine::{Place, Row, Rows};
+ghost use Rattle.std.specs.Prelude.{◌<◌};
+
+use conn_machine::{Phase, Place, Row, Rows};
 use mpm_base::Kind;
 use test_rows::Sheet;
 
-/// What is counted of all rows.
-#[derive(Clone, Copy, Debug, PartialEq)]
-struct Totals {
-    vacant: bool,
-    live: bool,
-    in_hand: bool,
-    live_count: usize,
-    working: usize,
-    writing: usize,
-    keep_alive: usize,
-    closing: usize,
-}
-
-/// What is counted of a child's rows.
-#[derive(Clone, Copy, Debug, PartialEq)]
-struct ChildTotals {
-    carried: usize,
+/// What a look at each row counts.
+#[derive(Clone, Copy)]
+pub struct Looked {
+    /// How many rows are at each place, by its number.
+    places: [usize; 9],
+    /// How many are live.
+    pub live: usize,
+    /// How many of these aren't in closing.
     open: usize,
-    working: usize,
-    live: bool,
-    lowest_free: u32,
 }
 
-/// What the list keeps of all rows.
-fn kept_totals(rows: &Rows) -> Totals {
-    Totals {
-        vacant: rows.has_vacant(),
-        live: rows.has_live(),
-        in_hand: rows.has_in_hand(),
-        live_count: rows.live_count(),
-        working: rows.working_count(),
-        writing: rows.writing_count(),
-        keep_alive: rows.keep_alive_count(),
-        closing: rows.closing_count(),
+/// The number of the place.
+fn place_number(place: Place) -> usize
+    ensures { result < 9 }
+{
+    match place {
+        Place::Vacant => 0,
+        Place::Spent => 1,
+        Place::Held => 2,
+        Place::Queued => 3,
+        Place::Working(_, _) => 4,
+        Place::Parked(kind) => match kind {
+            Kind::Reading => 5,
+            Kind::Writing => 6,
+            Kind::KeepAlive => 7,
+            Kind::Linger | Kind::ShortLinger => 8,
+        },
     }
 }
 
-/// What the list keeps of the child's rows.
-fn kept_of(rows: &Rows, child: u32, cells: u32) -> ChildTotals {
-    ChildTotals {
-        carried: rows.carried(child),
-        open: rows.open_count(child),
-        working: rows.working_in(child),
-        live: rows.has_live_in(child),
-        lowest_free: rows.lowest_free_cell(child, cells),
+impl Looked {
+    /// Counts the row.
+    fn count(&mut self, row: &Row) {
+        let place = place_number(row.place);
+        self.places[place] = self.places[place].wrapping_add(1);
+        if place > 1 {
+            self.live = self.live.wrapping_add(1);
+            if row.cause.is_none() {
+                self.open = self.open.wrapping_add(1);
+            }
+        }
+    }
+
+    /// How many workers serve, or will.
+    fn carried(&self) -> usize {
+        self.places[3].wrapping_add(self.places[4])
+    }
+
+    /// How many wait for room, for a further request, and in closing.
+    pub fn waiting(&self) -> [usize; 3] {
+        [self.places[6], self.places[7], self.places[8]]
     }
 }
 
-pub fn is_live(row: &Row) -> bool {
-    !matches!(row.place, Place::Vacant | Place::Spent)
+/// What a look at each row counts, or at each of the child where that is given.
+pub fn look_at(rows: &[Row], child: Option<u32>) -> Looked {
+    let mut looked = Looked {
+        places: [0; 9],
+        live: 0,
+        open: 0,
+    };
+    for row in rows {
+        let is_counted = match child {
+            Some(child) => row.child == child,
+            None => true,
+        };
+        if is_counted {
+            looked.count(row);
+        }
+    }
+    looked
 }
 
-fn is_working(row: &Row) -> bool {
-    matches!(row.place, Place::Working(_, _))
+/// The phase in which the worker of the cell of the child serves a row, by a look at each: of several the first in their order.
+pub fn plain_phase(rows: &[Row], child: u32, cell: u32) -> Option<Phase> {
+    let mut first = None;
+    for row in rows {
+        match row.place {
+            Place::Working(own, phase) if own == cell && row.child == child => {
+                first = Some(earlier(first, phase));
+            }
+            _ => (),
+        }
+    }
+    first
 }
 
-fn is_carried(row: &Row) -> bool {
-    matches!(row.place, Place::Queued | Place::Working(_, _))
-}
-
-pub fn is_parked_as(row: &Row, kind: Kind) -> bool {
-    row.place == Place::Parked(kind)
-}
-
-pub fn is_closing(row: &Row) -> bool {
-    is_parked_as(row, Kind::Linger) || is_parked_as(row, Kind::ShortLinger)
-}
-
-pub fn is_in_cell(row: &Row, child: u32, number: u32) -> bool {
-    match row.place {
-        Place::Working(cell, _) => row.child == child && cell == number,
-        _ => false,
+/// The first of the two phases in their order, where there are two.
+fn earlier(former: Option<Phase>, phase: Phase) -> Phase {
+    match (former, phase) {
+        (Some(Phase::Read), _) | (_, Phase::Read) => Phase::Read,
+        (Some(Phase::Write), _) | (_, Phase::Write) => Phase::Write,
+        _ => Phase::Close,
     }
 }
 
-/// Whether a connection is live.
-pub fn has_live(rows: &[Row]) -> bool {
-    rows.iter().any(is_live)
+/// What the list keeps of all rows: whether one is vacant, live and in the hands of a pass, how many are live and served, and how many
+/// wait for room, for a further request and in closing.
+fn kept_of_all(rows: &Rows) -> [usize; 8] {
+    [
+        usize::from(rows.has_vacant()),
+        usize::from(rows.has_live()),
+        usize::from(rows.has_in_hand()),
+        rows.live_count(),
+        rows.working_count(),
+        rows.writing_count(),
+        rows.keep_alive_count(),
+        rows.closing_count(),
+    ]
 }
 
-/// What a look at each row counts of all.
-fn counted_totals(rows: &[Row]) -> Totals {
-    Totals {
-        vacant: rows.iter().any(|row| matches!(row.place, Place::Vacant)),
-        live: has_live(rows),
-        in_hand: rows
-            .iter()
-            .any(|row| matches!(row.place, Place::Held) || is_carried(row)),
-        live_count: rows.iter().filter(|row| is_live(row)).count(),
-        working: rows.iter().filter(|row| is_working(row)).count(),
-        writing: rows
-            .iter()
-            .filter(|row| is_parked_as(row, Kind::Writing))
-            .count(),
-        keep_alive: rows
-            .iter()
-            .filter(|row| is_parked_as(row, Kind::KeepAlive))
-            .count(),
-        closing: rows.iter().filter(|row| is_closing(row)).count(),
+/// The same by a look at each row.
+fn counted_of_all(rows: &[Row]) -> [usize; 8] {
+    let looked = look_at(rows, None);
+    let [writing, keep_alive, closing] = looked.waiting();
+    [
+        usize::from(looked.places[0] > 0),
+        usize::from(looked.live > 0),
+        usize::from(looked.places[2] > 0 || looked.carried() > 0),
+        looked.live,
+        looked.places[4],
+        writing,
+        keep_alive,
+        closing,
+    ]
+}
+
+/// What the list keeps of the child's rows, behind its number: how many its workers serve, or will, how many are open and are served,
+/// whether one is live, and the lowest free cell.
+fn kept_of(rows: &Rows, child: u32, cells: u32) -> [usize; 6] {
+    [
+        child as usize,
+        rows.carried(child),
+        rows.open_count(child),
+        rows.working_in(child),
+        usize::from(rows.has_live_in(child)),
+        rows.lowest_free_cell(child, cells) as usize,
+    ]
+}
+
+/// The same by a look at each row.
+fn counted_of(rows: &[Row], child: u32, cells: u32) -> [usize; 6] {
+    let looked = look_at(rows, Some(child));
+    [
+        child as usize,
+        looked.carried(),
+        looked.open,
+        looked.places[4],
+        usize::from(looked.live > 0),
+        lowest_free(rows, child, cells) as usize,
+    ]
+}
+
+/// The lowest cell of the child whose worker serves no row, by a look at each row, or how many cells there are.
+fn lowest_free(rows: &[Row], child: u32, cells: u32) -> u32 {
+    for cell in 0..cells {
+        if plain_phase(rows, child, cell).is_none() {
+            return cell;
+        }
     }
-}
-
-/// What a look at each row counts of the child's.
-fn counted_of(rows: &[Row], child: u32, cells: u32) -> ChildTotals {
-    let own = || rows.iter().filter(|row| row.child == child);
-    ChildTotals {
-        carried: own().filter(|row| is_carried(row)).count(),
-        open: own()
-            .filter(|row| is_live(row) && row.cause.is_none())
-            .count(),
-        working: own().filter(|row| is_working(row)).count(),
-        live: own().any(is_live),
-        lowest_free: (0..cells)
-            .find(|cell| !is_served(rows, child, *cell))
-            .unwrap_or(cells),
-    }
-}
-
-/// Whether a row is served in that cell of the child.
-fn is_served(rows: &[Row], child: u32, cell: u32) -> bool {
-    rows.iter().any(|row| is_in_cell(row, child, cell))
+    cells
 }
 
 /// Shows where the list keeps something else than a look at each row counts, of so many children and cells, and says whether it does.
 pub fn show_other(sheet: &mut Sheet, rows: &Rows, children: u32, cells: u32) -> bool {
-    let kept = kept_totals(rows);
-    let counted = counted_totals(rows.as_slice());
-    if kept != counted {
-        print!(sheet; "{kept:?}, and counted {counted:?}");
+    if is_shown(sheet, &kept_of_all(rows), &counted_of_all(rows.as_slice())) {
         return true;
     }
     for child in 0..children {
-        let kept = kept_of(rows, child, cells);
-        let counted = counted_of(rows.as_slice(), child, cells);
-        if kept != counted {
-            print!(sheet; "child {child}: {kept:?}, and counted {counted:?}");
+        if show_other_of(sheet, rows, child, cells) {
             return true;
         }
-        if let Some(cell) = other_cell(rows, child, cells) {
+    }
+    false
+}
+
+/// The same of a child.
+fn show_other_of(sheet: &mut Sheet, rows: &Rows, child: u32, cells: u32) -> bool {
+    let kept = kept_of(rows, child, cells);
+    let counted = counted_of(rows.as_slice(), child, cells);
+    if is_shown(sheet, &kept, &counted) {
+        return true;
+    }
+    for cell in 0..cells {
+        if is_other_cell(rows, child, cell) {
             print!(sheet; "child {child}: cell {cell} is served, or isn't, or in another phase");
             return true;
         }
@@ -150,10 +197,17 @@ pub fn show_other(sheet: &mut Sheet, rows: &Rows, children: u32, cells: u32) -> 
     false
 }
 
-/// The first cell of the child of which the list keeps something else.
-fn other_cell(rows: &Rows, child: u32, cells: u32) -> Option<u32> {
-    (0..cells).find(|cell| {
-        rows.is_served(child, *cell) != is_served(rows.as_slice(), child, *cell)
-            || rows.phase_in(child, *cell) != plain_phase(rows.as_slice(), child, *cell)
-    })
+/// Whether the list keeps something else of the cell of the child than a look at each row finds.
+fn is_other_cell(rows: &Rows, child: u32, cell: u32) -> bool {
+    let phase = plain_phase(rows.as_slice(), child, cell);
+    rows.is_served(child, cell) != phase.is_some() || rows.phase_in(child, cell) != phase
+}
+
+/// Shows both where they differ, and says whether they do.
+fn is_shown(sheet: &mut Sheet, kept: &[usize], counted: &[usize]) -> bool {
+    if kept == counted {
+        return false;
+    }
+    print!(sheet; "{kept:?}, and counted {counted:?}");
+    true
 }

@@ -1,7 +1,7 @@
 //! Events of the machine as rows write them, by the names that they have.
 use crate::names::{CAUSES, KINDS, REFUSALS, TAILS, WHYS};
 use conn_machine::{BoxedShape, Commanded, Event};
-use mpm_base::{Ask, NoMemory, Shape};
+use mpm_base::{Ask, ConnName, NoMemory, Shape};
 use std::alloc::Global;
 use test_rows::{listed_as, name_of, number_of, small_of, words};
 
@@ -22,30 +22,39 @@ pub fn restart_to(alloc: Global, shape: Shape) -> Result<Event, NoMemory> {
 
 /// The event that the words write, where it is no restart.
 fn small_event_of(word: &str, rest: &str) -> Option<Event> {
-    let (name, more) = words(rest);
     match word {
         "Accept" => Some(Event::Accept(small_of(rest))),
-        "Park" => Some(Event::Park(name_of(name), listed_as(&KINDS, more)?)),
-        "Hold" => Some(Event::Hold(name_of(name))),
-        "Queue" => Some(Event::Queue(name_of(name))),
-        "Start" => Some(Event::Start(name_of(name))),
-        "Answer" => Some(Event::Answer(name_of(name), ask_of(more))),
-        "Linger" => Some(Event::Linger(name_of(name), listed_as(&CAUSES, more)?)),
-        "Close" => close_of(name, more),
         "Ready" => Some(Event::Ready(small_of(rest))),
         "Tick" => Some(Event::Tick(number_of(rest))),
         "StartChild" => Some(Event::StartChild(small_of(rest))),
         "Retire" => Some(Event::Retire(small_of(rest))),
-        _ => Some(Event::Command(command_of(word, rest)?)),
+        "Refused" | "GracefulStop" | "Stop" => Some(Event::Command(command_of(word, rest)?)),
+        _ => event_of_name(word, rest),
+    }
+}
+
+/// The event of a connection that the words write.
+fn event_of_name(word: &str, rest: &str) -> Option<Event> {
+    let (name, more) = words(rest);
+    let name = name_of(name);
+    match word {
+        "Park" => Some(Event::Park(name, listed_as(&KINDS, more)?)),
+        "Hold" => Some(Event::Hold(name)),
+        "Queue" => Some(Event::Queue(name)),
+        "Start" => Some(Event::Start(name)),
+        "Answer" => Some(Event::Answer(name, ask_of(more))),
+        "Linger" => Some(Event::Linger(name, listed_as(&CAUSES, more)?)),
+        "Close" => close_of(name, more),
+        _ => None,
     }
 }
 
 /// The close of the connection of that name, for a cause and with a tail.
-fn close_of(name: &str, text: &str) -> Option<Event> {
+fn close_of(name: ConnName, text: &str) -> Option<Event> {
     let (cause, tail) = words(text);
     let cause = listed_as(&CAUSES, cause)?;
     let tail = listed_as(&TAILS, tail)?;
-    Some(Event::Close(name_of(name), cause, tail))
+    Some(Event::Close(name, cause, tail))
 }
 
 /// The command that the words write, where it is no restart.

@@ -33,6 +33,7 @@
 
 mod admitting;
 mod calls;
+mod changes;
 mod counts;
 mod events;
 mod names;
@@ -72,7 +73,7 @@ fn sheet_of(alloc: Global, text: &str) -> Result<Sheet, NoMemory> {
     Ok(sheet)
 }
 
-/// Shows what comes of the rows of the section.
+/// Shows what comes of the rows of the section, of events and of rows.
 fn show_section(sheet: &mut Sheet, alloc: Global, section: Section<'_>) -> Result<(), NoMemory> {
     let Section { word, rest, rows } = section;
     match word {
@@ -80,7 +81,22 @@ fn show_section(sheet: &mut Sheet, alloc: Global, section: Section<'_>) -> Resul
         "play" => tables::show_play(sheet, alloc, rest, rows),
         "bounds" => tables::show_bounds(sheet, alloc, rows),
         "counts" => played::show_counts(sheet, alloc, rest, rows),
-        "changes" => played::show_changes(sheet, alloc, rest, rows),
+        "changes" => changes::show_changes(sheet, alloc, rest, rows),
+        "record" => records::show_records(sheet, alloc, rows),
+        "laws" => {
+            records::call_laws();
+            records::call_laws_of_runs();
+            sheet.println("done");
+            Ok(())
+        }
+        _ => show_calls(sheet, alloc, section),
+    }
+}
+
+/// Shows what comes of the rows of the section, of calls.
+fn show_calls(sheet: &mut Sheet, alloc: Global, section: Section<'_>) -> Result<(), NoMemory> {
+    let Section { word, rest, rows } = section;
+    match word {
         "pick" => admitting::show_picks(sheet, alloc, rows),
         "queues" => queues::show_queues(sheet, alloc, rest, rows),
         "queues-as-a-list" => queues::show_same_queues(sheet, alloc, rest, rows),
@@ -88,15 +104,8 @@ fn show_section(sheet: &mut Sheet, alloc: Global, section: Section<'_>) -> Resul
         "rings-as-a-list" => slot_rings::show_same_rings(sheet, alloc, rest, rows),
         "slots" => slots::show_slots(sheet, alloc, rest, rows),
         "slots-as-a-list" => slots::show_same_slots(sheet, alloc, rest, rows),
-        "record" => records::show_records(sheet, alloc, rows),
-        "admits" => {
-            admitting::show_admits(sheet, rows);
-            Ok(())
-        }
         _ => {
-            records::call_laws();
-            records::call_laws_of_runs();
-            sheet.println("done");
+            admitting::show_admits(sheet, rows);
             Ok(())
         }
     }

@@ -1,82 +1,77 @@
 //! What a status page shows of a state, and what a look at each row shows.
-use crate::counts::{is_closing, is_in_cell, is_live, is_parked_as};
-use conn_machine::{Child, ChildPhase, Phase, Place, Row, State};
-use mpm_base::{Kind, NoMemory, Octets, Snapshot};
+use crate::counts::{look_at, plain_phase};
+use conn_machine::{Child, ChildPhase, Phase, Row, State};
+use mpm_base::{NoMemory, Octets, Snapshot};
 use std::alloc::Global;
 use test_rows::{Sheet, small};
 
-/// The numbers of a page.
-#[derive(Clone, Copy, Debug, PartialEq)]
-struct Numbers {
-    generation: u32,
-    busy: usize,
-    idle: usize,
-    total: usize,
-    writing: usize,
-    keep_alive: usize,
-    closing: usize,
+/// The numbers that the page shows: the newest generation, the busy workers and the idle ones, all connections, and those that wait for
+/// room, for a further request, and in closing.
+fn shown_numbers(page: &Snapshot) -> [usize; 7] {
+    [
+        page.generation as usize,
+        page.busy as usize,
+        page.idle as usize,
+        page.total as usize,
+        page.writing as usize,
+        page.keep_alive as usize,
+        page.closing as usize,
+    ]
 }
 
-/// The numbers that the page shows.
-fn shown_numbers(page: &Snapshot) -> Numbers {
-    Numbers {
-        generation: page.generation,
-        busy: page.busy as usize,
-        idle: page.idle as usize,
-        total: page.total as usize,
-        writing: page.writing as usize,
-        keep_alive: page.keep_alive as usize,
-        closing: page.closing as usize,
-    }
+/// Shows the numbers of a page.
+fn show_numbers(sheet: &mut Sheet, numbers: [usize; 7]) {
+    let [generation, busy, idle, total, writing, keep_alive, closing] = numbers;
+    print!(sheet;
+        "  Numbers {{ generation: {generation}, busy: {busy}, idle: {idle}, total: {total}, writing: {writing}"
+    );
+    print!(sheet; ", keep_alive: {keep_alive}, closing: {closing} }}");
 }
 
 /// Shows the page: its numbers, and its letters.
 pub fn show_page(sheet: &mut Sheet, page: &Snapshot) {
-    print!(sheet; "  {:?}, letters ", shown_numbers(page));
-    for letter in page.letters.as_slice() {
-        print!(sheet; "{}", char::from(*letter));
-    }
+    show_parts(sheet, shown_numbers(page), page.letters.as_slice());
+}
+
+/// Shows the numbers and the letters of a page.
+fn show_parts(sheet: &mut Sheet, numbers: [usize; 7], letters: &[u8]) {
+    show_numbers(sheet, numbers);
+    sheet.print(", letters ");
+    sheet.text(letters);
     sheet.println("");
 }
 
 /// Shows the numbers of the page, and how many letters it has of each kind.
 pub fn show_kinds(sheet: &mut Sheet, page: &Snapshot) {
     let letters = page.letters.as_slice();
-    print!(sheet; "  {:?}, {} letters", shown_numbers(page), letters.len());
-    for kind in [b'_', b'R', b'W', b'C', b'G', b'.'] {
-        let count = letters.iter().filter(|letter| **letter == kind).count();
-        print!(sheet; ", {count} {}", char::from(kind));
+    show_numbers(sheet, shown_numbers(page));
+    print!(sheet; ", {} letters", letters.len());
+    for kind in b"_RWCG.".as_slice() {
+        print!(sheet; ", {} {}", count_of(letters, *kind), char::from(*kind));
     }
     sheet.println("");
 }
 
-/// The phase of the worker of the cell of the child, by a look at each row: of several the first in their order.
-pub fn plain_phase(rows: &[Row], child: u32, cell: u32) -> Option<Phase> {
-    for phase in [Phase::Read, Phase::Write, Phase::Close] {
-        if rows.iter().any(|row| row.child == child && row.place == Place::Working(cell, phase)) {
-            return Some(phase);
+/// How often the letter is one of the letters.
+fn count_of(letters: &[u8], letter: u8) -> usize {
+    let mut count: usize = 0;
+    for own in letters {
+        if *own == letter {
+            count = count.wrapping_add(1);
         }
     }
-    None
+    count
 }
 
 /// The letter of the cell of the child, by a look at each row.
-fn plain_letter(rows: &[Row], child: &Child, number: u32, cell: u32) -> u8 {
-    match child.phase {
-        ChildPhase::Empty => b'.',
-        ChildPhase::Running => match plain_phase(rows, number, cell) {
-            Some(Phase::Read) => b'R',
-            Some(Phase::Write) => b'W',
-            Some(Phase::Close) => b'C',
-            None => b'_',
-        },
-        ChildPhase::Stopping => {
-            if rows.iter().any(|row| is_in_cell(row, number, cell)) {
-                b'G'
-            } else {
-                b'.'
-            }
-        }
+fn plain_letter(rows: &[Row], phase: ChildPhase, number: u32, cell: u32) -> u8 {
+    match (phase, plain_phase(rows, number, cell)) {
+        (ChildPhase::Running, Some(Phase::Read)) => b'R',
+        (ChildPhase::Running, Some(Phase::Write)) => b'W',
+        (ChildPhase::Running, Some(Phase::Close)) => b'C',
+        (ChildPhase::Running, None) => b'_',
+        (ChildPhase::Stopping, Some(_)) => b'G',
+        _ => b'.',
     }
 }
 
@@ -84,38 +79,43 @@ fn plain_letter(rows: &[Row], child: &Child, number: u32, cell: u32) -> u8 {
 fn plain_letters(alloc: Global, state: &State) -> Result<Octets, NoMemory> {
     let mut letters = Octets::make(alloc);
     for (number, child) in state.children.as_slice().iter().enumerate() {
-        let cells = match child.phase {
-            ChildPhase::Empty => state.shape.threads,
-            _ => child.shape.threads,
-        };
-        for cell in 0..cells {
-            letters.push(plain_letter(state.rows.as_slice(), child, small(number), cell))?;
-        }
+        add_letters(&mut letters, state, small(number), child)?;
     }
     Ok(letters)
 }
 
-/// The numbers that a page with these letters shows, by a look at each row.
-fn plain_numbers(state: &State, letters: &[u8]) -> Numbers {
-    let rows = state.rows.as_slice();
-    Numbers {
-        generation: state.newest,
-        busy: letters
-            .iter()
-            .filter(|letter| **letter != b'_' && **letter != b'.')
-            .count(),
-        idle: letters.iter().filter(|letter| **letter == b'_').count(),
-        total: rows.iter().filter(|row| is_live(row)).count(),
-        writing: rows
-            .iter()
-            .filter(|row| is_parked_as(row, Kind::Writing))
-            .count(),
-        keep_alive: rows
-            .iter()
-            .filter(|row| is_parked_as(row, Kind::KeepAlive))
-            .count(),
-        closing: rows.iter().filter(|row| is_closing(row)).count(),
+/// Puts the letters of the child at the end.
+fn add_letters(
+    letters: &mut Octets,
+    state: &State,
+    number: u32,
+    child: &Child,
+) -> Result<(), NoMemory> {
+    let cells = match child.phase {
+        ChildPhase::Empty => state.shape.threads,
+        _ => child.shape.threads,
+    };
+    for cell in 0..cells {
+        letters.push(plain_letter(state.rows.as_slice(), child.phase, number, cell))?;
     }
+    Ok(())
+}
+
+/// The numbers that a page with these letters shows, by a look at each row.
+fn plain_numbers(state: &State, letters: &[u8]) -> [usize; 7] {
+    let looked = look_at(state.rows.as_slice(), None);
+    let [writing, keep_alive, closing] = looked.waiting();
+    let idle = count_of(letters, b'_');
+    let none = count_of(letters, b'.');
+    [
+        state.newest as usize,
+        letters.len().wrapping_sub(idle).wrapping_sub(none),
+        idle,
+        looked.live,
+        writing,
+        keep_alive,
+        closing,
+    ]
 }
 
 /// Shows where the page shows something else than a look at each row of the state, and says whether it does.
@@ -131,6 +131,7 @@ pub fn show_other_page(
         return Ok(false);
     }
     show_page(sheet, page);
-    print!(sheet; "and plainly {numbers:?}, letters {:?}", letters.as_slice());
+    sheet.print("and plainly");
+    show_parts(sheet, numbers, letters.as_slice());
     Ok(true)
 }

@@ -39,7 +39,7 @@ impl PlainQueues {
             Call::Park(name, _, deadline) => Answer::Found(self.park(name, deadline)),
             Call::Unpark(name) => Answer::Found(self.unpark(name)),
             Call::Overdue(now) => Answer::Name(self.overdue(now)),
-            Call::Next => Answer::Deadline(self.first().map(|due| due.deadline)),
+            Call::Next => Answer::Deadline(self.next()),
         }
     }
 
@@ -74,6 +74,13 @@ impl PlainQueues {
         match self.first() {
             Some(first) if first.deadline <= now => Some(first.name),
             _ => None,
+        }
+    }
+
+    fn next(&self) -> Option<Moment> {
+        match self.first() {
+            Some(first) => Some(first.deadline),
+            None => None,
         }
     }
 

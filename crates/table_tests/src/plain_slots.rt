@@ -50,7 +50,13 @@ impl PlainSlots {
 
     /// How many slots are vacant.
     fn free(&self) -> usize {
-        self.slots.iter().filter(|slot| slot.item.is_none()).count()
+        let mut count: usize = 0;
+        for slot in self.slots.iter() {
+            if slot.item.is_none() {
+                count = count.wrapping_add(1);
+            }
+        }
+        count
     }
 
     /// Whether the name may be given next: its slot is vacant, and was left as often as the name says.

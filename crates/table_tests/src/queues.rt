@@ -81,7 +81,7 @@ fn show_first_other(
         let found = answer_to(rings, call);
         let want = plain.answer_to(call);
         if found != want {
-            return println!(sheet; "call {place}, {call:?}: {found:?}, and plainly {want:?}");
+            return println!(sheet; "call {place}: {found:?}, and plainly {want:?}");
         }
     }
     sheet.println("equal");

@@ -11,7 +11,7 @@ use std::mem;
 use test_rows::{NumberStream, Sheet, name_of, number_of, small_of, words};
 
 /// A call of the slots.
-#[derive(Clone, Copy, Debug)]
+#[derive(Clone, Copy)]
 pub enum SlotCall {
     /// Puts the item into a vacant slot.
     Put(u32),
@@ -26,7 +26,7 @@ pub enum SlotCall {
 }
 
 /// What a call answers.
-#[derive(Clone, Copy, Debug, PartialEq)]
+#[derive(Clone, Copy, Debug)]
 pub enum SlotAnswer {
     /// The name of what was put.
     Name(ConnName),
@@ -146,7 +146,7 @@ fn show_first_other(
             names.push(name)?;
         }
         if !plain.agrees(call, answer) {
-            println!(sheet; "call {place}, {call:?}: {answer:?}");
+            println!(sheet; "call {place}: {answer:?}");
             return Ok(());
         }
     }

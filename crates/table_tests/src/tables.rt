@@ -6,7 +6,7 @@ use crate::noted::NotesBySlot;
 use crate::pages::{show_kinds, show_page};
 use crate::shown::{show_sizes, show_state};
 use conn_machine::{Event, Reply, State, is_in_bounds, may, step};
-use mpm_base::{NoMemory, Snapshot};
+use mpm_base::{NoMemory, Shape, Snapshot};
 use std::alloc::Global;
 use test_rows::{Section, Sheet, number_of, small_of, words};
 
@@ -16,6 +16,17 @@ pub struct Table {
     pub state: State,
     pub notes: NotesBySlot,
     ghost sized: { IsSized state },
+}
+
+/// What comes of an event that a row writes.
+#[derive(Clone, Copy)]
+enum Outcome {
+    /// It is none.
+    NoEvent,
+    /// It isn't allowed.
+    Refused,
+    /// It was done, with this reply.
+    Done(Reply),
 }
 
 impl Table {
@@ -46,19 +57,21 @@ impl Table {
         Ok(Some(reply))
     }
 
+    /// Does the event that the text writes, where the state allows it.
+    fn play_text(&mut self, alloc: Global, text: &str) -> Result<Outcome, NoMemory> {
+        let Some(event) = event_of(alloc, text)? else {
+            return Ok(Outcome::NoEvent);
+        };
+        match self.play(alloc, &event)? {
+            Some(reply) => Ok(Outcome::Done(reply)),
+            None => Ok(Outcome::Refused),
+        }
+    }
+
     /// What a status page shows of the state.
     pub fn page(&self, alloc: Global) -> Result<Snapshot, NoMemory> {
         self.state.snapshot(alloc)
     }
-}
-
-/// The events of a row: the first ones, of the section, those of the row itself, and the last one, which is done or asked for.
-#[derive(Clone, Copy)]
-struct Events<'a> {
-    first: &'a str,
-    before: &'a str,
-    last: &'a str,
-    is_done: bool,
 }
 
 /// Shows of each row what comes of its last event behind the others, which come behind those of the first row. In a section `step` that is
@@ -73,35 +86,31 @@ pub fn show_last_events(
     let is_done = word == "step";
     for row in rows.lines() {
         print!(sheet; "{row}{}", if is_done { "\n" } else { " => " });
-        // what stands up to a colon is the row's title
-        let (_, events) = row.split_once(": ").unwrap_or(("", row));
-        let (before, last) = events.split_once("; ").unwrap_or(("", events));
-        let events = Events {
-            first,
-            before,
-            last,
-            is_done,
-        };
         let mut table = Table::open(alloc, rest)?;
-        show_last_event(sheet, alloc, &mut table, events)?;
+        show_last_event(sheet, alloc, &mut table, is_done, (first, row))?;
     }
     Ok(())
 }
 
-/// Shows what comes of the last event behind the others.
+/// Shows what comes of the last event behind the others: the first ones, and those of the row, behind its title.
 fn show_last_event(
     sheet: &mut Sheet,
     alloc: Global,
     table: &mut Table,
-    events: Events<'_>,
+    is_done: bool,
+    (first, row): (&str, &str),
 ) -> Result<(), NoMemory> {
-    play_events(sheet, alloc, table, events.first)?;
-    play_events(sheet, alloc, table, events.before)?;
-    if events.is_done {
-        show_step(sheet, alloc, table, events.last)
-    } else {
-        show_allowed(sheet, alloc, table, events.last)
+    let (_, events) = row.split_once(": ").unwrap_or(("", row));
+    let (before, last) = events.split_once("; ").unwrap_or(("", events));
+    play_events(sheet, alloc, table, first)?;
+    play_events(sheet, alloc, table, before)?;
+    if !is_done {
+        return show_allowed(sheet, alloc, table, last);
     }
+    show_state(sheet, table);
+    show_event(sheet, alloc, table, last)?;
+    show_state(sheet, table);
+    Ok(())
 }
 
 /// Shows whether the event is allowed.
@@ -115,19 +124,6 @@ fn show_allowed(
         Some(event) => println!(sheet; "{}", may(&table.state, &event)),
         None => println!(sheet; "{event} is no event"),
     }
-    Ok(())
-}
-
-/// Shows the state, the reply to the event, and the state behind it.
-fn show_step(
-    sheet: &mut Sheet,
-    alloc: Global,
-    table: &mut Table,
-    event: &str,
-) -> Result<(), NoMemory> {
-    show_state(sheet, table);
-    show_event(sheet, alloc, table, event)?;
-    show_state(sheet, table);
     Ok(())
 }
 
@@ -165,18 +161,23 @@ fn show_row_of_play(
 ) -> Result<(), NoMemory> {
     let (word, number) = words(row);
     match word {
+        "do" => play_events(sheet, alloc, table, number),
+        "page" | "kinds" => show_page_of(sheet, alloc, table, row),
         "show" => {
             show_sizes(sheet, &table.state);
             show_state(sheet, table);
+            Ok(())
         }
-        "accepted" => table.state.accepted = number_of(number),
-        "newest" => table.state.newest = small_of(number),
-        "page" => show_page_of(sheet, alloc, table, row)?,
-        "kinds" => show_kinds(sheet, &table.page(alloc)?),
-        "do" => play_events(sheet, alloc, table, number)?,
-        _ => show_event(sheet, alloc, table, row)?,
+        "accepted" => {
+            table.state.accepted = number_of(number);
+            Ok(())
+        }
+        "newest" => {
+            table.state.newest = small_of(number);
+            Ok(())
+        }
+        _ => show_event(sheet, alloc, table, row),
     }
-    Ok(())
 }
 
 /// Shows what a status page shows of the state, or what the last response of the slot that the row names shows.
@@ -186,6 +187,10 @@ fn show_page_of(
     table: &Table,
     row: &str,
 ) -> Result<(), NoMemory> {
+    if row == "kinds" {
+        show_kinds(sheet, &table.page(alloc)?);
+        return Ok(());
+    }
     println!(sheet; "{row} =>");
     match row.strip_prefix("page of ") {
         None => show_page(sheet, &table.page(alloc)?),
@@ -200,16 +205,28 @@ fn show_page_of(
 /// Shows whether each row is a shape that a configuration may have, and whether a state allows a restart with it.
 pub fn show_bounds(sheet: &mut Sheet, alloc: Global, rows: &str) -> Result<(), NoMemory> {
     let table = Table::open(alloc, "2 2")?;
+    show_rows_of_bounds(sheet, alloc, &table, rows)
+}
+
+/// Shows what comes of each row.
+fn show_rows_of_bounds(
+    sheet: &mut Sheet,
+    alloc: Global,
+    table: &Table,
+    rows: &str,
+) -> Result<(), NoMemory> {
     for row in rows.lines() {
         let shape = shape_of(row);
-        let restart = restart_to(alloc, shape)?;
-        println!(sheet;
-            "{row} => {}, may {}",
-            is_in_bounds(&shape),
-            may(&table.state, &restart)
-        );
+        let is_allowed = may_restart(alloc, table, shape)?;
+        println!(sheet; "{row} => {}, may {is_allowed}", is_in_bounds(&shape));
     }
     Ok(())
+}
+
+/// Whether the state allows a restart with the shape.
+fn may_restart(alloc: Global, table: &Table, shape: Shape) -> Result<bool, NoMemory> {
+    let restart = restart_to(alloc, shape)?;
+    Ok(may(&table.state, &restart))
 }
 
 /// Does the events, and shows where one isn't allowed.
@@ -223,12 +240,9 @@ fn play_events(
         return Ok(());
     }
     for text in events.split(", ") {
-        let reply = match event_of(alloc, text)? {
-            Some(event) => table.play(alloc, &event)?,
-            None => None,
-        };
-        if reply.is_none() {
-            print!(sheet; "but {text} isn't allowed: ");
+        match table.play_text(alloc, text)? {
+            Outcome::Done(_) => (),
+            _ => print!(sheet; "but {text} isn't allowed: "),
         }
     }
     Ok(())
@@ -241,13 +255,10 @@ fn show_event(
     table: &mut Table,
     text: &str,
 ) -> Result<(), NoMemory> {
-    let Some(event) = event_of(alloc, text)? else {
-        println!(sheet; "{text} is no event");
-        return Ok(());
-    };
-    match table.play(alloc, &event)? {
-        Some(reply) => println!(sheet; "{text} => {reply:?}"),
-        None => println!(sheet; "{text} => not allowed"),
+    match table.play_text(alloc, text)? {
+        Outcome::NoEvent => println!(sheet; "{text} is no event"),
+        Outcome::Refused => println!(sheet; "{text} => not allowed"),
+        Outcome::Done(reply) => println!(sheet; "{text} => {reply:?}"),
     }
     Ok(())
 }

@@ -1,5 +1,5 @@
 use Rattle.std.proofs.Common.{◌≤◌}
-use Rattle.lock_tests.proofs.rounds_of_turns.locks.Given as goal
+use Rattle.lock_tests.proofs.rounds.locks.Given as goal
 
 -- no round counts twice
 abbrev pub invariant-loop : goal.invariant-loop

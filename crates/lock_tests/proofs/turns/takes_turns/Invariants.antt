@@ -1,6 +1,6 @@
 use Rattle.std.proofs.Common.{◌≡◌, ◌≤◌}
 use Rattle.board_lock.specs.Passes.{HasNoTurn}
-use Rattle.lock_tests.proofs.rounds_of_turns.takes_turns.Given as goal
+use Rattle.lock_tests.proofs.turns.takes_turns.Given as goal
 
 -- the pass has no turn, and no round counts twice
 abbrev pub invariant-loop : goal.invariant-loop

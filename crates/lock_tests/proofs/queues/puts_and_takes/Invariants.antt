@@ -1,6 +1,6 @@
 use Rattle.std.proofs.Common.{◌≤◌}
 use Rattle.crossbeam_queue.specs.Passes.{IsPassOf}
-use Rattle.lock_tests.proofs.rounds_of_queues.puts_and_takes.Given as goal
+use Rattle.lock_tests.proofs.queues.puts_and_takes.Given as goal
 
 -- the seat stays the queue's, and no round counts twice
 abbrev pub invariant-loop-number : goal.invariant-loop-number

@@ -1,5 +1,5 @@
 use Rattle.std.proofs.Common.{◌≤◌}
-use Rattle.lock_tests.proofs.rounds_of_queues.relays.Given as goal
+use Rattle.lock_tests.proofs.rounds.relays.Given as goal
 
 -- no round counts twice
 abbrev pub invariant-loop-number : goal.invariant-loop-number
