@@ -1,3 +1,4 @@
+pub mod BetweenInside
 pub mod Counted
 pub mod CountedInside
 pub mod FoldsInside
