@@ -1,6 +1,8 @@
 pub mod AheadInside
+pub mod AtRest
 pub mod Book
 pub mod BookInside
+pub mod ClosedDown
 pub mod Decided
 pub mod Editions
 pub mod EditionsInside
@@ -8,4 +10,7 @@ pub mod Faults
 pub mod FaultsInside
 pub mod FiledInside
 pub mod Finds
+pub mod Moments
 pub mod RoomInside
+pub mod Started
+pub mod Timely

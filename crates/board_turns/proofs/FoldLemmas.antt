@@ -15,7 +15,7 @@ use Rattle.board.specs.Board.{SeenBoard, folded_board}
 use Rattle.board_book.specs.Book.{entry_of}
 use Rattle.board.specs.Ledger.{ledger_of}
 use Rattle.board_turns.specs.Rests.{TurnsRestOn}
-use Rattle.board_turns.specs.Turns.{HadTurn}
+use Rattle.board_turns.specs.Turns.{HadQuietTurn}
 use Rattle.board_turns.proofs.FoundLemmas.{own_row}
 use Rattle.board_turns.proofs.GoesOnLemmas.{Changes}
 use Rattle.board_turns.proofs.ThenLemmas.{nothing_row_as, row_then, stays_as}
@@ -70,16 +70,13 @@ fold_seen v w u b took gave =
     e.seen ∙ ap (λ l. w.0.seen ++ l) none ∙ append-nil w.0.seen
 
 pub had_fold : {K : Type 0} (v w u : Me (Option K) View) (b : SeenBoard) → TookTurn v w (ledger_of b) → GaveBack w u (ledger_of (folded_board b))
-    → HadTurn w.0.seen [] v.0 u.0
+    → HadQuietTurn w.0.seen v.0 u.0
 had_fold v w u b took gave =
     let f = took.is_found in record {
       others = f.seen;
       made = f.made;
       few = f.few;
-      added = [];
-      entries = tt;
-      events_are = refl;
-      seen = fold_seen v w u b took gave ∙ sym (append-nil w.0.seen);
+      seen = fold_seen v w u b took gave;
       stays = stays_as v w u (ledger_of b) (ledger_of (folded_board b)) took gave;
     }
 

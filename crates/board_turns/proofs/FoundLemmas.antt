@@ -1,7 +1,8 @@
 -- What a pass finds of the board when it takes the turn.
-use Rattle.std.proofs.Common.{◌≡◌, ◌==◌, ℕ, zero, suc, ◌<◌, Bool, true, false, ◌&&◌, not, List, [], ◌∷◌, Option, Some, IfSome, nat_lt, slice_get, length, refl, sym, ap, subst, ◌∙◌, arith}
+use Rattle.std.proofs.Common.{◌≡◌, ◌==◌, ℕ, zero, suc, ◌<◌, Bool, true, false, ◌&&◌, not, List, [], ◌∷◌, Option, None, Some, IfSome, inl, nat_le, nat_lt, slice_get, length, refl, sym, ap, subst, ◌∙◌, arith}
 use Rattle.std.proofs.lemmas.Bool.{and_parts}
 use Rattle.std.proofs.lemmas.Bool.Decides.{nat_tests}
+use Rattle.std.specs.Prelude.{IfNone}
 use Rattle.atomic_table.specs.Table.{Me}
 use Rattle.mpm_base.specs.declared.conn.ConnName.{ConnName}
 use Rattle.mpm_base.specs.declared.conn.Cause.{Cause}
@@ -26,7 +27,7 @@ use Rattle.conn_state.specs.Known.{KnownOutside}
 use Rattle.table_rule.specs.declared.view.Hand.{Hand}
 use Rattle.table_rule.specs.declared.view.Origin.{Origin}
 use Rattle.table_rule.specs.declared.view.View.{View}
-use Rattle.table_rule.specs.Histories.{IsPermitted, threads_of}
+use Rattle.table_rule.specs.Histories.{IsPermitted, IsQueuedInTime, threads_of}
 use Rattle.board_lock.specs.Passes.{TookTurn}
 use Rattle.board_book.specs.declared.faults.BoardFault.{BoardFault}
 use Rattle.board_book.specs.declared.faults.BoardFault.TheVariants as fault
@@ -35,7 +36,7 @@ use Rattle.board.specs.Board.{SeenBoard}
 use Rattle.board_book.specs.Book.{row_in}
 use Rattle.board_book.specs.Editions.{UsedHaveEditions}
 use Rattle.board.specs.Editions.{IsOfGeneration}
-use Rattle.board_book.specs.Finds.{is_due_of}
+use Rattle.board_book.specs.Finds.{FindsRow, is_due_of, is_late}
 use Rattle.board.specs.Ledger.{ledger_of}
 use Rattle.board.specs.WholeEditions.{IsLeftOf}
 use Rattle.worker_group.specs.declared.service.Exit.{Exit}
@@ -46,6 +47,7 @@ use Rattle.worker_group.proofs.ServeLemmas.{alive, test-at}
 use Rattle.worker_group.proofs.StartLemmas.{lives}
 use Rattle.board_turns.specs.Books.{book_of, state_of, whole_book}
 use Rattle.board_turns.specs.Carries.{Carries, HasPermitOnly, Lasts, MayGo}
+use Rattle.board_turns.specs.Pairing.{HasNoneToHand}
 use Rattle.board_turns.specs.Rests.{TurnsRestOn}
 
 -- ## The board
@@ -292,13 +294,47 @@ due_here s child name due room =
           rw (going, may.0, passes) refl;
     }
 
+-- where none is late, it is in time
+pub due_is_in_time : (s : State) (child : ℕ) (name : ConnName) → FindsRow (is_late s) s None → lives_and (is_due_of child s name.slot) s.rows name ≡ true
+    → IsQueuedInTime s (event.Queue name)
+due_is_in_time s child name none due =
+    let is = lives (is_due_of child s name.slot) s.rows name due in
+    let at = alive s.rows name is.row is.found in
+    let one = and_parts (is.row.child == child && is_signalled s name.slot && is_parked is.row.place) (not (is_lingering is.row)) is.passes in
+    let two = and_parts (is.row.child == child && is_signalled s name.slot) (is_parked is.row.place) one.0 in
+    let late : (is_parked is.row.place && nat_le is.row.deadline s.moment) ≡ false = none name.slot is.row at.at in
+    let not_yet : nat_le is.row.deadline s.moment ≡ false = sym (ap (λ (b : Bool). b && nat_le is.row.deadline s.moment) two.1) ∙ late in
+    let before : nat_lt s.moment is.row.deadline ≡ true = grind (arith, nat_tests, not_yet) in
+    test-at s.rows name is.row (λ (r : Row). nat_lt s.moment r.deadline) is.found ∙ before
+
+-- what is found then, where none is late, or none is found
+pub due_some : (s : State) (child : ℕ) (r : Option ConnName) → FindsRow (is_due_of child s) s r
+    → IfSome r (λ name. FindsRow (is_due_of child s) s (Some name))
+due_some s child None found = tt
+due_some s child (Some name) found = found
+
+pub due_times : (s : State) (child : ℕ) (r : Option ConnName) → FindsRow (is_late s) s None → FindsRow (is_due_of child s) s r
+    → IfSome r (λ name. IsQueuedInTime s (event.Queue name))
+due_times s child None none found = tt
+due_times s child (Some name) none found = due_is_in_time s child name none found
+
+pub due_none : (s : State) (child : ℕ) (r : Option ConnName) → FindsRow (is_due_of child s) s r → IfNone r (HasNoneToHand child s)
+due_none s child None found = inl found
+due_none s child (Some name) found = tt
+
 -- and its pass may queue it
 pub queue_permitted : {K : Type 0} (v w : Me (Option K) View) (b : SeenBoard) (child : ℕ) (name : ConnName) → TurnsRestOn → TookTurn v w (ledger_of b)
     → after b.book.base b.book.history ≡ b.book.state → HasPermitOnly child v.0 → IsDueHere b.book.state child name
-    → IsPermitted w.0.hand.permit w.0.credits (after w.0.origin.state w.0.seen) (event.Queue name)
-queue_permitted v w b child name rests took state permit due =
+    → IsQueuedInTime b.book.state (event.Queue name) → IsPermitted w.0.hand.permit w.0.credits (after w.0.origin.state w.0.seen) (event.Queue name)
+queue_permitted v w b child name rests took state permit due in_time =
     let origin : w.0.origin ≡ v.0.origin = ap (λ (q : View). q.origin) took.view in
     let same : after w.0.origin.state w.0.seen ≡ b.book.state =
     ap (λ (o : Origin). after o.state w.0.seen) origin ∙ same_state v w b rests took state in
     let has : w.0.hand.permit ≡ Some child = ap (λ (q : View). q.hand.permit) took.view ∙ ap (λ (h : Hand). h.permit) permit.hand in
-    (due.row, ap (λ (s : State). live_row s.rows name) same ∙ due.found, has ∙ ap Some (sym due.of_child))
+    let before : nat_lt b.book.state.moment due.row.deadline ≡ true =
+    sym (test-at b.book.state.rows name due.row (λ (r : Row). nat_lt b.book.state.moment r.deadline) due.found) ∙ in_time in (
+      due.row,
+      ap (λ (s : State). live_row s.rows name) same ∙ due.found,
+      has ∙ ap Some (sym due.of_child),
+      ap (λ (s : State). nat_lt s.moment due.row.deadline) same ∙ before,
+    )

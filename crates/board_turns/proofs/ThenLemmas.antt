@@ -1,5 +1,7 @@
 -- What a pass knows once it gave its turn back.
-use Rattle.std.proofs.Common.{◌≡◌, ◌≢◌, inl, inr, ℕ, ◌<◌, true, [], ◌∷◌, ◌++◌, Option, Some, None, refl, sym, ap, subst, ◌∙◌, append-nil, append_assoc, eq-eqb}
+use Rattle.std.proofs.Common.{◌≡◌, ◌≢◌, inl, inr, ℕ, ◌<◌, true, List, [], ◌∷◌, ◌++◌, Option, Some, None, refl, sym, ap, subst, ◌∙◌, append-nil, append_assoc, eq-eqb}
+use Rattle.std.proofs.lemmas.List.{append_cancel_right}
+use native.Mathlib.Decide.{ℕ_discrete}
 use Rattle.atomic_table.specs.Table.{Me}
 use Rattle.mpm_base.specs.declared.conn.Cause.{Cause}
 use Rattle.mpm_base.specs.declared.conn.ConnName.{ConnName}
@@ -7,12 +9,14 @@ use Rattle.mpm_base.specs.declared.conn.Kind.{Kind}
 use Rattle.mpm_base.specs.declared.conn.Kind.TheVariants.{Reading, KeepAlive, Writing, Linger, ShortLinger}
 use Rattle.http_read.specs.declared.request.Limits.{Limits}
 use Rattle.file_table.specs.Site.{SeenSite}
+use Rattle.conn_machine.specs.declared.event.Entry.{Entry}
 use Rattle.conn_machine.specs.declared.event.Event.{Event}
 use Rattle.conn_machine.specs.declared.event.Event.TheVariants as event
 use Rattle.conn_machine.specs.declared.kept.Ledger.{Ledger}
 use Rattle.conn_machine.specs.declared.row.Row.{Row}
 use Rattle.conn_machine.specs.declared.state.State.{State}
 use Rattle.conn_machine.specs.Folds.{opening_record}
+use Rattle.conn_machine.specs.Made.{AreMade}
 use Rattle.conn_machine.specs.Rows.{is_queued, is_working, live_row, lives_and}
 use Rattle.conn_machine.specs.Runs.{after, has_after, row_of}
 use Rattle.conn_machine.specs.Sound.{IsSound}
@@ -20,9 +24,12 @@ use Rattle.conn_machine.specs.Table.{next, queued_row, served_row}
 use Rattle.conn_state.specs.declared.turn.LastLinger.TheVariants as linger
 use Rattle.conn_state.specs.Conn.{SeenConn, is_usable}
 use Rattle.conn_state.specs.Known.{KnownOutside}
+use Rattle.table_rule.specs.declared.view.LastLeft.{LastLeft}
 use Rattle.table_rule.specs.declared.view.Origin.{Origin}
 use Rattle.table_rule.specs.declared.view.View.{View}
 use Rattle.table_rule.specs.declared.view.Who.{Who}
+use Rattle.table_rule.specs.Ledgers.{IsLastLeft}
+use Rattle.table_rule.specs.Views.{IsFound}
 use Rattle.board_lock.specs.Passes.{GaveBack, TookTurn}
 use Rattle.board.specs.Board.{SeenBoard}
 use Rattle.board_book.specs.Book.{SeenBook, entry_of}
@@ -37,10 +44,11 @@ use Rattle.worker_group.proofs.StartLemmas.{lives}
 use Rattle.board_turns.specs.Books.{book_of, state_of, whole_book}
 use Rattle.board_turns.specs.Carries.{Carries, HasPermitOnly, IsCarried, Serves}
 use Rattle.board_turns.specs.GoesOnInside.{MadeEvent}
-use Rattle.board_turns.specs.Turns.{IsListener, StaysAs}
+use Rattle.board_turns.specs.Turns.{IsListener, KeepsLeft, StaysAs}
 use Rattle.board_turns.specs.Rests.{TurnsRestOn}
 use Rattle.board_turns.proofs.FoundLemmas.{left_of, own_row, same_live, same_state}
 use Rattle.board_turns.proofs.GoesOnLemmas.{free_then, same_seen, seen_then}
+use Rattle.board_turns.proofs.MadeLemmas.{made_adds}
 
 -- ## Of each turn
 
@@ -56,12 +64,61 @@ stays_as v w u found left took gave = record {
   row = ap (λ (q : View). q.row) gave.view ∙ ap (λ (q : View). row_of q.who.number u.0.seen) took.view;
 }
 
+pub kept_same : (v : View) → KeepsLeft v v
+kept_same v = record { entries = refl; folded = refl }
+
+pub kept_more : (a b c : View) → KeepsLeft a b → KeepsLeft b c → KeepsLeft a c
+kept_more a b c before behind = record { entries = behind.entries ∙ before.entries; folded = behind.folded ∙ before.folded }
+
+-- where a turn leaves a value that was not folded, what is folded is as it was
+pub left_by : (v x u : View) (found left : Ledger) (history added : List Entry) → IsFound v found history → x.who.number ≡ v.who.number → x.left ≡ v.left
+    → IsLastLeft x left u.seen u.left → left.folded ≡ found.folded → left.history ≡ found.history ++ added → u.seen ≡ history ++ added → KeepsLeft v u
+left_by v x u found left history added f who was is_left record_is more seen =
+    elim (ℕ_discrete v.who.number 0) [
+      | yes own ↦
+          let before : f.left ≡ v.left = f.own own in
+          let parts = (is_left.own (who ∙ own)).0 in
+          let whole : u.left.entries ++ left.history ≡ f.left.entries ++ left.history =
+          sym parts.whole_is ∙ seen ∙ ap (λ l. l ++ added) f.parts.whole_is ∙ append_assoc f.left.entries found.history added
+          ∙ ap (λ l. f.left.entries ++ l) (sym more) in
+          record {
+            entries = append_cancel_right u.left.entries f.left.entries left.history whole ∙ ap (λ (l : LastLeft). l.entries) before;
+            folded = sym parts.record_is ∙ record_is ∙ f.parts.record_is ∙ ap (λ (l : LastLeft). l.folded) before;
+          }
+      | no other ↦
+          let same : u.left ≡ v.left = is_left.other (λ z. other (sym who ∙ z)) ∙ was in
+          record { entries = ap (λ (l : LastLeft). l.entries) same; folded = ap (λ (l : LastLeft). l.folded) same }
+    ]
+
+pub left_kept : {K : Type 0} (v w u : Me (Option K) View) (found left : Ledger) (added : List Entry) → TookTurn v w found → GaveBack w u left
+    → left.folded ≡ found.folded → left.history ≡ found.history ++ added → u.0.seen ≡ w.0.seen ++ added → KeepsLeft v.0 u.0
+left_kept v w u found left added took gave record_is more seen =
+    left_by v.0 w.0 u.0 found left w.0.seen added took.is_found (ap (λ (q : View). q.who.number) took.view) (ap (λ (q : View). q.left) took.view) gave.is_left
+    record_is more seen
+
+-- each entry that the pass has seen then was made by its pass
+pub made_then : {K : Type 0} (v w u : Me (Option K) View) (found left : Ledger) → TookTurn v w found → GaveBack w u left
+    → AreMade u.0.origin.state (opening_record u.0.origin.passes) u.0.seen
+made_then v w u found left took gave =
+    let took_in : w.0.origin ≡ v.0.origin = ap (λ (q : View). q.origin) took.view in
+    let gave_in : u.0.origin ≡ w.0.origin = ap (λ (q : View). q.origin) gave.view in
+    subst (λ (o : Origin). AreMade o.state (opening_record o.passes) u.0.seen) (sym gave_in)
+    (made_adds w.0.who.number w.0.origin.state (opening_record w.0.origin.passes) w.0.seen u.0.seen
+    (subst (λ (o : Origin). AreMade o.state (opening_record o.passes) w.0.seen) (sym took_in) took.is_found.made) gave.adds)
+
 -- pass 0 stays pass 0
+pub listens_then : {K : Type 0} (v w u : Me (Option K) View) (found left : Ledger) → TookTurn v w found → GaveBack w u left → v.0.who.number ≡ 0 → IsListener u
+listens_then v w u found left took gave number =
+    let stays = stays_as v w u found left took gave in
+    record {
+      turnless = free_then w u left gave;
+      number = ap (λ (p : Who). p.number) stays.who ∙ number;
+      made = made_then v w u found left took gave;
+      row_is = stays.row ∙ ap (λ p. row_of p u.0.seen) number;
+    }
+
 pub listener_then : {K : Type 0} (v w u : Me (Option K) View) (found left : Ledger) → TookTurn v w found → GaveBack w u left → IsListener v → IsListener u
-listener_then v w u found left took gave is = record {
-  turnless = free_then w u left gave;
-  number = ap (λ (p : Who). p.number) (stays_as v w u found left took gave).who ∙ is.number;
-}
+listener_then v w u found left took gave is = listens_then v w u found left took gave is.number
 
 -- ## Of a turn in which nothing was done
 

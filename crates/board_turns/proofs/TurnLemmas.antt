@@ -10,7 +10,7 @@ use Rattle.conn_machine.specs.declared.event.Event.{Event}
 use Rattle.conn_machine.specs.declared.folded.Folded.{Folded}
 use Rattle.conn_machine.specs.declared.state.State.{State}
 use Rattle.conn_machine.specs.Folds.{opening_record}
-use Rattle.conn_machine.specs.Runs.{AreEntriesOf, after, entries_of, is_of_pass}
+use Rattle.conn_machine.specs.Runs.{AreEntriesOf, after, entries_of, is_of_pass, own_events}
 use Rattle.conn_machine.specs.States.{is_halted}
 use Rattle.table_rule.specs.declared.view.View.{View}
 use Rattle.table_rule.specs.declared.view.Who.{Who}
@@ -38,10 +38,10 @@ use Rattle.board_turns.specs.Books.{book_of}
 use Rattle.board_turns.specs.Carries.{LackedResponse, TookResponse, WasRefused}
 use Rattle.board_turns.specs.GoesOnInside.{MadeEvent}
 use Rattle.board_turns.specs.Rests.{TurnsRestOn}
-use Rattle.board_turns.specs.Turns.{HadATurn, HadTurn, HadTurns, own_events, state_found}
+use Rattle.board_turns.specs.Turns.{HadATurn, HadTurn, HadTurns, state_found}
 use Rattle.board_turns.proofs.FoundLemmas.{same_state}
 use Rattle.board_turns.proofs.GoesOnLemmas.{made_added, only_entry, seen_then}
-use Rattle.board_turns.proofs.ThenLemmas.{nothing_seen, nothing_state, stays_as}
+use Rattle.board_turns.proofs.ThenLemmas.{kept_more, kept_same, left_kept, nothing_seen, nothing_state, stays_as}
 
 -- ## One turn
 
@@ -60,6 +60,7 @@ had_one v w u who e old new rests took gave number m =
       events_are = ap (map (λ (x : Entry). x.event)) (only_entry who e old new m);
       seen = seen_then v w u who e old new took gave m ∙ ap (λ l. w.0.seen ++ l) (sym (only_entry who e old new m));
       stays = stays_as v w u (ledger_of old) (ledger_of new) took gave;
+      left = left_kept v w u (ledger_of old) (ledger_of new) m.adds.0 took gave (ap (λ (b : SeenBook). b.folded) m.book) m.adds.1 (seen_then v w u who e old new took gave m ∙ ap (λ l. w.0.seen ++ l) (sym (only_entry who e old new m)));
     }
 
 -- by the event's other name
@@ -81,6 +82,7 @@ had_none v w u b took gave =
       events_are = refl;
       seen = nothing_seen v w u b took gave ∙ sym (append-nil w.0.seen);
       stays = stays_as v w u (ledger_of b) (ledger_of b) took gave;
+      left = left_kept v w u (ledger_of b) (ledger_of b) [] took gave refl (sym (append-nil b.book.history)) (nothing_seen v w u b took gave ∙ sym (append-nil w.0.seen));
     }
 
 -- by the board that was left, which is the one that was found
@@ -197,6 +199,7 @@ one_turn events old new (found, t) =
       hand = t.stays.hand;
       past = t.stays.past;
       credits = t.stays.credits;
+      left = t.left;
     }
 
 -- none
@@ -209,6 +212,7 @@ no_turn v = record {
   hand = refl;
   past = refl;
   credits = refl;
+  left = kept_same v;
 }
 
 -- some turns, and then some more
@@ -228,4 +232,5 @@ more_turns first second a b c before behind =
       hand = behind.hand ∙ before.hand;
       past = behind.past ∙ before.past;
       credits = behind.credits ∙ before.credits;
+      left = kept_more a b c before.left behind.left;
     }

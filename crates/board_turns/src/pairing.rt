@@ -18,7 +18,8 @@ use std::sync::Wait;
 pub enum NotPaired {
     /// No worker of the child was free.
     NoPermit,
-    /// For none of the child's connections that wait for service something may have come.
+    /// For none of the child's connections that wait for service something may have come, or some connection is late, which is to be let go
+    /// of first.
     NoneDue,
     /// The board refused it.
     Refused(BoardFault),

@@ -1,7 +1,7 @@
 //! The turns of a carrier, a pass other than pass 0 that has a permit: one for each event of the connection that it carries. What each asks
 //! of the board follows from what the last one taught its pass.
 //! Why it is so stands in docs/DECISIONS.md: 102, What a turn teaches; 116, Turns with a board.
-ghost use Rattle.std.specs.Prelude.{◌≡◌, ◌<◌, ℕ, List, [], ◌∷◌, IfErr, IfNone, IfOk, IfSome, None, OnOk, Some};
+ghost use Rattle.std.specs.Prelude.{◌≡◌, ◌<◌, ℕ, List, [], ◌∷◌, length, IfErr, IfNone, IfOk, IfSome, None, OnOk, Some};
 ghost use Rattle.mpm_base.specs.declared.conn.Cause.TheVariants as cause_of;
 ghost use Rattle.mpm_base.specs.declared.conn.Tail.TheVariants as tail;
 ghost use Rattle.conn_machine.specs.Table.{cell_at};
@@ -13,18 +13,37 @@ ghost use Rattle.board_book.specs.Finds.{FindsRow, is_due_of};
 ghost use Rattle.worker_group.specs.declared.service.Exit.TheVariants as exit;
 ghost use Rattle.board_turns.specs.Books.{book_of, state_of};
 ghost use Rattle.board_turns.specs.Carries.{HadNoResponse, HasPermitOnly, IsCarried, LeavesBy, Serves, TookResponse};
+ghost use Rattle.board_turns.specs.Pairing.{HasNoneToHand};
 ghost use Rattle.board_turns.specs.Turns.{HadATurn, HadTurn, state_found};
+ghost use Rattle.table_rule.specs.Histories.{IsQueuedInTime};
 
 use crate::rests::turns_rest_on_these;
 use board::{Board, BoardFault};
 use board_lock::{Carrier, Shared, number};
 use conn_state::{Conn, Known};
-use mpm_base::{Ask, Cause, Kind, Link, NoMemory, Tail};
+use mpm_base::{Ask, Cause, ConnName, Kind, Link, NoMemory, Tail};
 use std::sync::Wait;
 use worker_group::Exit;
 
+/// A connection of the child that waits for service, for which something may have come, and whose deadline is to come: None where there is
+/// none, or where some connection is late, which is to be let go of first.
+fn due_in_time<L: Link, N: Known>(board: &Board<L, N>, child: u32) -> Option<ConnName>
+    requires { child < length board.now.book.state.children }
+    ensures due { IfSome result
+        (λ name. FindsRow (is_due_of child board.now.book.state) board.now.book.state (Some name)) }
+    ensures in_time { IfSome result
+        (λ name. IsQueuedInTime board.now.book.state (event.Queue name)) }
+    ensures none { IfNone result (HasNoneToHand child board.now.book.state) }
+{
+    match board.overdue() {
+        Some(_late) => None,
+        None => board.signalled_of(child),
+    }
+}
+
 /// The carrier, which has a permit of the child, takes one of its connections for which something may have come, to hand it to its workers.
-/// None where no such connection waits at this turn; an Err where the board refuses it, which stays then.
+/// None where no such connection waits at this turn, or where some connection is late, which the listener lets go of first; an Err where the
+/// board refuses it, which stays then.
 pub fn queue<R: Wait, L: Link, N: Known>(
     rt: &R,
     shared: &Shared<Board<L, N>>,
@@ -45,9 +64,7 @@ pub fn queue<R: Wait, L: Link, N: Known>(
     ensures none { IfOk result
         (λ o. IfNone o (HadATurn [] carrier.old.seat.me.0 carrier.new.seat.me.0)) }
     ensures quiet { IfOk result
-        (λ o. IfNone o
-        (FindsRow (is_due_of child (state_of carrier.new.seat.me.0))
-        (state_of carrier.new.seat.me.0) None)) }
+        (λ o. IfNone o (HasNoneToHand child (state_of carrier.new.seat.me.0))) }
     ensures nothing { IfOk result (λ o. IfNone o (HasPermitOnly child carrier.new.seat.me.0)) }
     ensures err { IfErr result (λ _. HadATurn [] carrier.old.seat.me.0 carrier.new.seat.me.0) }
     ensures why { IfErr result (λ fault. IsRefusedFor fault (book_of carrier.new.seat.me.0)) }
@@ -57,7 +74,7 @@ pub fn queue<R: Wait, L: Link, N: Known>(
     let who = number(carrier);
     let mut turn = shared.turn(rt, carrier);
     turn.kept.show();
-    let Some(name) = turn.kept.signalled_of(child) else {
+    let Some(name) = due_in_time(&turn.kept, child) else {
         shared.done(carrier, turn);
         return Ok(None);
     };

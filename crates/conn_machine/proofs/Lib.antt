@@ -11,8 +11,10 @@ pub mod ChildLemmas
 pub mod ChildSound
 pub mod CountLemmas
 pub mod EditionLemmas
+pub mod EndLaw
 pub mod FairLemmas
 pub mod FoldLemmas
+pub mod FrameLaw
 pub mod FreshLaw
 pub mod GenerationLaw
 pub mod HandLaw
@@ -27,6 +29,7 @@ pub mod NameLaw
 pub mod NamedLaw
 pub mod NoteLaw
 pub mod OneFoldLemmas
+pub mod OwnKindsLaw
 pub mod OwnRows
 pub mod OwnerLaw
 pub mod PassLaw

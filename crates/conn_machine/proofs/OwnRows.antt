@@ -214,7 +214,7 @@ had_row None name has = absurd (cc)
 had_row (Some a) name has = (a, refl, sym (eqb-true name.slot a.slot (and_parts (name.slot == a.slot) (name.life == a.life) has).0))
 
 -- under that name
-had_life : (had : Option ConnName) (name a : ConnName) → has_row had name ≡ true → had ≡ Some a → name.life ≡ a.life
+pub had_life : (had : Option ConnName) (name a : ConnName) → has_row had name ≡ true → had ≡ Some a → name.life ≡ a.life
 had_life None name a has is = absurd (cc)
 had_life (Some b) name a has is =
     eqb-true name.life b.life (and_parts (name.slot == b.slot) (name.life == b.life) has).1 ∙ ap (λ (n : ConnName). n.life) (some_is (Some b) b a refl is)
@@ -328,12 +328,12 @@ abbrev pub rows_from : Folded → List Entry → ℕ → Option ConnName
 rows_from f history p = row_from f p history
 
 -- an entry of the pass gives it its next row
-row_own : (f : Folded) (p : ℕ) (history : List Entry) (e : Entry) → e.pass ≡ p
+pub row_own : (f : Folded) (p : ℕ) (history : List Entry) (e : Entry) → e.pass ≡ p
     → row_from f p (history ++ e ∷ []) ≡ has_after (row_from f p history) e.event e.reply
 row_own f p history e own = row-own f p history e (eq-eqb e.pass p own)
 
 -- an entry of another pass leaves it
-row_other : (f : Folded) (p : ℕ) (history : List Entry) (e : Entry) → e.pass ≢ p → row_from f p (history ++ e ∷ []) ≡ row_from f p history
+pub row_other : (f : Folded) (p : ℕ) (history : List Entry) (e : Entry) → e.pass ≢ p → row_from f p (history ++ e ∷ []) ≡ row_from f p history
 row_other f p history e other = row_by f p (history ++ e ∷ []) history (entries_of-other p history e (ne_eqb e.pass p other))
 
 -- an entry that its pass may make changes the row that the pass has or finds

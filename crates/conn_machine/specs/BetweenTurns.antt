@@ -2,18 +2,20 @@
 use Rattle.std.specs.Prelude.{◌≡◌, ◌≢◌, ◌≤◌, ℕ, true, false, ◌&&◌, List, Option, Some, slice_get}
 use Rattle.std.specs.List.{list_any}
 use Rattle.mpm_base.specs.declared.conn.ConnName.{ConnName}
+use Rattle.conn_machine.specs.declared.event.Event.{Event}
 use Rattle.conn_machine.specs.declared.event.Event.TheVariants as event
 use Rattle.conn_machine.specs.declared.event.Entry.{Entry}
 use Rattle.conn_machine.specs.declared.folded.Folded.{Folded}
 use Rattle.conn_machine.specs.declared.row.Row.{Row}
 use Rattle.conn_machine.specs.declared.state.State.{State}
 use Rattle.conn_machine.specs.Children.{child_at}
+use Rattle.conn_machine.specs.Events.{needs_child}
 use Rattle.conn_machine.specs.Made.{AreMade, HasSeen}
 use Rattle.conn_machine.specs.Passes.{EachHasItsOwn, HasNoneInHand, OnlyServes, asking_count}
 use Rattle.conn_machine.specs.Rows.{is_live, is_live_in, live_row}
-use Rattle.conn_machine.specs.Runs.{Run, after, first_row}
+use Rattle.conn_machine.specs.Runs.{Run, after, first_row, may_make}
 use Rattle.conn_machine.specs.Sound.{IsSound}
-use Rattle.conn_machine.specs.States.{is_halted, is_signalled}
+use Rattle.conn_machine.specs.States.{is_at_its_end, is_halted, is_signalled}
 use Rattle.conn_machine.specs.Table.{is_allowed, may_be_queued}
 
 -- a server that has stopped stays so, for the same reason
@@ -89,3 +91,17 @@ pub record StartedChildrenHaveNobodysConnection : Type 0 where
       → is_allowed s (event.StartChild k) ≡ true
       → has p ≡ Some name
       → (r : Row) × (live_row s.rows name ≡ Some r) × (r.child ≢ k)
+
+-- at the end of a graceful stop nothing is done any more of connections, and no child is started or let go of
+pub record NothingIsDoneBehindTheEnd : Type 0 where
+  -- an event of these is allowed only before
+  pub allowed : (s : State) (e : Event)
+      → IsSound s
+      → is_allowed s e ≡ true
+      → needs_child e ≡ true
+      → is_at_its_end s ≡ false
+  -- and passes other than the listener make no others
+  pub others : (p : ℕ) (had : Option ConnName) (e : Event)
+      → p ≢ 0
+      → may_make p had e ≡ true
+      → needs_child e ≡ true

@@ -4,6 +4,7 @@ pub mod Children
 pub mod CountsInside
 pub mod Events
 pub mod Folds
+pub mod Frames
 pub mod Generations
 pub mod HistoryLaws
 pub mod Laws

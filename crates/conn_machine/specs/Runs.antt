@@ -25,6 +25,11 @@ Run s [] = ⊤
 Run s (e ∷ entries) =
     (is_allowed s e.event ≡ true) × (e.reply ≡ reply s e.event) × Run (next s e.event) entries
 
+-- of each entry of a history from the state on this holds, in the state in which it was made
+abbrev pub AllAt : (State → Event → Type 0) → State → List Entry → Type 0
+AllAt P s [] = ⊤
+AllAt P s (e ∷ entries) = P s e.event × AllAt P (next s e.event) entries
+
 -- ## The order of a pass
 
 -- the entry is of the pass
@@ -34,6 +39,10 @@ is_of_pass p e = e.pass == p
 -- the entries that the pass made
 abbrev pub entries_of : ℕ → List Entry → List Entry
 entries_of p history = filter (is_of_pass p) history
+
+-- the events that the pass made
+abbrev pub own_events : ℕ → List Entry → List Event
+own_events p history = map (λ e. e.event) (entries_of p history)
 
 -- the entries of the pass are numbered on from this number, in the order of the history
 abbrev pub IsNumberedFrom : ℕ → ℕ → List Entry → Type 0

@@ -1,6 +1,6 @@
 -- What is said of a state of the machine.
-use Rattle.std.specs.Prelude.{◌==◌, ℕ, ◌+◌, ◌-◌, Bool, true, false, ◌&&◌, List, [], map, min, nat_le, replicate, Option, None, Some, slice_index_or}
-use Rattle.std.specs.List.{enumerate_from}
+use Rattle.std.specs.Prelude.{◌==◌, ℕ, ◌+◌, ◌-◌, Bool, true, false, not, ◌&&◌, List, [], map, min, nat_le, replicate, Option, None, Some, slice_index_or}
+use Rattle.std.specs.List.{enumerate_from, list_any}
 use Rattle.mpm_base.specs.Moment.{greatest_moment}
 use Rattle.mpm_base.specs.declared.shape.Shape.{Shape}
 use Rattle.admission.specs.declared.ChildCount.{ChildCount}
@@ -12,7 +12,7 @@ use Rattle.conn_machine.specs.declared.state.Going.{Going}
 use Rattle.conn_machine.specs.declared.state.Going.TheVariants.{Serving, Ending, Halted}
 use Rattle.conn_machine.specs.declared.state.State.{State}
 use Rattle.conn_machine.specs.Rows.{carried_count, open_count, is_parked}
-use Rattle.conn_machine.specs.Children.{child_at, is_running, no_child}
+use Rattle.conn_machine.specs.Children.{child_at, is_empty, is_running, no_child}
 
 -- so many milliseconds after the moment, as far as moments go
 abbrev pub later : ℕ → ℕ → ℕ
@@ -36,6 +36,15 @@ is_over moment Serving = false
 is_over moment (Ending None) = false
 is_over moment (Ending (Some until)) = nat_le until moment
 is_over moment (Halted why) = false
+
+-- some child isn't gone
+abbrev pub is_staffed : State → Bool
+is_staffed s = list_any (λ c. not (is_empty c.phase)) s.children
+
+-- a graceful stop is at its end: the server takes no connections, hasn't stopped, and each child is gone. (While the server takes connections
+-- some child runs when a command line is read, as children are started before and let go of behind that.)
+abbrev pub is_at_its_end : State → Bool
+is_at_its_end s = not (is_serving s.going) && not (is_halted s.going) && not (is_staffed s)
 
 -- the signal of the slot is set
 abbrev pub is_signalled : State → ℕ → Bool

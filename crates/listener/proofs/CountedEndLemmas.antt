@@ -27,7 +27,7 @@ use Rattle.worker_group.specs.Service.{LeavesRest}
 use Rattle.rounds.specs.declared.ends.End.{End}
 use Rattle.rounds.specs.declared.ends.End.TheVariants as end
 use Rattle.rounds.specs.EndsInside.{HaltsAs, why_of}
-use Rattle.rounds.specs.Moments.{moment_for}
+use Rattle.board_book.specs.Moments.{moment_for}
 use Rattle.rounds.specs.PartsInside.{GoesDown, ServesSome, StartsSome, halt_events, halts_for}
 use Rattle.run_report.specs.Endings.{HasEndedGracefully}
 use Rattle.rounds.specs.declared.ends.Rest.{Rest}

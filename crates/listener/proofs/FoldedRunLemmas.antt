@@ -14,7 +14,7 @@ use Rattle.board.specs.ReportLine.{line_of}
 use Rattle.listener_round.specs.FirstNumbers.{folded_by, opened_by}
 use Rattle.listener.specs.FoldsInside.{FoldsJoin, ShowsForFolds}
 use Rattle.listener_round.specs.Folded.{HasFolded}
-use Rattle.rounds.specs.Timely.{AreTimely, IsTimely}
+use Rattle.board_book.specs.Timely.{AreTimely, IsTimely}
 use Rattle.listener_round.specs.declared.run_numbers.RunNumbers.{RunNumbers}
 use Rattle.rounds.proofs.TimelyLemmas.{all-both}
 

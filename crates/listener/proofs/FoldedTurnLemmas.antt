@@ -10,7 +10,7 @@ use Rattle.listener.specs.BetweenInside.{GoesAbreast, HasKept, HasPatience, IsBe
 use Rattle.listener.specs.FoldsInside.{ListensOn}
 use Rattle.listener.specs.ListenInside.{IsAtStart}
 use Rattle.listener_round.specs.FrontInside.{IsInStep, TookAll}
-use Rattle.rounds.specs.AtRest.{IsAtRest}
+use Rattle.board_book.specs.AtRest.{IsAtRest}
 use Rattle.rounds.specs.TableInside.{StandsInTime}
 use Rattle.listener_round.specs.StandingInside.{IsOpenedBy, KnowsLater}
 use Rattle.listener.specs.TurnsInside.{SeenListener}

@@ -25,7 +25,7 @@ use Rattle.rounds.specs.PartsInside.{halt_events, halts_for}
 use Rattle.listener_round.specs.StandingInside.{newest_edition}
 use Rattle.listener_round.specs.Pace.{ordered}
 use Rattle.listener_round.specs.Stores.{IsRenewed, KeepsStore, RisesBy, is_store_refusal}
-use Rattle.rounds.specs.ClosedDown.{IsBrokenOff}
+use Rattle.board_book.specs.ClosedDown.{IsBrokenOff}
 use Rattle.rounds.proofs.AddedLemmas.{events_in}
 use Rattle.listener_round.proofs.StandingLemmas.{KeepsPast, counted-both, ordered-both, orders_behind}
 

@@ -9,7 +9,7 @@ use Rattle.conn_machine.specs.Runs.{after}
 use Rattle.conn_machine.specs.Shown.{totals_of}
 use Rattle.command_answers.specs.Answers.{open_line}
 use Rattle.worker_group.specs.Acts.{events_of}
-use Rattle.rounds.specs.ClosedDown.{IsBrokenOff}
+use Rattle.board_book.specs.ClosedDown.{IsBrokenOff}
 use Rattle.listener_round.specs.FirstNumbers.{opened_by}
 use Rattle.listener_round.specs.Generations.{Opening}
 use Rattle.listener_round.specs.Heard.{AreAnswered, AreCounted, AreToldBy, Heard, NoneIsLeft, asks_for_state, open_lines}

@@ -10,7 +10,7 @@ use Rattle.listener_round.specs.Links.{HandsOutTaken, TakesLinks, TurnsOneAway}
 use Rattle.rounds.specs.EndsInside.{HaltsAs}
 use Rattle.listener.specs.ListenInside.{HandedOut}
 use Rattle.listener_round.specs.FrontInside.{HandsOut, IsInStep}
-use Rattle.rounds.specs.ClosedDown.{IsBrokenOff}
+use Rattle.board_book.specs.ClosedDown.{IsBrokenOff}
 
 -- ## Where nothing was taken
 

@@ -17,17 +17,17 @@ use Rattle.listener.specs.BetweenInside.{HasKept, HasPatience, HasWaited, IsBefo
 use Rattle.listener.specs.declared.listen.Pause.{Pause}
 use Rattle.listener.specs.declared.listen.Turn.{Turn}
 use Rattle.rounds.specs.declared.ends.Rest.{Rest}
-use Rattle.rounds.specs.ClosedDown.{HasNoLive}
+use Rattle.board_book.specs.ClosedDown.{HasNoLive}
 use Rattle.rounds.specs.EndsInside.{is_at_end}
 use Rattle.listener_round.specs.FrontInside.{HandsOut, HasNoneToHeed, HasReadAll, IsInStep, ListensAsServed, TakesInTo, TookAll}
 use Rattle.listener.specs.ListenInside.{HandsOutEach, HeedsUntil, IsAtStart, TurnsEnd}
 use Rattle.rounds.specs.TableInside.{IsRestful}
-use Rattle.rounds.specs.Timely.{is_at_its_end}
+use Rattle.conn_machine.specs.States.{is_at_its_end}
 use Rattle.listener_round.specs.RoundInside.{GoesRound}
 use Rattle.rounds.specs.PartsInside.{StartsSome}
 use Rattle.listener.specs.Stops.{HasGivenAll}
 use Rattle.listener.specs.TurnsInside.{AreOver, SeenListener}
-use Rattle.rounds.specs.Moments.{moment_for}
+use Rattle.board_book.specs.Moments.{moment_for}
 use Rattle.rounds.proofs.ClosingLemmas.{GoesOnFrom}
 use Rattle.rounds.proofs.TimelyLemmas.{not-at_end}
 use Rattle.listener.proofs.CommandLemmas.{heeded-wait, heeds-asked, heeds-ended, heeds-failed, heeds-gone, heeds-none, heeds-overdue}

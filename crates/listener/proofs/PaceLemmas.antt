@@ -29,10 +29,10 @@ use Rattle.listener_round.specs.FrontInside.{HasReadAll, IsInStep, KeepsStep, On
 use Rattle.listener.specs.ListenInside.{IsAtStart}
 use Rattle.rounds.specs.TableInside.{IsRestful, NoneOverdue}
 use Rattle.listener.specs.Patient.{ArePatient, IsPatientRun, IsSteady, PassesPatiently}
-use Rattle.rounds.specs.AtRest.{IsAtRest}
+use Rattle.board_book.specs.AtRest.{IsAtRest}
 use Rattle.rounds.specs.PartsInside.{AreServed, GoesDown, PassesTime, StartsSome}
 use Rattle.listener_round.specs.RoundInside.{BreaksOff, GoesRound, Round, round_events}
-use Rattle.rounds.specs.Moments.{moment_for, ticks_to}
+use Rattle.board_book.specs.Moments.{moment_for, ticks_to}
 use Rattle.listener.specs.TurnsInside.{SeenListener}
 use Rattle.listener.proofs.BrokenLemmas.{ends-silently}
 use Rattle.rounds.proofs.ClosingLemmas.{GoesOnFrom, acts-state}

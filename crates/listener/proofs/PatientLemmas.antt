@@ -13,7 +13,7 @@ use Rattle.conn_machine.specs.declared.row.Row.{Row}
 use Rattle.conn_machine.specs.declared.folded.Folded.{Folded}
 use Rattle.conn_machine.specs.declared.state.State.{State}
 use Rattle.conn_machine.specs.Rows.{is_parked}
-use Rattle.conn_machine.specs.Runs.{AreEntriesOf, after, may_make}
+use Rattle.conn_machine.specs.Runs.{AreEntriesOf, after, may_make, AllAt}
 use Rattle.conn_machine.specs.States.{is_overdue}
 use Rattle.conn_machine.specs.Table.{next}
 use Rattle.board_book.specs.Book.{SeenBook}
@@ -21,7 +21,6 @@ use Rattle.board_book.specs.Finds.{ending_moments, next_deadline_of}
 use Rattle.worker_group.specs.Acts.{Acts}
 use Rattle.listener.specs.ListenInside.{AsksFor}
 use Rattle.rounds.specs.TableInside.{NoneOverdue}
-use Rattle.rounds.specs.Timely.{AllAt}
 use Rattle.listener.specs.Patient.{ArePatient, IsPatientEvent, PassesPatiently}
 use Rattle.listener_round.specs.RoundInside.{Round, round_events, intake_events}
 use Rattle.rounds.specs.PartsInside.{gone_events, departures_events}

@@ -31,9 +31,9 @@ use Rattle.listener_round.specs.FirstNumbers.{opened_by}
 use Rattle.listener_round.specs.declared.run_numbers.RunNumbers.{RunNumbers}
 use Rattle.listener.specs.Listen.{HasClosedAll, IsRunFrom}
 use Rattle.listener_round.specs.Folded.{HasFolded, whole_book}
-use Rattle.rounds.specs.ClosedDown.{HasNoLive, IsClosedDown}
+use Rattle.board_book.specs.ClosedDown.{HasNoLive, IsClosedDown}
 use Rattle.listener_round.specs.FrontInside.{clients_known}
-use Rattle.rounds.specs.Timely.{AreTimely}
+use Rattle.board_book.specs.Timely.{AreTimely}
 use Rattle.listener.specs.Served.{all_ended}
 
 -- ## The history

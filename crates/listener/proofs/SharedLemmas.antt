@@ -16,7 +16,7 @@ use Rattle.listener_round.specs.FrontInside.{OnlyReadsAndTakes}
 use Rattle.listener_round.specs.Pace.{AreSharesOf, AreSharesOfAll, Brought, IsShareOf, Share, answer_if, answers_in, lines_between, made_of, moment_by, moved, ordered, progress_at, signalled, taken, ticked, ticks_by}
 use Rattle.listener_round.specs.ShareInside.{HandsMany, HushesFor, ReadsFor}
 use Rattle.listener_round.specs.Times.{answers_of}
-use Rattle.rounds.specs.Moments.{known_slots, moment_for, ticks_to}
+use Rattle.board_book.specs.Moments.{known_slots, moment_for, ticks_to}
 use Rattle.listener.proofs.ShareLemmas.{GoesFurther, answers-more, begun-later, begun-more, progress-more, shares-more}
 use Rattle.listener_round.proofs.ShareLemmas.{first-both}
 

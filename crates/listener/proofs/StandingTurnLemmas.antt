@@ -12,7 +12,7 @@ use Rattle.listener_round.specs.declared.edition.NamedConfig.{NamedConfig}
 use Rattle.listener.specs.BetweenInside.{HasWaited}
 use Rattle.listener.specs.declared.listen.Pause.{Pause}
 use Rattle.rounds.specs.declared.ends.Rest.{Rest}
-use Rattle.rounds.specs.Timely.{AreTimely}
+use Rattle.board_book.specs.Timely.{AreTimely}
 use Rattle.listener_round.specs.StandingInside.{StandsOn, StandsSo, standing}
 use Rattle.listener.specs.TurnsInside.{SeenListener, stands_at}
 use Rattle.listener_round.proofs.CommandlessLemmas.{AreCommandless, commandless-added}

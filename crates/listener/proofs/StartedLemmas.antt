@@ -20,7 +20,7 @@ use Rattle.listener.specs.ListenInside.{HasNotBegun, HasStopped, IsAtStart, cont
 use Rattle.listener_round.specs.Clients.{clients_told}
 use Rattle.listener.specs.Outside.{KeepsFront}
 use Rattle.listener.specs.Patient.{HasNothingCome}
-use Rattle.rounds.specs.Timely.{AreTimely}
+use Rattle.board_book.specs.Timely.{AreTimely}
 use Rattle.listener.specs.StartedFirst.{IsStartedFirst}
 use Rattle.listener.specs.Stops.{TakesEach}
 use Rattle.listener.specs.Tells.{AllReceive}

@@ -43,7 +43,7 @@ use Rattle.listener.specs.TurnsInside.{HasStood, HasTurned, KeepsUp, SeenListene
 use Rattle.worker_group.specs.Acts.{Acts, events_of}
 use Rattle.listener.specs.Stops.{TakesEach}
 use Rattle.listener_round.specs.Stores.{KeepsStore}
-use Rattle.rounds.specs.ClosedDown.{IsBrokenOff}
+use Rattle.board_book.specs.ClosedDown.{IsBrokenOff}
 use Rattle.listener_round.specs.declared.run_numbers.RunNumbers.{RunNumbers}
 use Rattle.rounds.proofs.AddedLemmas.{added-events, events_in}
 use Rattle.listener_round.proofs.CommandlessLemmas.{commandless-added, commandless-gone, commandless-retires}

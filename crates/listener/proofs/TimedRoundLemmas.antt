@@ -5,7 +5,7 @@ use Rattle.board_book.specs.Book.{SeenBook}
 use Rattle.worker_group.specs.Acts.{Acts}
 use Rattle.rounds.specs.PartsInside.{PassesTime, time_events}
 use Rattle.listener_round.specs.RoundInside.{Round, round_events}
-use Rattle.rounds.specs.Moments.{ticks_to}
+use Rattle.board_book.specs.Moments.{ticks_to}
 use Rattle.rounds.proofs.ActLemmas.{acts-spelled}
 
 -- such a round

@@ -23,12 +23,13 @@ use Rattle.listener_round.specs.RoundInside.{BreaksOff, GoesRound, RoundEnds}
 use Rattle.listener_round.specs.ShareInside.{CutsShare, GoesOnInTime, HushesFor, MakesShare}
 use Rattle.rounds.specs.PartsInside.{NoneHas, PassesTime, ServesSome, StaysTimely, StartsSome}
 use Rattle.rounds.specs.TableInside.{StandsInTime}
-use Rattle.rounds.specs.Timely.{AreTimely, is_at_its_end, is_staffed}
+use Rattle.conn_machine.specs.States.{is_at_its_end, is_staffed}
+use Rattle.board_book.specs.Timely.{AreTimely}
 use Rattle.listener_round.specs.HeardInside.{Hearing, Hears, HearsUntil, hearing, last_at, made_first}
 use Rattle.listener_round.specs.StandingInside.{StandsBroken, StandsOn, owed_at}
 use Rattle.listener_round.specs.Times.{IsInTime, waits_of}
 use Rattle.listener.specs.TurnsInside.{InTime, SeenListener, stands_at}
-use Rattle.rounds.specs.Moments.{moment_for}
+use Rattle.board_book.specs.Moments.{moment_for}
 use Rattle.rounds.proofs.AddedLemmas.{added-events}
 use Rattle.listener.proofs.BrokenLemmas.{ends-silently}
 use Rattle.listener_round.proofs.CommandlessLemmas.{AreCommandless, commandless-served, commandless-starts}

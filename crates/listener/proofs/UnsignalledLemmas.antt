@@ -11,7 +11,7 @@ use Rattle.conn_machine.specs.Rows.{carried_count, is_carried_at, is_carried_by,
 use Rattle.conn_machine.specs.Sound.{IsSound}
 use Rattle.conn_machine.specs.States.{child_of, is_signalled}
 use Rattle.board_book.specs.Finds.{has_to_be_drained, is_due}
-use Rattle.rounds.specs.AtRest.{IsAtRest}
+use Rattle.board_book.specs.AtRest.{IsAtRest}
 use Rattle.listener.specs.Patient.{NoneSignalled}
 use Rattle.rounds.proofs.ListenLemmas.{count-cons}
 

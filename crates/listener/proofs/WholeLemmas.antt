@@ -9,16 +9,16 @@ use Rattle.conn_machine.specs.declared.event.Event.{Event}
 use Rattle.conn_machine.specs.declared.state.State.{State}
 use Rattle.conn_machine.specs.Children.{no_child}
 use Rattle.conn_machine.specs.Events.{count_events, is_order}
-use Rattle.conn_machine.specs.Runs.{after}
+use Rattle.conn_machine.specs.Runs.{after, AllAt}
 use Rattle.conn_machine.specs.States.{unused_row}
 use Rattle.conn_state.specs.Known.{KnownOutside}
 use Rattle.board.specs.Board.{SeenBoard}
 use Rattle.board_book.specs.Book.{SeenBook}
 use Rattle.worker_group.specs.Acts.{Acts}
 use Rattle.rounds.specs.PartsInside.{StartsSome, StaysTimely}
-use Rattle.rounds.specs.Started.{BeginsWithStarts, starts_of}
+use Rattle.board_book.specs.Started.{BeginsWithStarts, starts_of}
 use Rattle.rounds.specs.TableInside.{asked_children}
-use Rattle.rounds.specs.Timely.{AllAt, AreTimely}
+use Rattle.board_book.specs.Timely.{AreTimely}
 use Rattle.conn_machine.specs.Table.{next}
 use Rattle.rounds.proofs.TimelyLemmas.{all-both}
 use Rattle.listener_round.specs.Commands.{asks_to_end}

@@ -13,10 +13,10 @@ use Rattle.worker_group.specs.Acts.{Acts, ActsInSteps}
 use Rattle.rounds.specs.declared.ends.End.{End}
 use Rattle.rounds.specs.declared.ends.End.TheVariants as end
 use Rattle.rounds.specs.declared.ends.Rest.{Rest}
-use Rattle.rounds.specs.Moments.{known_slots, moment_for}
+use Rattle.board_book.specs.Moments.{known_slots, moment_for}
 use Rattle.rounds.specs.PartsInside.{NoneHas}
-use Rattle.rounds.specs.Started.{BeginsWithStarts}
-use Rattle.rounds.specs.Timely.{AreTimely}
+use Rattle.board_book.specs.Started.{BeginsWithStarts}
+use Rattle.board_book.specs.Timely.{AreTimely}
 use Rattle.listener.specs.BetweenInside.{HasKept, HasWaited, IsOnPace, IsShared, IsWhole, KeepsWhole, WholeFrom}
 use Rattle.listener.specs.StartedFirst.{first_children}
 use Rattle.listener.specs.declared.listen.Pause.{Pause}

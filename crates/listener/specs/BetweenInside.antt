@@ -15,12 +15,12 @@ use Rattle.board.specs.Board.{SeenBoard}
 use Rattle.board.specs.Editions.{GenerationsKeepTheirEditions}
 use Rattle.worker_group.specs.Acts.{ActsInSteps}
 use Rattle.worker_group.specs.Service.{IsUp, LeavesRest}
-use Rattle.rounds.specs.AtRest.{IsAtRest}
-use Rattle.rounds.specs.Moments.{moment_for}
+use Rattle.board_book.specs.AtRest.{IsAtRest}
+use Rattle.board_book.specs.Moments.{moment_for}
 use Rattle.rounds.specs.PartsInside.{NoneHas, ServesSome, StaysTimely}
-use Rattle.rounds.specs.Started.{BeginsWithStarts}
+use Rattle.board_book.specs.Started.{BeginsWithStarts}
 use Rattle.rounds.specs.TableInside.{StandsInTime}
-use Rattle.rounds.specs.Timely.{is_staffed}
+use Rattle.conn_machine.specs.States.{is_staffed}
 use Rattle.rounds.specs.declared.ends.End.{End}
 use Rattle.rounds.specs.declared.ends.Rest.{Rest}
 use Rattle.listener_round.specs.Commands.{asks_to_end}

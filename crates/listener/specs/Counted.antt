@@ -11,8 +11,8 @@ use Rattle.conn_machine.specs.Events.{count_events}
 use Rattle.board.specs.Board.{SeenBoard}
 use Rattle.board_book.specs.Book.{SeenBook}
 use Rattle.board_book.specs.Editions.{orders_in}
-use Rattle.rounds.specs.ClosedDown.{IsBrokenOff}
-use Rattle.rounds.specs.Moments.{moment_for}
+use Rattle.board_book.specs.ClosedDown.{IsBrokenOff}
+use Rattle.board_book.specs.Moments.{moment_for}
 use Rattle.run_report.specs.Endings.{HasEndedGracefully}
 use Rattle.listener_round.specs.Commands.{is_graceful_stop}
 

@@ -6,8 +6,8 @@ use Rattle.mpm_base.specs.declared.front.Woke.TheVariants as woke
 use Rattle.conn_machine.specs.declared.state.State.{State}
 use Rattle.board_book.specs.Book.{SeenBook}
 use Rattle.board_book.specs.declared.faults.BoardFault.{BoardFault}
-use Rattle.rounds.specs.ClosedDown.{IsBrokenOff}
-use Rattle.rounds.specs.Moments.{moment_for}
+use Rattle.board_book.specs.ClosedDown.{IsBrokenOff}
+use Rattle.board_book.specs.Moments.{moment_for}
 use Rattle.listener.specs.Counted.{CountsRun}
 use Rattle.listener_round.specs.StandingInside.{owed_at}
 use Rattle.rounds.specs.declared.ends.End.{End}

@@ -8,9 +8,9 @@ use Rattle.conn_machine.specs.Laws.{StaysSound}
 use Rattle.conn_machine.specs.Passes.{EachHasItsOwn}
 use Rattle.board.specs.Board.{SeenBoard, Agrees}
 use Rattle.listener_round.specs.Commands.{TellsStop}
-use Rattle.rounds.specs.Timely.{AreTimely}
+use Rattle.board_book.specs.Timely.{AreTimely}
 use Rattle.listener_round.specs.declared.run_numbers.RunNumbers.{RunNumbers}
-use Rattle.rounds.specs.ClosedDown.{IsClosedDown}
+use Rattle.board_book.specs.ClosedDown.{IsClosedDown}
 
 -- ## A run
 

@@ -9,7 +9,7 @@ use Rattle.mpm_base.specs.Front.{Answers, Binds, FrontTold, FrontSeen, BoundTold
 use Rattle.mpm_base.specs.declared.front.Woke.{Woke}
 use Rattle.command_answers.specs.Answers.{stopping_answer}
 use Rattle.listener_round.specs.Links.{TakesLinks}
-use Rattle.rounds.specs.ClosedDown.{HasNoLive, IsClosedDown}
+use Rattle.board_book.specs.ClosedDown.{HasNoLive, IsClosedDown}
 use Rattle.listener.specs.Stops.{HasFailedLast, HasTakenAll, StoppedFor}
 use Rattle.rounds.specs.declared.ends.End.{End}
 use Rattle.listener_round.specs.declared.run_numbers.RunNumbers.{RunNumbers}

@@ -11,9 +11,9 @@ use Rattle.conn_machine.specs.Rows.{is_parked}
 use Rattle.conn_machine.specs.States.{is_signalled}
 use Rattle.mpm_base.specs.Clock.{AreEchoes}
 use Rattle.board_book.specs.Finds.{acceptable, next_deadline_of}
-use Rattle.rounds.specs.Moments.{moment_for}
-use Rattle.rounds.specs.AtRest.{IsAtRest}
-use Rattle.rounds.specs.Timely.{AllAt}
+use Rattle.board_book.specs.Moments.{moment_for}
+use Rattle.board_book.specs.AtRest.{IsAtRest}
+use Rattle.conn_machine.specs.Runs.{AllAt}
 
 -- ## Nothing left to be done
 

@@ -17,7 +17,7 @@ use Rattle.listener.specs.Tells.{AllReceive}
 use Rattle.listener_round.specs.Folded.{HasFolded, all_entries, whole_book}
 use Rattle.listener_round.specs.FrontInside.{clients_known}
 use Rattle.listener_round.specs.Links.{EndsLinks}
-use Rattle.rounds.specs.ClosedDown.{IsClosedDown}
+use Rattle.board_book.specs.ClosedDown.{IsClosedDown}
 use Rattle.listener_round.specs.Stores.{KeepsStore}
 use Rattle.std.specs.Prelude.{◌≡◌, ℕ, ◌++◌, List, Option, Some}
 use Rattle.listener_round.specs.declared.run_numbers.RunNumbers.{RunNumbers}

@@ -3,7 +3,7 @@ use Rattle.std.specs.Prelude.{◌≢◌, ℕ, List, [], min}
 use Rattle.mpm_base.specs.Front.{FrontTold}
 use Rattle.conn_machine.specs.declared.event.Entry.{Entry}
 use Rattle.listener_round.specs.declared.run_numbers.RunNumbers.{RunNumbers}
-use Rattle.rounds.specs.Started.{BeginsWithStarts}
+use Rattle.board_book.specs.Started.{BeginsWithStarts}
 
 -- how many children a run by these numbers starts at first: as many as its shape asks for, as far as there are so many
 abbrev pub first_children : RunNumbers → ℕ

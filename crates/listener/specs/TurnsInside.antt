@@ -14,7 +14,7 @@ use Rattle.rounds.specs.declared.ends.End.{End}
 use Rattle.rounds.specs.EndsInside.{is_at_end}
 use Rattle.rounds.specs.PartsInside.{NoneHas, StaysTimely}
 use Rattle.rounds.specs.TableInside.{IsOpening}
-use Rattle.rounds.specs.Timely.{is_at_its_end}
+use Rattle.conn_machine.specs.States.{is_at_its_end}
 use Rattle.listener_round.specs.declared.edition.LoadedEdition.{LoadedEdition}
 use Rattle.listener_round.specs.declared.edition.NamedConfig.{NamedConfig}
 use Rattle.listener_round.specs.declared.run_numbers.RunNumbers.{RunNumbers}

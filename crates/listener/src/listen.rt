@@ -18,9 +18,9 @@ ghost use Rattle.rounds.specs.TableInside.{IsOpening, IsRestful, NoneDueLate, as
 ghost use Rattle.listener.specs.Counted.{AsksOnce};
 ghost use Rattle.listener.specs.CountedInside.{ClocksOn, CountsToEnd, KeepsClockFrom, MovesClock, TurnsCount};
 ghost use Rattle.rounds.specs.PartsInside.{ServesSome, StartsSome, StaysTimely};
-ghost use Rattle.rounds.specs.Timely.{is_staffed};
+ghost use Rattle.conn_machine.specs.States.{is_staffed};
 ghost use Rattle.conn_machine.specs.declared.state.Going.TheVariants.{Serving};
-ghost use Rattle.rounds.specs.Started.{BeginsWithStarts};
+ghost use Rattle.board_book.specs.Started.{BeginsWithStarts};
 ghost use Rattle.listener.specs.TurnsInside.{AreOver, HasListened, MayListen, SeenListener, listener_of};
 ghost use Rattle.listener.specs.BetweenInside.{HasWaited, IsBeforeTurn, IsBehindTurn, ServesAndFolds, ServesRows, TurnClocks, TurnCounts, TurnsGoOn};
 

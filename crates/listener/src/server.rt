@@ -13,7 +13,7 @@ ghost use Rattle.listener.specs.RunsInside.{HasRunBy, ShowsRun, open_lines_of};
 ghost use Rattle.listener.specs.Counted.{AsksOnce, KeepsClock};
 ghost use Rattle.listener_round.specs.FrontInside.{Follows};
 ghost use Rattle.listener.specs.ListenInside.{IsUnopened};
-ghost use Rattle.rounds.specs.Timely.{AreTimely};
+ghost use Rattle.board_book.specs.Timely.{AreTimely};
 
 use crate::folding::{folds_join, show_for_folds};
 use crate::listen::listen;

@@ -13,7 +13,7 @@ use Rattle.conn_machine.specs.declared.child.Child.{Child}
 use Rattle.conn_machine.specs.declared.state.Going.{Going}
 use Rattle.conn_machine.specs.declared.state.Going.TheVariants.{Serving}
 use Rattle.conn_machine.specs.Children.{is_empty}
-use Rattle.conn_machine.specs.States.{is_halted, is_over, is_serving, pick_child}
+use Rattle.conn_machine.specs.States.{is_halted, is_over, is_serving, pick_child, is_at_its_end, is_staffed}
 use Rattle.conn_machine.specs.Table.{next}
 use Rattle.board_book.specs.Book.{SeenBook}
 use Rattle.board_book.specs.Finds.{acceptable}
@@ -25,7 +25,6 @@ use Rattle.worker_group.specs.Service.{left_events}
 use Rattle.rounds.specs.ClosingInside.{state_by}
 use Rattle.rounds.specs.PartsInside.{GivesUp, StaysTimely}
 use Rattle.rounds.specs.TableInside.{NoneDueLate, StandsInTime}
-use Rattle.rounds.specs.Timely.{is_at_its_end, is_staffed}
 use Rattle.rounds.proofs.ClosingLemmas.{GoesOnFrom, acts-state}
 use Rattle.rounds.proofs.DueLemmas.{KeepsOthers, LeavesOthers, LeavesQuiet, due-by, left-others, left-quiet, others-more, set-false, set-other}
 use Rattle.rounds.proofs.TimelyLemmas.{children-plain, not-at_end_serving, plain-left, stays-none, stays-plain}

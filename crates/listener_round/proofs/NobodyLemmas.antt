@@ -18,7 +18,7 @@ use Rattle.worker_group.specs.Service.{left_events}
 use Rattle.rounds.specs.ClosingInside.{LetsGo, Departure, departure_events, lingering_give_up_events}
 use Rattle.listener_round.specs.RoundInside.{DoesOrders}
 use Rattle.rounds.specs.PartsInside.{LetsGoOfConns, LetsGoUntil, Departures, PassesTime, RetiresSome, StartsSome, gone_events, departures_events, signal_events}
-use Rattle.rounds.specs.Moments.{known_slots, ticks_to}
+use Rattle.board_book.specs.Moments.{known_slots, ticks_to}
 use Rattle.listener_round.specs.Watched.{accepted_names, names_given}
 use Rattle.rounds.proofs.AddedLemmas.{added-events, events_in}
 

@@ -17,7 +17,7 @@ use Rattle.rounds.specs.ClosingInside.{GivesUpDrained, LetsGo, lingering_give_up
 use Rattle.listener_round.specs.OrdersInside.{KnowsComing, ServesNewest}
 use Rattle.listener_round.specs.RoundInside.{FailsTaking, TakesSome, TakesUntil}
 use Rattle.rounds.specs.PartsInside.{GivesUp, LetsGoOfConns, LetsGoUntil, PassesTime, RetiresSome, SignalsFirst, StartsSome, signal_events}
-use Rattle.rounds.specs.Moments.{known_slots, ticks_to}
+use Rattle.board_book.specs.Moments.{known_slots, ticks_to}
 use Rattle.listener_round.specs.declared.edition.LoadedEdition.{LoadedEdition}
 use Rattle.listener_round.specs.declared.edition.NamedConfig.{NamedConfig}
 use Rattle.listener_round.proofs.CommandlessLemmas.{AreCommandless, commandless-both, commandless-departures, commandless-gone, commandless-left, commandless-readies, commandless-retires, commandless-starts, commandless-takes, commandless-time, orders-kept}

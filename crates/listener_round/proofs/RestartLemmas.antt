@@ -21,12 +21,11 @@ use Rattle.conn_machine.specs.declared.state.State.{State}
 use Rattle.conn_machine.specs.Events.{count_events, is_order}
 use Rattle.conn_machine.specs.Folds.{HaveBegun}
 use Rattle.conn_machine.specs.Runs.{after}
-use Rattle.conn_machine.specs.States.{is_over, is_serving, later}
+use Rattle.conn_machine.specs.States.{is_over, is_serving, later, is_staffed}
 use Rattle.conn_machine.specs.declared.state.Going.TheVariants.{Ending}
 use Rattle.conn_machine.specs.Table.{greatest_generation, next}
 use Rattle.rounds.specs.PartsInside.{StaysTimely}
 use Rattle.rounds.specs.TableInside.{StandsInTime}
-use Rattle.rounds.specs.Timely.{is_staffed}
 use Rattle.rounds.proofs.TimelyLemmas.{not-at_end, staffed-command, still-in_time, timely-command}
 use Rattle.listener_round.proofs.BroughtLemmas.{brought-as}
 use Rattle.conn_state.specs.Known.{KnownOutside}

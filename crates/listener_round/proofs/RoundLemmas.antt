@@ -13,7 +13,7 @@ use Rattle.worker_group.specs.Service.{left_events}
 use Rattle.rounds.specs.ClosingInside.{IsLateWay, LetsGo}
 use Rattle.listener_round.specs.RoundInside.{AllLeft, BreaksOff, DoesOrders, EndsRound, GoesRound, IsLeftAsWatched, Round, RoundEnds, Intake, TakesSome, round_events, intake_events}
 use Rattle.rounds.specs.PartsInside.{LetsGoOfConns, PassesTime, RetiresSome, SignalsFirst, StartsSome, signal_events}
-use Rattle.rounds.specs.Moments.{known_slots, ticks_to}
+use Rattle.board_book.specs.Moments.{known_slots, ticks_to}
 use Rattle.rounds.specs.declared.ends.End.TheVariants as end
 use Rattle.rounds.proofs.ActLemmas.{acts-spelled}
 

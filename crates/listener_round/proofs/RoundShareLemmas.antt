@@ -9,7 +9,7 @@ use Rattle.board_book.specs.Book.{SeenBook}
 use Rattle.board_book.specs.declared.faults.BoardFault.{BoardFault}
 use Rattle.worker_group.specs.Acts.{Acts}
 use Rattle.rounds.specs.ClosingInside.{IsLateWay, LetsGo}
-use Rattle.rounds.specs.Moments.{known_slots, moment_for, ticks_to}
+use Rattle.board_book.specs.Moments.{known_slots, moment_for, ticks_to}
 use Rattle.rounds.specs.PartsInside.{LetsGoOfConns, LetsGoUntil, PassesTime, RetiresSome, SignalsFirst, StartsSome, signal_events}
 use Rattle.rounds.specs.declared.ends.End.TheVariants as end
 use Rattle.listener_round.specs.FrontInside.{OnlyReads, OnlyTakes}

@@ -10,7 +10,7 @@ use Rattle.board_book.specs.Book.{SeenBook}
 use Rattle.board.specs.Board.{AreClosed, AreEnded}
 use Rattle.board.specs.ReportLine.{line_of}
 use Rattle.listener_round.specs.FirstNumbers.{folded_by, opened_by}
-use Rattle.rounds.specs.Timely.{AreTimely}
+use Rattle.board_book.specs.Timely.{AreTimely}
 use Rattle.listener_round.specs.declared.run_numbers.RunNumbers.{RunNumbers}
 
 -- what was folded of a run by these numbers: entries from the state in which it opens, each of which is one that its pass, one of so many,

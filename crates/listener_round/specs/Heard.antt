@@ -15,7 +15,7 @@ use Rattle.conn_machine.specs.declared.state.State.{State}
 use Rattle.conn_machine.specs.Events.{count_events, is_order}
 use Rattle.conn_machine.specs.Shown.{totals_of}
 use Rattle.command_answers.specs.Answers.{open_line}
-use Rattle.rounds.specs.ClosedDown.{IsBrokenOff}
+use Rattle.board_book.specs.ClosedDown.{IsBrokenOff}
 use Rattle.listener_round.specs.Commands.{asked_in, asks_to_end, lines_read}
 use Rattle.listener_round.specs.Generations.{Opening}
 use Rattle.listener_round.specs.LineAnswers.{IsAnswerTo, next_event, state_behind}

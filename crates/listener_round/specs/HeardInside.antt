@@ -11,8 +11,8 @@ use Rattle.board_book.specs.Book.{SeenBook}
 use Rattle.board_book.specs.declared.faults.BoardFault.{BoardFault}
 use Rattle.command_answers.specs.Answers.{stopping_answer}
 use Rattle.run_report.specs.EndingsInside.{WritesAll}
-use Rattle.rounds.specs.Moments.{known_slots, moment_for, ticks_to}
-use Rattle.rounds.specs.Timely.{AreTimely}
+use Rattle.board_book.specs.Moments.{known_slots, moment_for, ticks_to}
+use Rattle.board_book.specs.Timely.{AreTimely}
 use Rattle.rounds.specs.declared.ends.End.{End}
 use Rattle.rounds.specs.declared.ends.End.TheVariants as end
 use Rattle.listener_round.specs.Commands.{lines_read, stop_line}

@@ -6,7 +6,7 @@ use Rattle.mpm_base.specs.Link.{after_close, fresh_link}
 use Rattle.conn_machine.specs.declared.state.State.{State}
 use Rattle.conn_state.specs.Answered.{SeenEnded}
 use Rattle.board.specs.Ranks.{AllTell, has_rank}
-use Rattle.rounds.specs.ClosedDown.{IsBrokenOff}
+use Rattle.board_book.specs.ClosedDown.{IsBrokenOff}
 
 -- ## Links that no connection took
 

@@ -19,7 +19,7 @@ use Rattle.conn_machine.specs.declared.state.Going.TheVariants.{Halted}
 use Rattle.worker_group.specs.Acts.{events_of}
 use Rattle.listener_round.specs.Commands.{asked_by, asks_to_end}
 use Rattle.listener_round.specs.Times.{answers_of}
-use Rattle.rounds.specs.Moments.{known_slots, moment_for, ticks_to}
+use Rattle.board_book.specs.Moments.{known_slots, moment_for, ticks_to}
 
 -- ## What of a history comes from outside
 

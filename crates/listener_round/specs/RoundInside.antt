@@ -22,7 +22,7 @@ use Rattle.rounds.specs.ClosingInside.{AllLeftBy, GivesUpDrained, IsLateWay, Dep
 use Rattle.listener_round.specs.FrontInside.{IsInStep}
 use Rattle.rounds.specs.declared.ends.End.{End}
 use Rattle.rounds.specs.declared.ends.End.TheVariants as end
-use Rattle.rounds.specs.Moments.{known_slots, ticks_to}
+use Rattle.board_book.specs.Moments.{known_slots, ticks_to}
 use Rattle.rounds.specs.PartsInside.{way_of, GivesUp, Departures, time_events, departures_events, AreLetGo, PassesTime}
 
 -- ## Connections that are taken

@@ -10,9 +10,9 @@ use Rattle.listener_round.specs.Commands.{asked_by, asks_to_end}
 use Rattle.listener_round.specs.Pace.{Brought, Share, brought, lines_between, made_of, ordered, taken}
 use Rattle.rounds.specs.declared.ends.End.{End}
 use Rattle.rounds.specs.declared.ends.End.TheVariants as end
-use Rattle.rounds.specs.Moments.{known_slots}
+use Rattle.board_book.specs.Moments.{known_slots}
 use Rattle.rounds.specs.TableInside.{NoneDueLate, StandsInTime}
-use Rattle.rounds.specs.Timely.{is_at_its_end}
+use Rattle.conn_machine.specs.States.{is_at_its_end}
 use Rattle.conn_machine.specs.declared.state.State.{State}
 
 -- ## Command lines

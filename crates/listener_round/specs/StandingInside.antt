@@ -17,7 +17,7 @@ use Rattle.listener_round.specs.FirstNumbers.{opened_by}
 use Rattle.listener_round.specs.Generations.{Opening, config_at, made_edition, renewed}
 use Rattle.listener_round.specs.Folded.{HasFolded, all_entries, whole_book}
 use Rattle.listener_round.specs.Orders.{AreOrdered, edition_with, orders_with}
-use Rattle.rounds.specs.Timely.{AreTimely}
+use Rattle.board_book.specs.Timely.{AreTimely}
 use Rattle.listener_round.specs.Stores.{IsRenewed, RisesBy}
 use Rattle.listener_round.specs.declared.edition.NamedConfig.{NamedConfig}
 use Rattle.rounds.specs.declared.ends.End.{End}

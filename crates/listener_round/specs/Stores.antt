@@ -10,7 +10,7 @@ use Rattle.conn_machine.specs.declared.event.Refusal.TheVariants.{Store}
 use Rattle.conn_machine.specs.Events.{count_events, is_order}
 use Rattle.conn_machine.specs.declared.state.Going.{Going}
 use Rattle.listener_round.specs.Generations.{renewed}
-use Rattle.rounds.specs.ClosedDown.{IsBrokenOff}
+use Rattle.board_book.specs.ClosedDown.{IsBrokenOff}
 
 -- the count rose by so many at least, or stands at the greatest number, as far as a count goes
 abbrev pub RisesBy : ℕ → ℕ → ℕ → Type 0

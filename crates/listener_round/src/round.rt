@@ -22,11 +22,11 @@ ghost use Rattle.listener_round.specs.HeardInside.{Hears, HearsUntil, KeepsHeard
 ghost use Rattle.listener_round.specs.OrdersInside.{KnowsComing, ServesNewest};
 ghost use Rattle.listener_round.specs.RoundInside.{BreaksOff, EndsTaking, FailsTaking, IsTaking, RoundEnds, TakesSome, TakesUntil};
 ghost use Rattle.rounds.specs.PartsInside.{StaysTimely};
-ghost use Rattle.rounds.specs.Timely.{is_at_its_end};
+ghost use Rattle.conn_machine.specs.States.{is_at_its_end};
 ghost use Rattle.listener_round.specs.Pace.{brought, taken};
 ghost use Rattle.listener_round.specs.ShareInside.{CutsShare, GoesOnInTime, HandsMany, HushesFor, MakesOneAtMost, MakesShare, TakesAllButOne, TakesHanded};
 ghost use Rattle.listener_round.specs.StandingInside.{StandsBroken, StandsOn, owed_at, standing};
-ghost use Rattle.rounds.specs.Moments.{moment_for};
+ghost use Rattle.board_book.specs.Moments.{moment_for};
 
 use crate::listener_state::Listener;
 use board::BoardFault;

@@ -1,5 +1,5 @@
 -- Children that start, get their credit, or are let go of.
-use Rattle.std.proofs.Common.{◌≡◌, ℕ, zero, suc, ◌+◌, ◌<◌, ◌≤◌, Bool, true, false, not, ◌&&◌, cond, List, [], ◌∷◌, ◌++◌, length, map, count_by, nat_lt, nat_le, Option, None, Some, slice_get, refl, sym, ap, subst, ◌∙◌, arith}
+use Rattle.std.proofs.Common.{◌≡◌, ℕ, zero, suc, ◌+◌, ◌<◌, ◌≤◌, Bool, true, false, not, ◌&&◌, cond, List, [], ◌∷◌, ◌++◌, length, map, count_by, nat_lt, nat_le, Option, None, Some, slice_get, refl, sym, ap, subst, ◌∙◌, append-nil, arith}
 use Rattle.std.proofs.lemmas.Bool.{and_parts}
 use Rattle.std.proofs.lemmas.Bool.Decides.{nat_tests}
 use Rattle.std.proofs.lemmas.List.{map-append}
@@ -17,11 +17,14 @@ use Rattle.conn_machine.specs.declared.state.State.{State}
 use Rattle.conn_machine.specs.Children.{child_at, is_empty, is_stopping, retired_child, running_count, started_child}
 use Rattle.conn_machine.specs.Lists.{update}
 use Rattle.conn_machine.specs.Rows.{is_live_in}
+use Rattle.conn_machine.specs.Folds.{opening_record}
+use Rattle.conn_machine.specs.Made.{AreMade}
 use Rattle.conn_machine.specs.Runs.{after, row_of}
 use Rattle.conn_machine.specs.Sound.{IsSound}
 use Rattle.conn_machine.specs.States.{is_serving}
 use Rattle.conn_machine.specs.Table.{child_passes, is_allowed, may_retire, next}
 use Rattle.table_rule.specs.declared.view.Past.{Past}
+use Rattle.table_rule.specs.declared.view.Origin.{Origin}
 use Rattle.table_rule.specs.declared.view.View.{View}
 use Rattle.table_rule.specs.Histories.{threads_of}
 use Rattle.table_rule.specs.Pasts.{MakesSteps}
@@ -37,6 +40,7 @@ use Rattle.board_turns.specs.Rests.{TurnsRestOn}
 use Rattle.board_turns.specs.Turns.{HadTurn, IsListener, state_found}
 use Rattle.board_turns.proofs.FoundLemmas.{own_row, same_state}
 use Rattle.board_turns.proofs.GoesOnLemmas.{free_then, same_seen}
+use Rattle.board_turns.proofs.ThenLemmas.{left_by}
 use Rattle.listener_turns.specs.Children.{AreStarted}
 use Rattle.listener_turns.specs.Credits.{HadCreditTurn}
 use Rattle.listener_turns.specs.PartsInside.{MadeEvents}
@@ -238,10 +242,17 @@ module _ {K : Type 0} (v w x u : Me (Option K) View) (b : SeenBoard) (child thre
       same_seen x u (ledger_of b) has gave.ends ∙ ap (λ (q : View). q.seen) is
 
   pub credited_listener : IsListener v → IsListener u
-  credited_listener listener = record {
-    turnless = free_then x u (ledger_of b) gave;
-    number = ap (λ (q : View). q.who.number) gave.view ∙ ap (λ (q : View). q.who.number) is ∙ ap (λ (q : View). q.who.number) took.view ∙ listener.number;
-  }
+  credited_listener listener =
+      let number : x.0.who.number ≡ 0 = ap (λ (q : View). q.who.number) is ∙ ap (λ (q : View). q.who.number) took.view ∙ listener.number in
+      let origin : u.0.origin ≡ v.0.origin =
+      ap (λ (q : View). q.origin) gave.view ∙ ap (λ (q : View). q.origin) is ∙ ap (λ (q : View). q.origin) took.view in
+      record {
+        turnless = free_then x u (ledger_of b) gave;
+        number = ap (λ (q : View). q.who.number) gave.view ∙ number;
+        made = subst (λ (o : Origin). AreMade o.state (opening_record o.passes) u.0.seen) (sym origin)
+            (subst (AreMade v.0.origin.state (opening_record v.0.origin.passes)) (sym seen) took.is_found.made);
+        row_is = ap (λ (q : View). q.row) gave.view ∙ ap (λ p. row_of p u.0.seen) number;
+      }
 
   pub credited_row : TurnsRestOn → u.0.row ≡ v.0.row
   credited_row rests =
@@ -272,5 +283,8 @@ module _ {K : Type 0} (v w x u : Me (Option K) View) (b : SeenBoard) (child thre
           who = ap (λ (q : View). q.who) gave.view ∙ ap (λ (q : View). q.who) is ∙ ap (λ (q : View). q.who) took.view;
           hand = ap (λ (q : View). q.hand) gave.view ∙ ap (λ (q : View). q.hand) is ∙ ap (λ (q : View). q.hand) took.view;
           turn = ap (λ (q : View). q.turn) gave.view;
+          left = left_by v.0 x.0 u.0 (ledger_of b) (ledger_of b) w.0.seen [] f (ap (λ (q : View). q.who.number) is ∙ ap (λ (q : View). q.who.number) took.view)
+              (ap (λ (q : View). q.left) is ∙ ap (λ (q : View). q.left) took.view) gave.is_left refl (sym (append-nil b.book.history))
+              (seen ∙ sym (append-nil w.0.seen));
         },
       )

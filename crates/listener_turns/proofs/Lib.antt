@@ -1,4 +1,5 @@
 mod ChildrenLemmas
+mod FoldedLemmas
 mod HeldLemmas
 pub mod ListenerLemmas
 pub mod LookLemmas

@@ -14,6 +14,7 @@ use Rattle.conn_machine.specs.Made.{AreMade, HasSeen}
 use Rattle.conn_machine.specs.Passes.{EachHasItsOwn}
 use Rattle.conn_machine.specs.Rows.{is_live, is_parked, is_unused, is_with_a_pass}
 use Rattle.conn_machine.specs.Runs.{entries_of, first_row}
+use Rattle.table_rule.specs.declared.view.Origin.{Origin}
 use Rattle.table_rule.specs.declared.view.View.{View}
 use Rattle.table_rule.specs.Ledgers.{IsSplit}
 use Rattle.board_lock.specs.Passes.{GaveBack, TookTurn}
@@ -25,10 +26,9 @@ use Rattle.worker_group.proofs.ServeLemmas.{alive}
 use Rattle.worker_group.proofs.StartLemmas.{lives}
 use Rattle.board_turns.specs.Books.{state_of}
 use Rattle.board_turns.specs.Rests.{TurnsRestOn}
-use Rattle.board_turns.specs.Turns.{HadTurn}
-use Rattle.board_turns.proofs.FoldLemmas.{fold_row, had_fold}
-use Rattle.listener_turns.specs.Folds.{IsFolded, IsTooEarly}
-use Rattle.listener_turns.specs.Looks.{IsAtRest, LooksIdle}
+use Rattle.board_turns.specs.Turns.{IsListener}
+use Rattle.listener_turns.specs.Looks.{LooksIdle}
+use Rattle.board_book.specs.AtRest.{IsAtRest}
 
 -- ## Whether a connection is live
 
@@ -139,36 +139,22 @@ looks_idle law child threads count old new number looked = record {
   still = λ own rest. rest_stays law old new.seen own number looked.made looked.seen rest;
 }
 
--- ## Folds
-
--- the connection of a pass that folded, and what its turn was
-pub fold_row_as : {K : Type 0} (v w u : Me (Option K) View) (old new : SeenBoard) → TurnsRestOn → TookTurn v w (ledger_of old) → GaveBack w u (ledger_of new)
-    → new ≡ folded_board old → u.0.row ≡ v.0.row
-fold_row_as v w u old new rests took gave is = fold_row v w u old rests took (subst (λ (b : SeenBoard). GaveBack w u (ledger_of b)) is gave)
-
-pub had_fold_as : {K : Type 0} (v w u : Me (Option K) View) (old new : SeenBoard) → TookTurn v w (ledger_of old) → GaveBack w u (ledger_of new)
-    → new ≡ folded_board old → HadTurn w.0.seen [] v.0 u.0
-had_fold_as v w u old new took gave is = had_fold v w u old took (subst (λ (b : SeenBoard). GaveBack w u (ledger_of b)) is gave)
-
--- all is folded behind a fold
-pub is_folded : {K : Type 0} (v w u : Me (Option K) View) (old new : SeenBoard) → TookTurn v w (ledger_of old) → GaveBack w u (ledger_of new)
-    → v.0.who.number ≡ 0 → new ≡ folded_board old → IsFolded u.0
-is_folded v w u old new took given number is =
-    let gave = subst (λ (b : SeenBoard). GaveBack w u (ledger_of b)) is given in
-    let split : IsSplit w.0.origin u.0.left (ledger_of (folded_board old)) u.0.seen =
-    (gave.is_left.own (ap (λ (q : View). q.who.number) took.view ∙ number)).0 in
-    sym (split.whole_is ∙ append_nil u.0.left.entries)
-  where
-    append_nil : {X : Type 0} (xs : List X) → xs ++ [] ≡ xs
-    append_nil [] = refl
-    append_nil (x ∷ xs) = ap (λ l. x ∷ l) (append_nil xs)
-
--- it was too early for one
-pub is_too_early : {K : Type 0} (v w u : Me (Option K) View) (b : SeenBoard) → TookTurn v w (ledger_of b) → GaveBack w u (ledger_of b) → v.0.who.number ≡ 0
-    → may_fold b.book.folded b.book.history ≡ false → IsTooEarly u.0
-is_too_early v w u b took gave number early =
-    let split : IsSplit w.0.origin u.0.left (ledger_of b) u.0.seen = (gave.is_left.own (ap (λ (q : View). q.who.number) took.view ∙ number)).0 in record {
-      kept = b.book.history;
-      seen = split.whole_is;
-      early = ap (λ f. may_fold f b.book.history) (sym split.record_is) ∙ early;
+-- pass 0 stays pass 0 by a look at an idle word
+pub idle_listener : {S : Type 0} (child count : ℕ) (old new : Me S View) → TurnsRestOn → new.1 ≡ old.1 → FoundIdle child old.0 count new.0 → IsListener old → IsListener new
+idle_listener child count old new rests hand found is =
+    let origin : new.0.origin ≡ old.0.origin = ap (λ (q : View). q.origin) found.looked.0 in
+    let first = opening_record old.0.origin.passes in
+    let others : HasSeen 0 old.0.seen new.0.seen =
+    (found.seen.0, found.seen.1, subst (λ (p : ℕ). entries_of p found.seen.0 ≡ []) is.number found.seen.2) in
+    record {
+      turnless = record {
+        hand = hand ∙ is.turnless.hand;
+        turn = ap (λ (q : View). q.turn) found.looked.0 ∙ is.turnless.turn;
+      };
+      number = ap (λ (q : View). q.who.number) found.looked.0 ∙ is.number;
+      made = subst (λ (o : Origin). AreMade o.state (opening_record o.passes) new.0.seen) (sym origin) found.made;
+      row_is =
+          ap (λ (q : View). q.row) found.looked.0 ∙ is.row_is
+          ∙ sym (rests.opens old.0.origin.passes 0 old.0.seen) ∙ sym (rests.stays first 0 old.0.seen new.0.seen others)
+          ∙ rests.opens old.0.origin.passes 0 new.0.seen;
     }

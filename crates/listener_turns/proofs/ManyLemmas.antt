@@ -35,7 +35,7 @@ use Rattle.board_turns.specs.Rests.{TurnsRestOn}
 use Rattle.board_turns.specs.Turns.{HadATurn, HadTurn}
 use Rattle.board_turns.proofs.FoundLemmas.{own_row, same_state}
 use Rattle.board_turns.proofs.GoesOnLemmas.{ended_by, only_entry}
-use Rattle.board_turns.proofs.ThenLemmas.{stays_as}
+use Rattle.board_turns.proofs.ThenLemmas.{left_kept, stays_as}
 use Rattle.listener_turns.specs.PartsInside.{MadeEvents}
 use Rattle.listener_turns.specs.Signals.{SignalsAll, ready_events}
 
@@ -193,6 +193,7 @@ module _ {K : Type 0} (v w u : Me (Option K) View) (who : ℕ) (events : List Ev
         events_are = m.events_are;
         seen = seen_all;
         stays = stays_as v w u (ledger_of old) (ledger_of new) took gave;
+        left = left_kept v w u (ledger_of old) (ledger_of new) m.adds.0 took gave m.folded m.adds.1 seen_all;
       }
 
   -- the state behind all of that is that of the board

@@ -6,7 +6,7 @@ use Rattle.conn_machine.specs.Made.{AreMade, AreOfPasses, HasSeen}
 use Rattle.table_rule.specs.declared.view.View.{View}
 use Rattle.table_rule.specs.Histories.{threads_of}
 use Rattle.table_rule.specs.Pasts.{MakesSteps}
-use Rattle.board_turns.specs.Turns.{state_found}
+use Rattle.board_turns.specs.Turns.{KeepsLeft, state_found}
 
 -- the turn found this history, and nothing was added: by one step the child has the credit of so many workers, as many as it has there; it
 -- left so many more than it found
@@ -23,3 +23,4 @@ pub record HadCreditTurn (found : List Entry) (child threads : ℕ) (old new : V
   pub who : new.who ≡ old.who
   pub hand : new.hand ≡ old.hand
   pub turn : new.turn ≡ None
+  pub left : KeepsLeft old new

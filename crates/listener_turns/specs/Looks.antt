@@ -1,35 +1,20 @@
 -- What the listener finds in a turn in which it only looks.
-use Rattle.std.specs.Prelude.{◌≡◌, ◌==◌, ◌↔◌, ℕ, Bool, true, false, None, Some, not, slice_get}
+use Rattle.std.specs.Prelude.{◌≡◌, ◌==◌, ◌↔◌, ℕ, Bool, true, false, not}
 use Rattle.std.specs.List.{list_any}
 use Rattle.conn_machine.specs.declared.event.Commanded.{Commanded}
 use Rattle.conn_machine.specs.declared.event.Commanded.TheVariants.{Graceful, GracefulStop, Refused, Stop}
-use Rattle.conn_machine.specs.declared.row.Row.{Row}
 use Rattle.conn_machine.specs.declared.state.State.{State}
 use Rattle.conn_machine.specs.Children.{is_empty}
 use Rattle.conn_machine.specs.Folds.{opening_record}
 use Rattle.conn_machine.specs.Passes.{EachHasItsOwn}
 use Rattle.conn_machine.specs.Rows.{is_live}
 use Rattle.conn_machine.specs.Runs.{first_row}
-use Rattle.conn_machine.specs.Table.{may_retire}
 use Rattle.table_rule.specs.declared.view.View.{View}
 use Rattle.idle_workers.specs.Found.{FoundIdle}
-use Rattle.board_book.specs.Finds.{FindsRetirable, acceptable, has_to_be_drained, is_due, is_let_go, is_quiet, next_deadline_of, startable}
+use Rattle.board_book.specs.AtRest.{IsAtRest}
+use Rattle.board_book.specs.Finds.{FindsRetirable, acceptable, next_deadline_of}
 use Rattle.board_turns.specs.Books.{state_of}
 use Rattle.listener_turns.specs.declared.looks.Look.{Look}
-
--- nothing is left to be done in the state: no connection is in hand, is to be served and could be, is to be drained or let go of, and no
--- child waits to be let go of or started
-pub record IsAtRest (s : State) : Type 0 where
-  pub quiet : is_quiet s ≡ true
-  pub served : (slot : ℕ) (r : Row) → slice_get s.rows slot ≡ Some r → is_due s slot r ≡ false
-  pub drained : (slot : ℕ) (r : Row)
-      → slice_get s.rows slot ≡ Some r
-      → has_to_be_drained s slot r ≡ false
-  pub let_go : (slot : ℕ) (r : Row)
-      → slice_get s.rows slot ≡ Some r
-      → is_let_go s slot r ≡ false
-  pub kept : (k : ℕ) → may_retire s k ≡ false
-  pub started : startable s ≡ None
 
 -- what was found is so in the state
 pub record IsSeenIn (s : State) (look : Look) : Type 0 where

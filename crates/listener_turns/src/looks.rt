@@ -7,7 +7,8 @@ ghost use Rattle.conn_machine.specs.Rows.{is_live};
 ghost use Rattle.conn_machine.specs.Shown.{totals_of};
 ghost use Rattle.board_turns.specs.Books.{state_of};
 ghost use Rattle.board_turns.specs.Turns.{HadATurn, IsListener};
-ghost use Rattle.listener_turns.specs.Looks.{IsAtRest, IsSeenIn, LooksIdle};
+ghost use Rattle.listener_turns.specs.Looks.{IsSeenIn, LooksIdle};
+ghost use Rattle.board_book.specs.AtRest.{IsAtRest};
 
 use board::Board;
 use board_lock::{Pass, Shared};
@@ -150,6 +151,7 @@ pub fn is_idle<L: Link, N: Known>(
     ensures credits { pass.new.seat.me.0.credits ≡ pass.old.seat.me.0.credits }
     ensures looks { LooksIdle child threads pass.old.seat.me.0 result pass.new.seat.me.0 }
 {
+    turns_rest_on_these();
     quiet_tables_are_the_listeners();
     idle(shared, pass, child) == threads
 }

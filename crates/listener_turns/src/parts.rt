@@ -7,12 +7,13 @@ ghost use Rattle.conn_machine.specs.declared.event.Commanded.TheVariants.{Stop};
 ghost use Rattle.conn_machine.specs.declared.event.Event.TheVariants as event;
 ghost use Rattle.board_book.specs.Faults.{IsRefusedFor};
 ghost use Rattle.board_turns.specs.Books.{book_of, state_of};
-ghost use Rattle.board_turns.specs.Turns.{HadATurn, IsListener};
+ghost use Rattle.board_turns.specs.Turns.{HadATurn, HadQuietTurn, IsListener, KeepsLeft};
 ghost use Rattle.listener_turns.specs.Folds.{FoldsWhereDue};
 ghost use Rattle.listener_turns.specs.Looks.{lets_go_on};
 ghost use Rattle.listener_turns.specs.PartsInside.{MadeEvents};
 ghost use Rattle.listener_turns.specs.Signals.{SignalsAll, SignalsFirst, ready_events};
 
+use board::laws::ended_connections_join;
 use board::{Board, BoardFault};
 use board_lock::{Pass, Shared};
 use board_turns::turns_rest_on_these;
@@ -213,11 +214,15 @@ pub fn fold<R: Wait, L: Link, N: Known>(
     ensures own { pass.new.seat.table_id ≡ pass.old.seat.table_id }
     ensures listener { IsListener pass.new.seat.me }
     ensures row { pass.new.seat.me.0.row ≡ pass.old.seat.me.0.row }
-    ensures turn { HadATurn [] pass.old.seat.me.0 pass.new.seat.me.0 }
-    ensures folds { IfOk result (λ folded. FoldsWhereDue folded pass.new.seat.me.0) }
+    ensures turn { HadQuietTurn pass.new.seat.me.0.seen pass.old.seat.me.0 pass.new.seat.me.0 }
+    ensures folds { IfOk result
+        (λ folded. FoldsWhereDue N.known folded pass.old.seat.me.0 pass.new.seat.me.0) }
+    ensures err { IfErr result (λ _. KeepsLeft pass.old.seat.me.0 pass.new.seat.me.0) }
 {
     turns_rest_on_these();
+    ended_connections_join();
     let mut turn = shared.turn(rt, pass);
+    turn.kept.show();
     if !turn.kept.can_fold() {
         shared.done(pass, turn);
         return Ok(false);

@@ -388,7 +388,7 @@ permit_step : (s : ToyStage) (r : ℕ) (permit : Option ℕ) (credits : List ℕ
 permit_step Starts r permit credits fits = (tt, tt)
 permit_step Takes r permit credits fits = (tt, (tt, tt))
 permit_step Signals r permit credits fits = (tt, tt)
-permit_step Serves r permit credits fits = ((_, refl, fits), (tt, (tt, tt)))
+permit_step Serves r permit credits fits = ((_, refl, fits, refl), (tt, (tt, tt)))
 
 fits_permit : (s : ToyStage) (p : ℕ) (permit : Option ℕ) → maker s ≡ p → (p ≡ 1 → permit ≡ Some 0) → FitsPermit s permit
 fits_permit Starts p permit mine has = tt

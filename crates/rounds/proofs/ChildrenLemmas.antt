@@ -23,7 +23,7 @@ use Rattle.board.specs.Board.{SeenBoard}
 use Rattle.board.specs.Events.{with_recorded}
 use Rattle.board_book.specs.Finds.{startable}
 use Rattle.rounds.specs.TableInside.{IsOpening, asked_children}
-use Rattle.rounds.specs.Started.{BeginsWithStarts, starts_of}
+use Rattle.board_book.specs.Started.{BeginsWithStarts, starts_of}
 use Rattle.rounds.proofs.ListenLemmas.{child-by, count-cons, is-startable}
 
 -- ## Searches

@@ -15,7 +15,7 @@ use Rattle.conn_machine.specs.Children.{is_empty}
 use Rattle.conn_machine.specs.Lists.{update}
 use Rattle.conn_machine.specs.Rows.{carried_count, is_lingering, is_parked, lives_and}
 use Rattle.conn_machine.specs.Runs.{after}
-use Rattle.conn_machine.specs.States.{child_of, is_overdue, is_signalled}
+use Rattle.conn_machine.specs.States.{child_of, is_overdue, is_signalled, is_at_its_end, is_staffed}
 use Rattle.conn_machine.specs.Table.{lingering_row, may_be_queued, next}
 use Rattle.board_book.specs.Book.{SeenBook}
 use Rattle.board.specs.Board.{SeenBoard}
@@ -27,7 +27,6 @@ use Rattle.worker_group.specs.Service.{HasServed, answer_events, given_up_cause,
 use Rattle.rounds.specs.ClosingInside.{state_by}
 use Rattle.rounds.specs.PartsInside.{StaysTimely}
 use Rattle.rounds.specs.TableInside.{NoneDueLate, NoneOverdue}
-use Rattle.rounds.specs.Timely.{is_at_its_end, is_staffed}
 use Rattle.rounds.proofs.ClosingLemmas.{GoesOnFrom, acts-state}
 use Rattle.rounds.proofs.FoundLemmas.{found-at, lives, passes-found}
 use Rattle.rounds.proofs.PassLemmas.{service-acts}

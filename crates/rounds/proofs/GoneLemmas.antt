@@ -10,7 +10,7 @@ use Rattle.conn_machine.specs.Children.{child_at, is_empty}
 use Rattle.conn_machine.specs.Rows.{is_live}
 use Rattle.conn_machine.specs.Sound.{IsSound}
 use Rattle.conn_machine.specs.States.{is_halted, is_serving}
-use Rattle.rounds.specs.ClosedDown.{AllEmpty, HasNoLive}
+use Rattle.board_book.specs.ClosedDown.{AllEmpty, HasNoLive}
 use Rattle.rounds.specs.EndsInside.{IsAllGone}
 
 -- ## Children

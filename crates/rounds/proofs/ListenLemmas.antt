@@ -26,7 +26,7 @@ use Rattle.conn_machine.specs.Lists.{update}
 use Rattle.conn_machine.specs.Table.{is_allowed, next, child_passes, may_retire, may_be_held}
 use Rattle.conn_machine.specs.Sound.{IsSound}
 use Rattle.board_book.specs.Finds.{startable, FindsRow, FindsRetirable, is_waiting, is_quiet}
-use Rattle.rounds.specs.ClosedDown.{HasNoLive, AllEmpty}
+use Rattle.board_book.specs.ClosedDown.{HasNoLive, AllEmpty}
 use Rattle.rounds.proofs.PassLemmas.{idle-place}
 use Rattle.rounds.proofs.FoundLemmas.{Lives, found-at, found-named, lives, passes-found}
 

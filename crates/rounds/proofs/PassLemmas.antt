@@ -18,9 +18,9 @@ use Rattle.board_book.specs.Book.{SeenBook}
 use Rattle.board.specs.Board.{SeenBoard}
 use Rattle.worker_group.specs.Acts.{Acts, ActsInSteps, events_of}
 use Rattle.worker_group.specs.Service.{HasServed, LeavesRest, answer_events, left_events}
-use Rattle.rounds.specs.ClosedDown.{HasNoLive}
+use Rattle.board_book.specs.ClosedDown.{HasNoLive}
 use Rattle.board_book.specs.Finds.{FindsRow, is_due}
-use Rattle.rounds.specs.AtRest.{NoneDue}
+use Rattle.board_book.specs.AtRest.{NoneDue}
 use Rattle.rounds.specs.TableInside.{NoneParked}
 use Rattle.rounds.specs.PartsInside.{AreServed, ServesSome}
 use Rattle.rounds.proofs.FoundLemmas.{found-at, lives}

@@ -18,7 +18,7 @@ use Rattle.conn_machine.specs.declared.state.State.{State}
 use Rattle.conn_machine.specs.Children.{is_empty, is_running, running_count, started_child, stopped_child}
 use Rattle.conn_machine.specs.Lists.{update}
 use Rattle.conn_machine.specs.Runs.{after}
-use Rattle.conn_machine.specs.States.{is_halted, is_serving}
+use Rattle.conn_machine.specs.States.{is_halted, is_serving, is_at_its_end, is_staffed}
 use Rattle.conn_machine.specs.Table.{child_passes, next}
 use Rattle.board_book.specs.Book.{SeenBook}
 use Rattle.board_book.specs.Finds.{startable}
@@ -26,7 +26,6 @@ use Rattle.worker_group.specs.Acts.{Acts, ActsInSteps}
 use Rattle.rounds.specs.ClosingInside.{state_by}
 use Rattle.rounds.specs.PartsInside.{RetiresSome, StartsSome}
 use Rattle.rounds.specs.TableInside.{NoneDueLate}
-use Rattle.rounds.specs.Timely.{is_at_its_end, is_staffed}
 use Rattle.rounds.proofs.ClosingLemmas.{GoesOnFrom, acts-state}
 use Rattle.rounds.proofs.ListenLemmas.{count-cons}
 use Rattle.rounds.proofs.TimelyLemmas.{not-at_end, not-at_end_halted, not-at_end_serving}

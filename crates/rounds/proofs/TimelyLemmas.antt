@@ -17,8 +17,8 @@ use Rattle.conn_machine.specs.declared.event.Why.{Why}
 use Rattle.conn_machine.specs.declared.event.Why.TheVariants as why
 use Rattle.conn_machine.specs.declared.state.State.{State}
 use Rattle.conn_machine.specs.Children.{all_stopped, is_empty, is_stopping, stopped_child}
-use Rattle.conn_machine.specs.Runs.{after}
-use Rattle.conn_machine.specs.States.{is_halted, is_over, is_serving}
+use Rattle.conn_machine.specs.Runs.{after, AllAt}
+use Rattle.conn_machine.specs.States.{is_halted, is_over, is_serving, is_at_its_end, is_staffed}
 use Rattle.conn_machine.specs.Table.{child_passes, may_retire, next}
 use Rattle.board.specs.Board.{SeenBoard}
 use Rattle.board_book.specs.Book.{AddsOnly, SeenBook, row_in}
@@ -34,7 +34,7 @@ use Rattle.rounds.specs.EndsInside.{why_of}
 use Rattle.rounds.specs.PartsInside.{Departures, LetsGoOfConns, LetsGoUntil, StaysTimely, departures_events, gone_events, halt_events, halts_for}
 use Rattle.rounds.specs.declared.ends.End.{End}
 use Rattle.rounds.specs.TableInside.{StandsInTime}
-use Rattle.rounds.specs.Timely.{AllAt, AreTimely, IsTimely, is_at_its_end, is_staffed}
+use Rattle.board_book.specs.Timely.{AreTimely, IsTimely}
 use Rattle.rounds.proofs.ActLemmas.{acts-added, lets-go-conns, lets-go-until}
 use Rattle.rounds.proofs.AddedLemmas.{added-events, events_in}
 use Rattle.rounds.proofs.ClosingLemmas.{GoesOnFrom, acts-state}

@@ -6,7 +6,7 @@ use Rattle.conn_machine.specs.declared.event.Why.{Why}
 use Rattle.conn_machine.specs.declared.state.Going.{Going}
 use Rattle.conn_machine.specs.declared.state.Going.TheVariants.{Ending, Halted}
 use Rattle.conn_machine.specs.declared.state.State.{State}
-use Rattle.rounds.specs.ClosedDown.{HasNoLive, IsClosedDown}
+use Rattle.board_book.specs.ClosedDown.{HasNoLive, IsClosedDown}
 use Rattle.rounds.specs.declared.ends.End.{End}
 use Rattle.std.specs.Prelude.{◌≡◌, ℕ, Option, is_none, Bool, true, false, None, Some, Result, Ok, Err}
 use Rattle.worker_group.specs.Service.{RefusalLasts}

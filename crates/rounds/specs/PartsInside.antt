@@ -19,12 +19,12 @@ use Rattle.worker_group.specs.declared.service.Exit.TheVariants as exit
 use Rattle.worker_group.specs.Acts.{Acts}
 use Rattle.worker_group.specs.Service.{HasServed, give_up_events}
 use Rattle.rounds.specs.ClosingInside.{AllLeftBy, GivesUpDrained, IsDrainedWay, IsHaltedWay, IsLateWay, IsRetiringWay, Departure, LetsGo, NoneEarly, departure_events}
-use Rattle.rounds.specs.ClosedDown.{IsClosedDown}
+use Rattle.board_book.specs.ClosedDown.{IsClosedDown}
 use Rattle.rounds.specs.EndsInside.{HaltsAs, why_of}
-use Rattle.rounds.specs.AtRest.{NoneDue}
+use Rattle.board_book.specs.AtRest.{NoneDue}
 use Rattle.rounds.specs.declared.ends.End.{End}
-use Rattle.rounds.specs.Timely.{AreTimely}
-use Rattle.rounds.specs.Moments.{known_slots, ticks_to}
+use Rattle.board_book.specs.Timely.{AreTimely}
+use Rattle.board_book.specs.Moments.{known_slots, ticks_to}
 
 -- no pass has a connection
 abbrev pub NoneHas : SeenBook → Type 0

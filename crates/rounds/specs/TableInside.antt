@@ -2,13 +2,12 @@
 use Rattle.board_book.specs.Book.{SeenBook}
 use Rattle.conn_machine.specs.Made.{IsOpened}
 use Rattle.conn_machine.specs.Rows.{is_held, is_lingering, is_parked, live_row}
-use Rattle.conn_machine.specs.States.{is_over, is_overdue, is_signalled}
+use Rattle.conn_machine.specs.States.{is_over, is_overdue, is_signalled, is_staffed}
 use Rattle.conn_machine.specs.declared.row.Row.{Row}
 use Rattle.conn_machine.specs.declared.state.State.{State}
 use Rattle.mpm_base.specs.declared.conn.ConnName.{ConnName}
 use Rattle.mpm_base.specs.Moment.{greatest_moment}
-use Rattle.rounds.specs.AtRest.{IsAtRest}
-use Rattle.rounds.specs.Timely.{is_staffed}
+use Rattle.board_book.specs.AtRest.{IsAtRest}
 use Rattle.std.specs.List.{list_any}
 use Rattle.std.specs.Prelude.{◌≡◌, ◌<◌, ℕ, min, ◌↔◌, Bool, true, false, [], None, Some, slice_get, length}
 

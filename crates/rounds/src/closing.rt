@@ -18,7 +18,7 @@ ghost use Rattle.worker_group.specs.Acts.{Acts};
 ghost use Rattle.worker_group.specs.InHand.{IsInHand};
 ghost use Rattle.worker_group.specs.Service.{LeavesRest, RefusalLasts};
 ghost use Rattle.rounds.specs.ClosingInside.{DrainsSome, DrainsUntil, GivesUpDrained, IsDrainedWay, IsLateWay, IsLingeringFor, IsRetiringWay, LetsGo, LetsGoLate, LetsLinger, LetsOneGo, cause_of_late, late_weight, lingering_give_up_events, serving_count, signal_count, tail_of};
-ghost use Rattle.rounds.specs.AtRest.{NoneToDrain, NoneToLetGo};
+ghost use Rattle.board_book.specs.AtRest.{NoneToDrain, NoneToLetGo};
 ghost use Rattle.rounds.specs.TableInside.{NoneOverdue};
 
 use crate::ends::LISTENER;

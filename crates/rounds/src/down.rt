@@ -2,18 +2,17 @@
 //! child is let go of.
 ghost use Rattle.std.specs.Prelude.{◌≡◌, ◌<◌, [], ◌∷◌, None, Some, true, false};
 ghost use Rattle.conn_machine.specs.Rows.{lives_and};
-ghost use Rattle.conn_machine.specs.States.{is_halted};
+ghost use Rattle.conn_machine.specs.States.{is_halted, is_at_its_end};
 ghost use Rattle.conn_machine.specs.declared.event.Event.TheVariants as event;
 ghost use Rattle.board_book.specs.Finds.{is_waiting};
 ghost use Rattle.board_book.specs.Book.{row_in};
 ghost use Rattle.worker_group.specs.Acts.{Acts};
 ghost use Rattle.worker_group.specs.Service.{IsUp, LeavesRest, RefusalLasts};
 ghost use Rattle.rounds.specs.ClosingInside.{IsHaltedWay, LetsGo, LetsOneGo, parked_count};
-ghost use Rattle.rounds.specs.ClosedDown.{HasNoLive, IsBrokenOff};
+ghost use Rattle.board_book.specs.ClosedDown.{HasNoLive, IsBrokenOff};
 ghost use Rattle.rounds.specs.EndsInside as inside;
 ghost use Rattle.rounds.specs.EndsInside.{MustHalt, HaltsAs};
 ghost use Rattle.rounds.specs.TableInside.{NoneParked};
-ghost use Rattle.rounds.specs.Timely.{is_at_its_end};
 ghost use Rattle.rounds.specs.PartsInside.{GoesDown, NoneHas, halt_events};
 ghost use Rattle.mpm_base.specs.declared.conn.Tail.TheVariants.{Direct};
 ghost use Rattle.conn_machine.specs.declared.event.Commanded.TheVariants.{Stop};

@@ -1,6 +1,6 @@
 //! What the table shows of itself. Nothing here changes it.
 ghost use Rattle.std.specs.Prelude.{◌≡◌, ◌<◌};
-ghost use Rattle.rounds.specs.ClosedDown.{HasNoLive};
+ghost use Rattle.board_book.specs.ClosedDown.{HasNoLive};
 ghost use Rattle.rounds.specs.TableInside.{NoneParked};
 ghost use Rattle.rounds.specs.PartsInside.{NoneHas};
 ghost use Rattle.conn_machine.specs.Runs.{after};

@@ -26,7 +26,7 @@ use Rattle.conn_machine.specs.Rows.{is_held, is_lingering, is_live, is_working, 
 use Rattle.conn_machine.specs.Runs.{Run, after}
 use Rattle.conn_machine.specs.States.{is_halted, is_over, is_serving, is_signalled}
 use Rattle.conn_machine.specs.Table.{answered_row, closed_row, end_fits, greatest_life, held_row, is_allowed, is_direct, linger_cause_fits, linger_tail_fits, lingering_row, next, parked_row, queued_row, served_row, stop_fits, taken_row}
-use Rattle.rounds.specs.ClosedDown.{HasNoLive}
+use Rattle.board_book.specs.ClosedDown.{HasNoLive}
 use Rattle.listener_round.specs.Commands.{is_graceful_stop}
 use Rattle.rounds.proofs.FoundLemmas.{found-at, found-named, lives}
 

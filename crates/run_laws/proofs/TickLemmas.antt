@@ -9,7 +9,7 @@ use Rattle.conn_machine.specs.declared.state.Going.TheVariants.{Ending, Halted, 
 use Rattle.conn_machine.specs.declared.event.Why.TheVariants as why
 use Rattle.mpm_base.specs.declared.script_line.CommandWord.{CommandWord}
 use Rattle.listener_round.specs.Pace.{AreMadeOf, Brought, IsCutShort, IsUnsignalled, Share, made_from, made_of, moment_behind, moment_by, moved, ordered, signalled, taken, ticked, ticks_by}
-use Rattle.rounds.specs.Moments.{moment_for}
+use Rattle.board_book.specs.Moments.{moment_for}
 use Rattle.run_laws.specs.Unhurried.{slots_in}
 
 -- ## Lists with a tick

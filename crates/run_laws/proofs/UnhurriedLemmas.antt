@@ -20,7 +20,7 @@ use Rattle.listener_round.specs.FirstNumbers.{folded_by, numbers_of, opened_by}
 use Rattle.listener_round.specs.Pace.{AreSharesOf, Brought, Share, answer_if, answers_in, brought, brought_in, moved, ticked}
 use Rattle.listener.specs.Patient.{ArePatient, IsPatientEvent}
 use Rattle.listener_round.specs.Times.{answers_of}
-use Rattle.rounds.specs.Timely.{AllAt}
+use Rattle.conn_machine.specs.Runs.{AllAt}
 use Rattle.script_front.specs.ScriptFront.{comings_of}
 use Rattle.script_run.specs.Played.{HasPlayed}
 use Rattle.script_run.specs.declared.scripted.Scripted.{Scripted}

@@ -8,7 +8,7 @@ use Rattle.listener_round.specs.Pace.{Brought, brought, moved, ordered, signalle
 use Rattle.listener.specs.Patient.{PassesPatiently}
 use Rattle.mpm_base.specs.Front.{FrontTold, WaitTold}
 use Rattle.mpm_base.specs.declared.front.Woke.TheVariants as woke
-use Rattle.rounds.specs.Moments.{known_slots, moment_for}
+use Rattle.board_book.specs.Moments.{known_slots, moment_for}
 use Rattle.run_laws.specs.Outcomes.{IsOutcome, SeenOutcome}
 use Rattle.script_front.specs.ScriptFront.{comings_of}
 use Rattle.script_run.specs.Played.{HasPlayed}

@@ -53,6 +53,7 @@ module _ {K : Type 0} (ledger : K → Ledger) (o : Ledger) where
         few = new.few;
         count = first.count;
         made = tt;
+        queued = tt;
         undrawn = λ n le. refl;
         fits = λ j u e. let a = alone v j u e in subst (IsViewOf (origin_of o) [] j) a.1
             record { number = sym a.0; origin_is = λ _. refl; begins = ([], refl); seen = λ _. ([], refl, refl); row = refl };
@@ -121,7 +122,7 @@ module _ {K : Type 0} (ledger : K → Ledger) (o : Ledger) where
         keeps,
         tt,
         moved ledger o s t id v w f words s.homes t.history
-            (set_length s.words 1 x ∙ t.count) t.made t.undrawn
+            (set_length s.words 1 x ∙ t.count) t.made t.queued t.undrawn
             (λ j u _ e. t.fits j u e)
             record { number = mine.number; origin_is = mine.origin_is; begins = mine.begins; seen = mine.seen; row = mine.row }
             (same_place ledger o s words t.first.left f.view.left t.history id v w at refl (λ _ _. refl) (word_else s.words 1 0 x (λ e. omega arith)) (first_same (λ (q : View). q.left) s.views id v w t.first f (λ _. refl)) t.place)
@@ -208,6 +209,7 @@ module _ {K : Type 0} (ledger : K → Ledger) (o : Ledger) where
         few = t.few;
         count = t.count;
         made = t.made;
+        queued = t.queued;
         undrawn = λ n le. t.undrawn n (omega (arith, len, more));
         fits = λ j u e. three s.views id left right (length vs) j u (IsViewOf (origin_of o) t.history j u)
             (λ z. subst (λ i. IsViewOf (origin_of o) t.history i u) (sym z.0) (subst (IsViewOf (origin_of o) t.history id) z.1

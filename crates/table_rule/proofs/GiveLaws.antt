@@ -18,7 +18,7 @@ use Rattle.table_rule.specs.declared.view.LastLeft.{LastLeft}
 use Rattle.table_rule.specs.declared.view.Origin.{Origin}
 use Rattle.table_rule.specs.declared.view.View.{View}
 use Rattle.conn_machine.specs.Made.{AreMade, HasSeen, IsOpened}
-use Rattle.table_rule.specs.Histories.{ArePermitted, Extends}
+use Rattle.table_rule.specs.Histories.{ArePermitted, Extends, IsQueuedInTime}
 use Rattle.table_rule.specs.Ledgers.{EndsTurn, FoldsOn, IsLastLeft, IsSplit, KeepsOn, MayGiveBack, MayLeaveLedger}
 use Rattle.table_rule.specs.Views.{IsAwake, given_view}
 use Rattle.table_rule.specs.IdleWords.{HasPermit}
@@ -27,7 +27,7 @@ use Rattle.table_rule.specs.Tie.{IsTied, IsViewOf, KeptIsHome, KeptIsOut, origin
 use Rattle.table_rule.proofs.MachineLemmas.{KeepsGoing, after-append, entries_of-append, none_some, row_by, row_more, seen_on, seen_same, seen_whole, some_is}
 use Rattle.table_rule.proofs.RecordLemmas.{BeginsBegun, TwiceIsOnce, each_after, folded_on, places_after}
 use Rattle.table_rule.proofs.PastLemmas.{past_longer, past_same}
-use Rattle.table_rule.proofs.PermitLaws.{entries_credit, entries_permit}
+use Rattle.table_rule.proofs.PermitLaws.{all_join, entries_credit, entries_permit, permitted_in_time}
 use Rattle.table_rule.proofs.TieLemmas.{drawn_same, first_is, idle_kept, moved}
 use Rattle.table_rule.proofs.TurnLaws.{idle_else, second_else, turn_here}
 use Rattle.table_rule.proofs.WordLemmas.{FirstAfter, at_below, at_same, first_after, first_same, none_is, set_length}
@@ -233,6 +233,7 @@ module _ {K : Type 0} (ledger : K → Ledger) (o : Ledger) where
       let own_row : row_of v.who.number history ≡ row_of id history = ap (λ n. row_of n history) number in
       moved ledger o s t id v w f words (slice_set s.homes 0 (m.some (Some k))) history
       (set_length s.words 0 x ∙ t.count) made
+      (all_join IsQueuedInTime o.base t.history a.added t.queued (permitted_in_time v.hand.permit v.credits (after o.base t.history) a.added permitted))
       (λ n le. let ne : n ≢ id = (λ e. let b = at_below s.views id v at in omega arith) in
       seen_same n t.history history (laws.seen id n o.base (opening_record o.passes) t.history history (a.added, refl, are) ne) ∙ t.undrawn n le)
       (λ j u ne e. other_fits laws id j u t.history a.added ne are (t.fits j u e))

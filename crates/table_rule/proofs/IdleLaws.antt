@@ -72,7 +72,7 @@ module _ {K : Type 0} (ledger : K → Ledger) (o : Ledger) where
       let credits : f.view.credits ≡ t.first.credits = first_same (λ (q : View). q.credits) s.views id v w t.first f (λ _. refl) in
       let here : slice_index words (k + 2) ≡ x = word_here s.words (k + 2) x (let c = t.count in omega arith) in
       moved ledger o s t id v w f words s.homes t.history
-      (set_length s.words (k + 2) x ∙ t.count) t.made t.undrawn
+      (set_length s.words (k + 2) x ∙ t.count) t.made t.queued t.undrawn
       (λ j u _ e. t.fits j u e)
       record { number = mine.number; origin_is = mine.origin_is; begins = mine.begins; seen = mine.seen; row = mine.row }
       (same_place ledger o s words t.first.left f.view.left t.history id v w at refl (λ _ _. refl) (word_else s.words (k + 2) 0 x (λ e. omega arith)) (first_same (λ (q : View). q.left) s.views id v w t.first f (λ _. refl)) t.place)
@@ -239,7 +239,7 @@ module _ {K : Type 0} (ledger : K → Ledger) (o : Ledger) where
       let s_permits : (j : ℕ) → sum_of (permits j) (set s.views id w) ≡ sum_of (permits j) s.views = λ j. sum_same (permits j) s.views id v w at refl in
       let s_tries : (j : ℕ) → sum_of (tries j) (set s.views id w) ≡ sum_of (tries j) s.views = λ j. sum_same (tries j) s.views id v w at refl in
       moved ledger o s t id v w f words s.homes t.history
-      (set_length s.words (k + 2) x ∙ t.count) t.made t.undrawn
+      (set_length s.words (k + 2) x ∙ t.count) t.made t.queued t.undrawn
       (λ j u _ e. t.fits j u e)
       record { number = mine.number; origin_is = mine.origin_is; begins = mine.begins; seen = mine.seen; row = mine.row }
       (same_place ledger o s words t.first.left f.view.left t.history id v w at refl (λ _ _. refl) (word_else s.words (k + 2) 0 x (λ e. omega arith)) (first_same (λ (q : View). q.left) s.views id v w t.first f (λ _. refl)) t.place)
@@ -354,7 +354,7 @@ module _ {K : Type 0} (ledger : K → Ledger) (o : Ledger) where
       let mine = t.fits id v at in
       let f = first_after s.views id v w t.first at t.at in
       moved ledger o s t id v w f words s.homes t.history
-      (set_length s.words (k + 2) x ∙ t.count) t.made t.undrawn
+      (set_length s.words (k + 2) x ∙ t.count) t.made t.queued t.undrawn
       (λ j u _ e. t.fits j u e)
       record { number = mine.number; origin_is = mine.origin_is; begins = ([], sym (append-nil t.history)); seen = λ _. seen_whole id t.history; row = mine.row }
       (same_place ledger o s words t.first.left f.view.left t.history id v w at refl (λ got h. sym (holder ledger o s t id v got at h).seen) (ap (λ l. slice_index l 0) again) (first_same (λ (q : View). q.left) s.views id v w t.first f (λ _. refl)) t.place)

@@ -1,6 +1,6 @@
 -- What the entries of a turn leave of permits and credits.
 use Rattle.std.proofs.Common.{◌≡◌, ◌≢◌, ◌⊎◌, inl, inr, ⊎_elim, ℕ, zero, suc, ◌<◌, Bool, true, false, not, ◌&&◌, List, [], ◌∷◌, ◌++◌, Option, Some, None, slice_get, refl, sym, ap, subst, ◌∙◌, append_assoc, append-nil}
-use Rattle.std.specs.Prelude.{slice_index, if◌then◌else◌}
+use Rattle.std.specs.Prelude.{nat_lt, slice_index, if◌then◌else◌}
 use Rattle.std.specs.Option.{option_map_or}
 use Rattle.std.proofs.lemmas.Bool.{and_parts, eqb-true}
 use native.Mathlib.Decide.{ℕ_discrete}
@@ -23,9 +23,9 @@ use Rattle.conn_machine.specs.Children.{child_at, all_stopped, stopped_child, is
 use Rattle.conn_machine.specs.States.{is_serving, is_halted, is_signalled}
 use Rattle.conn_machine.specs.Table.{is_allowed, next, reply, may_be_queued, next_command, taken_row, held_row, queued_row, served_row, answered_row, child_passes}
 use Rattle.conn_machine.specs.declared.folded.Folded.{Folded}
-use Rattle.conn_machine.specs.Runs.{after, has_after, may_make, row_from, AreEntriesOf}
+use Rattle.conn_machine.specs.Runs.{AllAt, after, has_after, may_make, row_from, AreEntriesOf}
 use Rattle.conn_machine.specs.Sound.{IsSound}
-use Rattle.table_rule.specs.Histories.{ArePermitted, IsPermitted, threads_of}
+use Rattle.table_rule.specs.Histories.{ArePermitted, IsPermitted, IsQueuedInTime, threads_of}
 use Rattle.table_rule.proofs.MachineLemmas.{after-snoc, get_changed, had_row, met, none_some, off, row_own, some_is}
 
 -- ## The permit of the pass
@@ -234,3 +234,33 @@ entries_credit keeps start f p before (e ∷ added) permit credits sound are per
     (subst IsSound (sym (after-snoc start before e)) (keeps s e.event sound are.0.is_allowed)) are.1
     (λ z. subst (λ t. ArePermitted permit credits t added) (sym (after-snoc start before e)) (permitted z).1)
     (subst (IsCredited credits) (sym (after-snoc start before e)) one))
+
+-- ## In time
+
+in_time : (permit : Option ℕ) (credits : List ℕ) (s : State) (e : Event) → IsPermitted permit credits s e → IsQueuedInTime s e
+in_time permit credits s (event.Accept slot) may = tt
+in_time permit credits s (event.Park name kind) may = tt
+in_time permit credits s (event.Hold name) may = tt
+in_time permit credits s (event.Queue name) may =
+    ap (λ (o : Option Row). option_map_or (λ (r : Row). nat_lt s.moment r.deadline) o false) may.1 ∙ may.3
+in_time permit credits s (event.Start name) may = tt
+in_time permit credits s (event.Answer name ask) may = tt
+in_time permit credits s (event.Linger name why) may = tt
+in_time permit credits s (event.Close name why how) may = tt
+in_time permit credits s (event.Ready slot) may = tt
+in_time permit credits s (event.Tick m) may = tt
+in_time permit credits s (event.StartChild k) may = tt
+in_time permit credits s (event.Command c) may = tt
+in_time permit credits s (event.Retire k) may = tt
+
+-- what is permitted is handed over in time
+pub permitted_in_time : (permit : Option ℕ) (credits : List ℕ) (s : State) (entries : List Entry) → ArePermitted permit credits s entries
+    → AllAt IsQueuedInTime s entries
+permitted_in_time permit credits s [] may = tt
+permitted_in_time permit credits s (e ∷ entries) may =
+    (in_time permit credits s e.event may.0, permitted_in_time permit credits (next s e.event) entries may.1)
+
+-- what holds of each entry of two parts does of each of both
+pub all_join : (P : State → Event → Type 0) (s : State) (a b : List Entry) → AllAt P s a → AllAt P (after s a) b → AllAt P s (a ++ b)
+all_join P s [] b first second = second
+all_join P s (e ∷ a) b first second = (first.0, all_join P (next s e.event) a b first.1 second)

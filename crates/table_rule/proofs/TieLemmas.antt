@@ -10,14 +10,14 @@ use Rattle.conn_machine.specs.declared.event.Entry.{Entry}
 use Rattle.conn_machine.specs.declared.kept.Ledger.{Ledger}
 use Rattle.conn_machine.specs.declared.state.State as machine
 use Rattle.conn_machine.specs.Folds.{opening_record}
-use Rattle.conn_machine.specs.Runs.{after, entries_of}
+use Rattle.conn_machine.specs.Runs.{AllAt, after, entries_of}
 use Rattle.table_rule.specs.declared.view.Draws.{Draws}
 use Rattle.table_rule.specs.declared.view.Hand.{Hand}
 use Rattle.table_rule.specs.declared.view.LastLeft.{LastLeft}
 use Rattle.table_rule.specs.declared.view.Origin.{Origin}
 use Rattle.table_rule.specs.declared.view.View.{View}
 use Rattle.conn_machine.specs.Made.{AreMade, AreOfPasses}
-use Rattle.table_rule.specs.Histories.{threads_of}
+use Rattle.table_rule.specs.Histories.{IsQueuedInTime, threads_of}
 use Rattle.table_rule.specs.IdleWords.{bit, bit_at, permits, tries, HasPermit, AreIdleWords}
 use Rattle.table_rule.specs.Pasts.{AreIdleSteps}
 use Rattle.table_rule.specs.Tie.{AreDrawn, IsTied, IsViewOf, KeptIsHome, KeptIsOut, origin_of}
@@ -76,7 +76,8 @@ module _ {K : Type 0} (ledger : K → Ledger) (o : Ledger) where
   -- one view changed
   pub moved : (s : State (Option K) View) (t : IsTied ledger o s) (id : ℕ) (v w : View) (f : FirstAfter s.views id v w t.first)
       → (words : List ℕ) (homes : List (m.Option (Option K))) (history : List Entry)
-      → length words ≡ 34 → AreMade o.base (opening_record o.passes) history → ((n : ℕ) → length s.views ≤ n → entries_of n history ≡ [])
+      → length words ≡ 34 → AreMade o.base (opening_record o.passes) history → AllAt IsQueuedInTime o.base history
+      → ((n : ℕ) → length s.views ≤ n → entries_of n history ≡ [])
       → ((j : ℕ) (u : View) → j ≢ id → get_elem? s.views j ≡ m.some u → IsViewOf (origin_of o) history j u)
       → IsViewOf (origin_of o) history id w
       → Placed f.view.left history record { words = words; homes = homes; views = set s.views id w }
@@ -84,12 +85,13 @@ module _ {K : Type 0} (ledger : K → Ledger) (o : Ledger) where
       → AreIdleWords (after o.base history) words (set s.views id w) f.view.credits
       → AreIdleSteps words (set s.views id w) (length history)
       → IsTied ledger o record { words = words; homes = homes; views = set s.views id w }
-  moved s t id v w f words homes history count made undrawn others mine place drawn idle steps = record {
+  moved s t id v w f words homes history count made queued undrawn others mine place drawn idle steps = record {
     history = history;
     opening = t.opening;
     few = t.few;
     count = count;
     made = made;
+    queued = queued;
     undrawn = λ n le. undrawn n (subst (λ k. k ≤ n) (set_length s.views id w) le);
     fits = λ j u e. ⊎_elim
         (λ (z : (j ≡ id) × (w ≡ u)). subst (λ i. IsViewOf (origin_of o) history i u) (sym z.0) (subst (IsViewOf (origin_of o) history id) z.1 mine))

@@ -9,11 +9,12 @@ use Rattle.atomic_table.specs.Table.Act.{keeps, takes}
 use Rattle.atomic_table.proofs.Lists.{at_set, set_here}
 use Rattle.conn_machine.specs.declared.kept.Ledger.{Ledger}
 use Rattle.conn_machine.specs.Folds.{opening_record}
-use Rattle.conn_machine.specs.Runs.{after, row_of}
+use Rattle.conn_machine.specs.Runs.{AllAt, after, row_of}
 use Rattle.table_rule.specs.declared.view.LastLeft.{LastLeft}
 use Rattle.table_rule.specs.declared.view.Origin.{Origin}
 use Rattle.table_rule.specs.declared.view.View.{View}
 use Rattle.conn_machine.specs.Made.{AreMade, AreOfPasses, HasSeen}
+use Rattle.table_rule.specs.Histories.{IsQueuedInTime}
 use Rattle.table_rule.specs.Ledgers.{IsSplit}
 use Rattle.table_rule.specs.Views.{IsAwake, IsFound, IsIdle, HasFreeWorker, resting_view, taken_view, waking_step, woken_view}
 use Rattle.table_rule.specs.Pasts.{AreIdleSteps}
@@ -58,6 +59,7 @@ module _ {K : Type 0} (ledger : K → Ledger) (o : Ledger) where
       record {
         seen = subst (λ n. HasSeen n v.seen t.history) (sym number) behind;
         made = subst (λ (g : Origin). AreMade g.state (opening_record g.passes) t.history) (sym origin) t.made;
+        queued = subst (λ (g : Origin). AllAt IsQueuedInTime g.state t.history) (sym origin) t.queued;
         few = subst (λ (g : Origin). AreOfPasses g.passes t.history) (sym origin) (of_passes ledger o s t);
         number = subst (λ n. n < v.origin.passes) (sym number) (subst (λ (g : Origin). id < g.passes) (sym origin) (number_below ledger o s t id v at));
         left = left;
@@ -85,7 +87,7 @@ module _ {K : Type 0} (ledger : K → Ledger) (o : Ledger) where
         takes 0 (Some home.kept),
         ap (λ hs. get_elem? hs 0) home.home,
         moved ledger o s t id v w f words (slice_set s.homes 0 m.none) t.history
-            (set_length s.words 0 (n + 1) ∙ t.count) t.made t.undrawn
+            (set_length s.words 0 (n + 1) ∙ t.count) t.made t.queued t.undrawn
             (λ j u _ e. t.fits j u e)
             record { number = mine.number; origin_is = mine.origin_is; begins = ([], sym (append-nil t.history)); seen = λ _. seen_whole id t.history; row = mine.row }
             (inr record {
@@ -149,7 +151,7 @@ module _ {K : Type 0} (ledger : K → Ledger) (o : Ledger) where
       let words = set s.words 0 (slice_index s.words 0) in
       let again : words ≡ s.words = word_again s.words 0 in
       moved ledger o s t id v w f words s.homes t.history
-      (set_length s.words 0 (slice_index s.words 0) ∙ t.count) t.made t.undrawn
+      (set_length s.words 0 (slice_index s.words 0) ∙ t.count) t.made t.queued t.undrawn
       (λ j u _ e. t.fits j u e) fits
       (same_place ledger o s words t.first.left f.view.left t.history id v w at (none' ∙ sym none) (λ got h. none_some v.turn got none h) (ap (λ l. slice_index l 0) again) (first_other (λ (q : View). q.left) s.views id v w t.first f other) t.place)
       (drawn_same (origin_of o) s.words words s.views id w t.first.draws f.view.draws t.drawn (ap (λ l. slice_index l 1) again) (first_other (λ (q : View). q.draws) s.views id v w t.first f other))

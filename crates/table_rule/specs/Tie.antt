@@ -6,13 +6,13 @@ use Rattle.atomic_table.specs.Table.{State}
 use Rattle.conn_machine.specs.declared.event.Entry.{Entry}
 use Rattle.conn_machine.specs.declared.kept.Ledger.{Ledger}
 use Rattle.conn_machine.specs.Folds.{opening_record}
-use Rattle.conn_machine.specs.Runs.{after, entries_of, row_of}
+use Rattle.conn_machine.specs.Runs.{AllAt, after, entries_of, row_of}
 use Rattle.table_rule.specs.declared.view.Draws.{Draws}
 use Rattle.table_rule.specs.declared.view.LastLeft.{LastLeft}
 use Rattle.table_rule.specs.declared.view.Origin.{Origin}
 use Rattle.table_rule.specs.declared.view.View.{View}
 use Rattle.conn_machine.specs.Made.{AreMade, HasSeen, IsOpened}
-use Rattle.table_rule.specs.Histories.{Extends}
+use Rattle.table_rule.specs.Histories.{Extends, IsQueuedInTime}
 use Rattle.table_rule.specs.Ledgers.{IsSplit}
 use Rattle.table_rule.specs.IdleWords.{bias, bit, AreIdleWords}
 use Rattle.table_rule.specs.Pasts.{AreIdleSteps}
@@ -79,7 +79,7 @@ pub record AreDrawn (origin : Origin) (words : List ℕ) (views : List View)
   pub views_are : length views + bit draws.spare ≡ draws.next
   pub few : draws.next ≤ origin.passes
 
--- there is one history, made by passes as they may; the value is at home or out; each view fits; and the idle words are
+-- there is one history, made by passes as they may, in which each connection was handed to workers before its deadline; the value is at home or out; each view fits; and the idle words are
 -- what they ought to be, and what the steps on them left, of which each pass knows its own
 pub record IsTied {K : Type 0} (ledger : K → Ledger) (opened : Ledger)
     (s : State (Option K) View) : Type 0 where
@@ -88,6 +88,7 @@ pub record IsTied {K : Type 0} (ledger : K → Ledger) (opened : Ledger)
   pub few : opened.passes ≤ 4099
   pub count : length s.words ≡ 34
   pub made : AreMade opened.base (opening_record opened.passes) history
+  pub queued : AllAt IsQueuedInTime opened.base history
   pub undrawn : (n : ℕ) → length s.views ≤ n → entries_of n history ≡ []
   pub fits : (id : ℕ) (v : View)
       → get_elem? s.views id ≡ m.some v

@@ -7,7 +7,7 @@ use Rattle.conn_machine.specs.declared.state.State.{State}
 use Rattle.conn_machine.specs.Rows.{carried_count}
 use Rattle.conn_machine.specs.Children.{no_shape}
 use Rattle.conn_machine.specs.States.{opening_state}
-use Rattle.conn_machine.specs.Runs.{after, row_of}
+use Rattle.conn_machine.specs.Runs.{AllAt, after, row_of}
 use Rattle.conn_machine.specs.Folds.{opening_record}
 use Rattle.table_rule.specs.declared.trail.Step.{Step}
 use Rattle.table_rule.specs.declared.view.Hand.{Hand}
@@ -16,7 +16,7 @@ use Rattle.table_rule.specs.declared.view.Origin.{Origin}
 use Rattle.table_rule.specs.declared.view.Past.{Past}
 use Rattle.table_rule.specs.declared.view.View.{View}
 use Rattle.conn_machine.specs.Made.{AreMade, AreOfPasses, HasSeen}
-use Rattle.table_rule.specs.Histories.{threads_of}
+use Rattle.table_rule.specs.Histories.{IsQueuedInTime, threads_of}
 use Rattle.table_rule.specs.Ledgers.{IsSplit}
 
 -- ## Views
@@ -109,6 +109,7 @@ HasFreeWorker v s =
 pub record IsFound (v : View) (found : Ledger) (history : List Entry) : Type 0 where
   pub seen : HasSeen v.who.number v.seen history
   pub made : AreMade v.origin.state (opening_record v.origin.passes) history
+  pub queued : AllAt IsQueuedInTime v.origin.state history
   pub few : AreOfPasses v.origin.passes history
   pub number : v.who.number < v.origin.passes
   pub left : LastLeft

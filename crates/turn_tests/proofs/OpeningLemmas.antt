@@ -5,6 +5,8 @@ use Rattle.atomic_table.specs.Table.{Me}
 use Rattle.mpm_base.specs.declared.shape.Shape.{Shape}
 use Rattle.mpm_base.specs.Shape.{is_in_bounds}
 use Rattle.conn_machine.specs.Folds.{opening_record}
+use Rattle.conn_machine.specs.Made.{AreMade}
+use Rattle.conn_machine.specs.Runs.{row_of}
 use Rattle.conn_machine.specs.States.{opening_state}
 use Rattle.table_rule.specs.declared.view.Origin.{Origin}
 use Rattle.table_rule.specs.declared.view.View.{View}
@@ -35,7 +37,12 @@ opens b slots children passes shape bounds some few base folded history is ended
 module _ {S : Type 0} where
   -- the listener's has no turn, no connection and no credit
   fresh_listener : (origin : Origin) (p : ℕ) (me : Me S View) → me ≡ (fresh_view origin p, []) → me.0.who.number ≡ 0 → IsListener me
-  fresh_listener origin zero me is number = record { turnless = subst HasNoTurn (sym is) record { hand = refl; turn = refl }; number = number }
+  fresh_listener origin zero me is number = record {
+    turnless = subst HasNoTurn (sym is) record { hand = refl; turn = refl };
+    number = number;
+    made = subst (λ (m : Me S View). AreMade m.0.origin.state (opening_record m.0.origin.passes) m.0.seen) (sym is) tt;
+    row_is = ap (λ (m : Me S View). m.0.row) is ∙ ap (λ (m : Me S View). row_of 0 m.0.seen) (sym is);
+  }
   fresh_listener origin (suc p) me is number =
       let other : suc p ≡ 0 = sym (ap (λ (m : Me S View). m.0.who.number) is) ∙ number in
       absurd (cc)

@@ -1,16 +1,15 @@
-use Rattle.std.proofs.Common.{None, ap, sym, subst, is_ok}
+use Rattle.std.proofs.Common.{ap, sym, subst, is_ok}
 use Rattle.conn_machine.specs.declared.event.Event.TheVariants as event
-use Rattle.conn_machine.specs.declared.state.State.{State}
 use Rattle.table_rule.specs.declared.view.View.{View}
-use Rattle.board_book.specs.Finds.{FindsRow, is_due_of}
+use Rattle.board_turns.specs.Pairing.{HasNoneToHand}
 use Rattle.board_turns.proofs.FoundLemmas.{due_here, has_child, has_room, pass_as, queue_permitted, row_as}
 use Rattle.board_turns.proofs.GoesOnLemmas.{changed, made_added, may_change, may_stay}
 use Rattle.board_turns.proofs.ThenLemmas.{carried_then, nothing_state, permit_left, permit_still}
 use Rattle.board_turns.proofs.TurnLemmas.{had_event, had_none, had_none_as, refused_then}
 use Rattle.board_turns.proofs.worker_turns.queue.Goals as goal
 
-pub signalled_of-requires : goal.signalled_of-requires
-signalled_of-requires g c =
+pub due_in_time-requires : goal.due_in_time-requires
+due_in_time-requires g c =
     has_child _ _ c.turn-turn.result.kept c.args.child c.turns_rest_on_these.ensures c.turn-turn.ensures.turn c.show.ensures.state c.requires.permit
 
 pub done-requires-clause-left : goal.done-requires-clause-left
@@ -31,7 +30,7 @@ pub queue-queued-requires-clause-allowed : goal.queue-queued-requires-clause-all
 queue-queued-requires-clause-allowed g c going =
     let b = c.turn-turn.result.kept in
     let room = has_room _ _ b c.args.child c.turns_rest_on_these.ensures c.turn-turn.ensures.turn c.show.ensures.state c.requires.permit in
-    (due_here b.book.state c.args.child c.in-Some.name c.in-Some.ensures room).allowed going
+    (due_here b.book.state c.args.child c.in-Some.name c.in-Some.ensures.due room).allowed going
 
 pub done-requires-2-clause-left : goal.done-requires-2-clause-left
 done-requires-2-clause-left g c =
@@ -42,14 +41,14 @@ done-requires-2-clause-left g c =
     may_change _ _ c.number-who.result (is_ok q.result) e b q.new.self c.turns_rest_on_these.ensures c.turn-turn.ensures.turn (sym c.number-who.ensures)
     (changed q.result _ e b q.new.self b.conns q.ensures.ok q.ensures.err q.ensures.entries)
     (queue_permitted _ _ b c.args.child c.in-Some.name c.turns_rest_on_these.ensures c.turn-turn.ensures.turn c.show.ensures.state c.requires.permit
-    (due_here b.book.state c.args.child c.in-Some.name c.in-Some.ensures room))
+    (due_here b.book.state c.args.child c.in-Some.name c.in-Some.ensures.due room) c.in-Some.ensures.in_time)
 
 pub returns-in-Ok-clause-carried : goal.returns-in-Ok-clause-carried
 returns-in-Ok-clause-carried g c =
     let b = c.turn-turn.result.kept in
     let q = c.queue-queued in
     let room = has_room _ _ b c.args.child c.turns_rest_on_these.ensures c.turn-turn.ensures.turn c.show.ensures.state c.requires.permit in
-    let due = due_here b.book.state c.args.child c.in-Some.name c.in-Some.ensures room in
+    let due = due_here b.book.state c.args.child c.in-Some.name c.in-Some.ensures.due room in
     (carried_then g.N.Known.known _ _ _ c.number-who.result c.args.child b q.new.self c.in-Ok.conn c.in-Some.name due.row c.turns_rest_on_these.ensures
     c.turn-turn.ensures.turn c.done-2.ensures.given (sym c.number-who.ensures) c.requires.child c.requires.permit
     (made_added _ _ b q.new.self b.conns c.in-Ok.ensures.ok q.ensures.entries) c.show.ensures.state c.show-2.ensures.sound due.found due.of_child
@@ -60,7 +59,7 @@ returns-in-Ok-clause-child g c =
     let b = c.turn-turn.result.kept in
     let q = c.queue-queued in
     let room = has_room _ _ b c.args.child c.turns_rest_on_these.ensures c.turn-turn.ensures.turn c.show.ensures.state c.requires.permit in
-    let due = due_here b.book.state c.args.child c.in-Some.name c.in-Some.ensures room in
+    let due = due_here b.book.state c.args.child c.in-Some.name c.in-Some.ensures.due room in
     (carried_then g.N.Known.known _ _ _ c.number-who.result c.args.child b q.new.self c.in-Ok.conn c.in-Some.name due.row c.turns_rest_on_these.ensures
     c.turn-turn.ensures.turn c.done-2.ensures.given (sym c.number-who.ensures) c.requires.child c.requires.permit
     (made_added _ _ b q.new.self b.conns c.in-Ok.ensures.ok q.ensures.entries) c.show.ensures.state c.show-2.ensures.sound due.found due.of_child
@@ -77,9 +76,9 @@ returns-in_default-clause-none g c = (_, had_none _ _ _ c.turn-turn.result.kept 
 pub returns-in_default-clause-quiet : goal.returns-in_default-clause-quiet
 returns-in_default-clause-quiet g c =
     let b = c.turn-turn.result.kept in
-    subst (λ (s : State). FindsRow (is_due_of c.args.child s) s None)
+    subst (HasNoneToHand c.args.child)
     (sym (nothing_state _ _ _ b c.turns_rest_on_these.ensures c.turn-turn.ensures.turn c.done.ensures.given c.show.ensures.state))
-    c.in_default.ensures
+    c.in_default.ensures.none
 
 pub returns-in-Ok-clause-some : goal.returns-in-Ok-clause-some
 returns-in-Ok-clause-some g c =

@@ -6,7 +6,7 @@ use Rattle.rounds.specs.declared.ends.End.{End}
 use Rattle.listener_round.specs.CountedInside.{CountsOn}
 use Rattle.listener_round.specs.FrontInside.{TakesInTo}
 use Rattle.listener_round.specs.StandingInside.{owed_at}
-use Rattle.rounds.specs.Moments.{moment_for}
+use Rattle.board_book.specs.Moments.{moment_for}
 use Rattle.listener.specs.BetweenInside.{HasWaited, IsBetween}
 use Rattle.listener.specs.Counted.{AsksOnce}
 use Rattle.listener.specs.CountedInside.{ClocksAt}

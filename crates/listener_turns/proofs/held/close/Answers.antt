@@ -4,7 +4,7 @@ use Rattle.conn_machine.specs.declared.event.Event.TheVariants as event
 use Rattle.worker_group.proofs.ExitLemmas.{closing-ended}
 use Rattle.board_turns.proofs.FoundLemmas.{pass_as, row_as}
 use Rattle.board_turns.proofs.GoesOnLemmas.{made_close, may_leave}
-use Rattle.board_turns.proofs.ThenLemmas.{listener_then, row_then}
+use Rattle.board_turns.proofs.ThenLemmas.{listens_then, row_then}
 use Rattle.board_turns.proofs.TurnLemmas.{had_event}
 use Rattle.listener_turns.proofs.ListenerLemmas.{closable_here, close_allowed, closed_as, own_edition}
 use Rattle.listener_turns.proofs.held.close.Goals as goal
@@ -48,8 +48,7 @@ done-requires-clause-left g c =
 
 pub returns-clause-listener : goal.returns-clause-listener
 returns-clause-listener g c =
-    listener_then _ _ _ _ _ c.turn-turn.ensures.turn c.done.ensures.given
-    (record { turnless = record { hand = c.requires.hand; turn = c.requires.holds.turn }; number = c.requires.holds.number })
+    listens_then _ _ _ _ _ c.turn-turn.ensures.turn c.done.ensures.given c.requires.holds.number
 
 pub returns-clause-turn : goal.returns-clause-turn
 returns-clause-turn g c =

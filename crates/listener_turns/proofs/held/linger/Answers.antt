@@ -2,7 +2,7 @@ use Rattle.std.proofs.Common.{sym}
 use Rattle.conn_machine.specs.declared.event.Event.TheVariants as event
 use Rattle.board_turns.proofs.FoundLemmas.{pass_as, row_as}
 use Rattle.board_turns.proofs.GoesOnLemmas.{made, may_leave}
-use Rattle.board_turns.proofs.ThenLemmas.{listener_then, row_then}
+use Rattle.board_turns.proofs.ThenLemmas.{listens_then, row_then}
 use Rattle.board_turns.proofs.TurnLemmas.{had_one}
 use Rattle.listener_turns.proofs.ListenerLemmas.{lingerable_here, own_edition}
 use Rattle.listener_turns.proofs.held.linger.Goals as goal
@@ -44,8 +44,7 @@ done-requires-clause-left g c =
 
 pub returns-clause-listener : goal.returns-clause-listener
 returns-clause-listener g c =
-    listener_then _ _ _ _ _ c.turn-turn.ensures.turn c.done.ensures.given
-    (record { turnless = record { hand = c.requires.hand; turn = c.requires.holds.turn }; number = c.requires.holds.number })
+    listens_then _ _ _ _ _ c.turn-turn.ensures.turn c.done.ensures.given c.requires.holds.number
 
 pub returns-clause-turn : goal.returns-clause-turn
 returns-clause-turn g c = (

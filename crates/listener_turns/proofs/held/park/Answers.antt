@@ -2,7 +2,7 @@ use Rattle.std.proofs.Common.{sym, is_ok}
 use Rattle.conn_machine.specs.declared.event.Event.TheVariants as event
 use Rattle.board_turns.proofs.FoundLemmas.{pass_as, row_as}
 use Rattle.board_turns.proofs.GoesOnLemmas.{changed, may_change}
-use Rattle.board_turns.proofs.ThenLemmas.{listener_then}
+use Rattle.board_turns.proofs.ThenLemmas.{listens_then}
 use Rattle.board_turns.proofs.TurnLemmas.{parked_turn, unparked_turn, unparked_why}
 use Rattle.listener_turns.proofs.HeldLemmas.{parks_held, parks_none, parks_stays}
 use Rattle.listener_turns.proofs.ListenerLemmas.{own_edition, waits_here}
@@ -55,8 +55,7 @@ done-requires-clause-left g c =
 
 pub returns-clause-listener : goal.returns-clause-listener
 returns-clause-listener g c =
-    listener_then _ _ _ _ _ c.turn-turn.ensures.turn c.done.ensures.given
-    (record { turnless = record { hand = c.requires.hand; turn = c.requires.holds.turn }; number = c.requires.holds.number })
+    listens_then _ _ _ _ _ c.turn-turn.ensures.turn c.done.ensures.given c.requires.holds.number
 
 pub returns-clause-turn : goal.returns-clause-turn
 returns-clause-turn g c =

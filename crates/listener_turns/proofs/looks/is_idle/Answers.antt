@@ -1,16 +1,11 @@
 use Rattle.std.proofs.Common.{ap, ◌∙◌}
 use Rattle.table_rule.specs.declared.view.View.{View}
-use Rattle.listener_turns.proofs.LookLemmas.{looks_idle}
+use Rattle.listener_turns.proofs.LookLemmas.{idle_listener, looks_idle}
 use Rattle.listener_turns.proofs.looks.is_idle.Goals as goal
 
 pub returns-clause-listener : goal.returns-clause-listener
-returns-clause-listener g c = record {
-  turnless = record {
-    hand = c.idle.ensures.hand ∙ c.requires.listener.turnless.hand;
-    turn = ap (λ (q : View). q.turn) c.idle.ensures.found.looked.0 ∙ c.requires.listener.turnless.turn;
-  };
-  number = ap (λ (q : View). q.who.number) c.idle.ensures.found.looked.0 ∙ c.requires.listener.number;
-}
+returns-clause-listener g c =
+    idle_listener c.args.child c.idle.result _ _ c.turns_rest_on_these.ensures c.idle.ensures.hand c.idle.ensures.found c.requires.listener
 
 pub returns-clause-row : goal.returns-clause-row
 returns-clause-row g c = ap (λ (q : View). q.row) c.idle.ensures.found.looked.0

@@ -1,9 +1,10 @@
 use Rattle.std.proofs.Common.{◌≡◌, ap, subst, sym, true, false, nat_lt, None, refl, ◌∙◌, arith}
 use Rattle.conn_machine.specs.declared.event.Event.TheVariants as event
-use Rattle.rounds.specs.Moments.{moment_for}
+use Rattle.board_book.specs.Moments.{moment_for}
 use Rattle.rounds.proofs.ActLemmas.{acts-added, is-below, not-below, passes-later, passes-none}
 use Rattle.board.specs.Board.{SeenBoard}
-use Rattle.rounds.specs.Timely.{AreTimely, is_staffed}
+use Rattle.board_book.specs.Timely.{AreTimely}
+use Rattle.conn_machine.specs.States.{is_staffed}
 use Rattle.rounds.proofs.TimelyLemmas.{gone-in_time, still-in_time, timely-tick}
 use Rattle.rounds.proofs.round.pass_time.Goals as goal
 

@@ -3,7 +3,7 @@ use Rattle.board.specs.Board.{SeenBoard}
 use Rattle.board_book.specs.Faults.{IsRefusedFor}
 use Rattle.worker_group.specs.Service.{LeavesRest}
 use Rattle.rounds.specs.PartsInside.{ServesSome, StaysTimely}
-use Rattle.rounds.specs.Timely.{is_staffed}
+use Rattle.conn_machine.specs.States.{is_staffed}
 use Rattle.rounds.proofs.DueLemmas.{serves-in_time}
 use Rattle.rounds.proofs.PassLemmas.{due-none, fewer-asking, serves-acts, serves-more, serves-rest, service-acts}
 use Rattle.rounds.proofs.round.serve_all.Goals as goal

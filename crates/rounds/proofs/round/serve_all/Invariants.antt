@@ -1,10 +1,10 @@
 use Rattle.std.proofs.Common.{◌≡◌, true}
 use Rattle.conn_machine.specs.Passes.{asking_count}
 use Rattle.conn_machine.specs.Runs.{after}
-use Rattle.rounds.specs.AtRest.{NoneDue}
+use Rattle.board_book.specs.AtRest.{NoneDue}
 use Rattle.rounds.specs.PartsInside.{ServesSome, StaysTimely}
 use Rattle.rounds.specs.TableInside.{NoneDueLate}
-use Rattle.rounds.specs.Timely.{is_staffed}
+use Rattle.conn_machine.specs.States.{is_staffed}
 use Rattle.rounds.proofs.round.serve_all.Given as goal
 
 -- the pass that serves did something, nothing where no connection was due, and has no connection

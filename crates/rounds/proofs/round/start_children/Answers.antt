@@ -4,7 +4,7 @@ use Rattle.board.specs.Board.{SeenBoard}
 use Rattle.board_book.specs.Faults.{IsRefusedFor}
 use Rattle.worker_group.specs.Service.{LeavesRest}
 use Rattle.rounds.specs.PartsInside.{StartsSome}
-use Rattle.rounds.specs.Timely.{is_staffed}
+use Rattle.conn_machine.specs.States.{is_staffed}
 use Rattle.rounds.proofs.StaffLemmas.{before-behind, length-updated, staffed-behind, staffed-start}
 use Rattle.rounds.proofs.TimelyLemmas.{timely-start}
 use Rattle.rounds.proofs.ChildrenLemmas.{all-started, opens-in-order, starts-next}

@@ -3,7 +3,7 @@ use Rattle.conn_machine.specs.Children.{is_empty}
 use Rattle.worker_group.specs.Service.{LeavesRest}
 use Rattle.rounds.specs.TableInside.{IsOpening}
 use Rattle.rounds.specs.PartsInside.{StartsSome}
-use Rattle.rounds.specs.Timely.{is_staffed}
+use Rattle.conn_machine.specs.States.{is_staffed}
 use Rattle.rounds.proofs.ChildrenLemmas.{StartsInOrder}
 use Rattle.rounds.proofs.round.start_children.Given as goal
 

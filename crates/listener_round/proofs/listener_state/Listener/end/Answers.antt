@@ -13,7 +13,7 @@ use Rattle.listener_round.specs.Pace.{brought}
 use Rattle.conn_machine.specs.declared.event.Event.TheVariants as event
 use Rattle.conn_machine.specs.Table.{next}
 use Rattle.rounds.specs.TableInside.{StandsInTime}
-use Rattle.rounds.specs.Timely.{AreTimely}
+use Rattle.board_book.specs.Timely.{AreTimely}
 use Rattle.rounds.proofs.TimelyLemmas.{not-at_end, timely-command}
 use Rattle.listener_round.proofs.BroughtLemmas.{brought-as}
 use Rattle.listener_round.specs.StandingInside.{StandsBroken, standing}

@@ -4,7 +4,7 @@ use Rattle.std.proofs.Common.{ℕ, ◌<◌, ◌∙◌, List, None, ap, sym, subs
 use Rattle.conn_machine.specs.States.{is_halted}
 use Rattle.worker_group.specs.Acts.{Acts}
 use Rattle.rounds.specs.PartsInside.{signal_events}
-use Rattle.rounds.specs.Moments.{moment_for}
+use Rattle.board_book.specs.Moments.{moment_for}
 use Rattle.listener_round.proofs.FrontLemmas.{named-follows, step-kept}
 use Rattle.listener_round.proofs.PartLemmas.{coming-orderless, newest-orderless, orderless-before, orderless-children}
 use Rattle.listener_round.proofs.IntakeLemmas.{staffed-same, stands-within}

@@ -6,10 +6,10 @@ use Rattle.listener_round.specs.CountedInside.{CountsOn}
 use Rattle.listener_round.specs.HeardInside.{Hears, hearing, last_if, made_first}
 use Rattle.listener_round.specs.OrdersInside.{KnowsComing, ServesNewest, owed_by}
 use Rattle.rounds.specs.PartsInside.{StaysTimely, signal_events}
-use Rattle.rounds.specs.Timely.{is_staffed}
+use Rattle.conn_machine.specs.States.{is_staffed}
 use Rattle.listener_round.specs.ShareInside.{DoesAsked, stop_if}
 use Rattle.listener_round.specs.StandingInside.{standing}
-use Rattle.rounds.specs.Moments.{moment_for}
+use Rattle.board_book.specs.Moments.{moment_for}
 use Rattle.listener_round.specs.declared.edition.LoadedEdition.{LoadedEdition}
 use Rattle.listener_round.specs.declared.edition.NamedConfig.{NamedConfig}
 use Rattle.listener_round.proofs.CommandLemmas.{all-read, heeded-takes}

@@ -10,7 +10,7 @@ use Rattle.listener_round.specs.RoundInside.{BreaksOff}
 use Rattle.rounds.specs.PartsInside.{SignalsFirst, StaysTimely, signal_events}
 use Rattle.listener_round.specs.ShareInside.{CutsShare, DoesAsked, stop_if}
 use Rattle.listener_round.specs.StandingInside.{StandsBroken, standing}
-use Rattle.rounds.specs.Moments.{moment_for}
+use Rattle.board_book.specs.Moments.{moment_for}
 use Rattle.listener_round.specs.declared.edition.LoadedEdition.{LoadedEdition}
 use Rattle.listener_round.proofs.CommandLemmas.{heeded-takes}
 use Rattle.listener_round.proofs.CountedLemmas.{counts-orderless, moment-passed, moment-stays, counts-more, counts-unbroken, counts-until}

@@ -1,34 +1,14 @@
 -- When it is time for an event: what holds of the state in which it is made.
-use Rattle.std.specs.Prelude.{◌≡◌, ◌&&◌, ◌||◌, nat_lt, not, Bool, true, false, List, [], ◌∷◌, Some, ⊤}
-use Rattle.std.specs.List.{list_any}
+use Rattle.std.specs.Prelude.{◌≡◌, ◌||◌, nat_lt, true, false, List, Some, ⊤}
 use Rattle.board_book.specs.Finds.{startable}
 use Rattle.conn_machine.specs.declared.event.Entry.{Entry}
 use Rattle.conn_machine.specs.declared.event.Event.{Event}
 use Rattle.conn_machine.specs.declared.event.Event.TheVariants as event
 use Rattle.conn_machine.specs.declared.state.State.{State}
-use Rattle.conn_machine.specs.Children.{is_empty}
 use Rattle.conn_machine.specs.Events.{is_ready, is_tick}
 use Rattle.conn_machine.specs.Rows.{lives_and}
-use Rattle.conn_machine.specs.States.{is_halted, is_over, is_serving}
-use Rattle.conn_machine.specs.Table.{next}
-
--- of each entry of a history from the state on this holds, in the state in which it was made
-abbrev pub AllAt : (State → Event → Type 0) → State → List Entry → Type 0
-AllAt P s [] = ⊤
-AllAt P s (e ∷ entries) = P s e.event × AllAt P (next s e.event) entries
-
--- ## A graceful stop
-
--- some child isn't gone
-abbrev pub is_staffed : State → Bool
-is_staffed s = list_any (λ c. not (is_empty c.phase)) s.children
-
--- a graceful stop is at its end: the server takes no connections, hasn't stopped, and each child is gone. (While the server takes connections
--- some child runs when a command line is read, as children are started before and let go of behind that.)
-abbrev pub is_at_its_end : State → Bool
-is_at_its_end s = not (is_serving s.going) && not (is_halted s.going) && not (is_staffed s)
-
--- ## Each event
+use Rattle.conn_machine.specs.Runs.{AllAt}
+use Rattle.conn_machine.specs.States.{is_at_its_end, is_over}
 
 -- a child is started where fewer run than should, and it is the lowest one that is gone; and a connection is handed to the workers before
 -- its deadline

@@ -1,0 +1,184 @@
+//! One turn of the listener, and what comes before the first one.
+//! Why it is so stands in docs/DECISIONS.md: 90, Front, clock and store stand beside the listener; 140, Parts of the listener's round.
+ghost use Rattle.std.specs.Prelude.{◌≡◌, [], None, Some, true, IfErr, IfOk, IfSome, MatchResult, OnErr, OnOk};
+ghost use Rattle.board_turns.specs.Books.{book_of, state_of};
+ghost use Rattle.conn_machine.specs.States.{is_staffed};
+ghost use Rattle.conn_machine.specs.declared.state.Going.TheVariants.{Serving};
+ghost use Rattle.board_book.specs.AtRest.{IsAtRest};
+ghost use Rattle.mpm_base.specs.Front.{is_woken, wait_failed};
+ghost use Rattle.rounds.specs.declared.ends.End.TheVariants as end;
+ghost use Rattle.worker_group.specs.Service.{RefusalLasts};
+ghost use Rattle.listener_parts.specs.Did.{Did, LeavesAlone, OnlySees, StandsAs};
+ghost use Rattle.listener_parts.specs.Rounds.{StartsAtFirst};
+ghost use Rattle.listener_parts.specs.Times.{KeepsTime};
+ghost use Rattle.listener_round.specs.CountedInside.{CountsOn, CountsUntil};
+ghost use Rattle.listener_round.specs.FrontInside.{IsKnownOfFront};
+ghost use Rattle.listener_round.specs.StandingInside.{owed_at};
+ghost use Rattle.listener.specs.Counted.{AsksOnce};
+ghost use Rattle.listener.specs.CountedInside.{ClocksAt};
+ghost use Rattle.listener_engine.specs.Rests.{RestsAs};
+ghost use Rattle.engine_run.specs.Between.{ClocksBehind, EndsBy, GoesOnFrom, MayTurn};
+ghost use Rattle.engine_run.specs.Turns.{listener_of};
+
+use crate::pause::take_pause;
+use board::BoardFault;
+use board::laws::generations_keep_their_editions;
+use board_lock::Room;
+use board_turns::turns_rest_on_these;
+use conn_machine::laws_between_turns::{own_events_tell_the_frame, own_events_tell_what_was_taken};
+use conn_state::Known;
+use listener_engine::Listener;
+use mpm_base::{Bell, Clock, Front, Gate, Link, Sink, Store, Woke};
+use rounds::End;
+use std::sync::Wait;
+
+/// Starts the first children, and finds what the first wait is told.
+pub(crate) fn start<R: Wait, M: Room, L: Link, N: Known, B: Bell, G: Gate>(
+    listener: &mut Listener<'_, '_, M, L, N, B, G>,
+    rt: &R,
+) -> Result<(), BoardFault>
+    requires going { (state_of listener.old.table).going ≡ Serving }
+    ensures first { StartsAtFirst listener.old.table listener.new.table }
+    ensures stands { StandsAs (state_of listener.old.table) (state_of listener.new.table) }
+    ensures staffed { OnOk result (is_staffed (state_of listener.new.table) ≡ true) }
+    ensures rests { OnOk result (RestsAs listener.new.rest listener.new.table) }
+    ensures timely { KeepsTime listener.old.table listener.new.table }
+    ensures others { listener.new ≡ record listener.old
+        { table = listener.new.table; rest = listener.new.rest } }
+    ensures err { IfErr result (λ fault. RefusalLasts fault (book_of listener.new.table)) }
+{
+    own_events_tell_the_frame();
+    listener.table.show();
+    listener.table.start_first(rt)?;
+    listener.table.show();
+    let look = listener.table.look(rt);
+    listener.rest = listener.table.rest(look);
+    Ok(())
+}
+
+/// Waits for what comes, has a round done of it, hands over what is signalled and has it served, and folds the history where it may be folded.
+/// Why the turns end here, where they do. Err where the server has to stop.
+pub(crate) fn listen_turn<
+    R: Wait,
+    D: Store,
+    M: Room,
+    L: Link,
+    F: Front<L = L>,
+    C: Clock,
+    N: Known,
+    B: Bell,
+    G: Gate,
+    K: Sink,
+>(
+    listener: &mut Listener<'_, '_, M, L, N, B, G>,
+    rt: &R,
+    store: &mut D,
+    front: &mut F,
+    clock: &mut C,
+    out: &mut K,
+) -> Result<Option<End>, BoardFault>
+    requires named { IsKnownOfFront N.known (F.seen front.old).told }
+    requires may { MayTurn N.known (listener_of listener.old.table (F.seen front.old)
+        (C.told clock.old) listener.old.ready listener.old.edition (D.seen store.old)
+        listener.old.config (K.seen out.old) listener.old.written) }
+    requires rests { RestsAs listener.old.rest listener.old.table }
+    ensures goes_on { let old = listener_of listener.old.table (F.seen front.old)
+        (C.told clock.old) listener.old.ready listener.old.edition (D.seen store.old)
+        listener.old.config (K.seen out.old) listener.old.written in
+        let new = listener_of listener.new.table (F.seen front.new)
+        (C.told clock.new) listener.new.ready listener.new.edition (D.seen store.new)
+        listener.new.config (K.seen out.new) listener.new.written in
+        GoesOnFrom N.known listener.old.rest listener.new.rest old new result }
+    ensures may { let new = listener_of listener.new.table (F.seen front.new)
+        (C.told clock.new) listener.new.ready listener.new.edition (D.seen store.new)
+        listener.new.config (K.seen out.new) listener.new.written in
+        IfOk result (λ ended. ended ≡ None → MayTurn N.known new) }
+    ensures rests { IfOk result
+        (λ ended. ended ≡ None → RestsAs listener.new.rest listener.new.table) }
+    ensures counts { let old = (F.seen front.old).counts in
+        let new = (F.seen front.new).counts in
+        MatchResult result
+        (λ ended. CountsOn (owed_at ended) old new (book_of listener.old.table)
+        (book_of listener.new.table))
+        (λ fault. CountsUntil old new (book_of listener.old.table) (book_of listener.new.table)) }
+    ensures clock { OnOk result (ClocksAt (C.greatest clock.old) (C.greatest clock.new)
+        (state_of listener.old.table) (state_of listener.new.table)) }
+    ensures behind { OnErr result (ClocksBehind (C.greatest clock.old) (C.greatest clock.new)
+        (state_of listener.old.table) (state_of listener.new.table)) }
+    ensures asked { AsksOnce (F.seen front.old).counts.wakes (F.seen front.new).counts.wakes
+        (C.asked clock.old) (C.asked clock.new) }
+    ensures named { IsKnownOfFront N.known (F.seen front.new).told }
+{
+    turns_rest_on_these();
+    own_events_tell_the_frame();
+    own_events_tell_what_was_taken();
+    generations_keep_their_editions();
+    listener.table.show();
+    let present = listener.table.moment();
+    let pause = take_pause(
+        rt,
+        front,
+        clock,
+        &mut listener.ready,
+        listener.rest,
+        present,
+    );
+    if let Some(end) = end_of(listener, rt, pause.woke) {
+        return Ok(Some(end));
+    }
+    if let Some(end) = listener.take_in(rt, store, front, out, pause.moment)? {
+        return Ok(Some(end));
+    }
+    serve(listener, rt);
+    Ok(None)
+}
+
+/// Why the turns end by what the wait answered, where they do: a wait failed; or nothing more can come, and no connection is live, as a turn
+/// finds. Where none is, nobody but the listener adds anything behind that.
+fn end_of<R: Wait, M: Room, L: Link, N: Known, B: Bell, G: Gate>(
+    listener: &mut Listener<'_, '_, M, L, N, B, G>,
+    rt: &R,
+    woke: Woke,
+) -> Option<End>
+    ensures did { Did [] None listener.old.table listener.new.table }
+    ensures alone { LeavesAlone (state_of listener.old.table) (state_of listener.new.table) }
+    ensures timely { KeepsTime listener.old.table listener.new.table }
+    ensures woken { is_woken woke ≡ true → listener.new ≡ listener.old }
+    ensures goes_on { is_woken woke ≡ true → result ≡ None }
+    ensures ends { IfSome result (EndsBy woke (state_of listener.new.table)) }
+    ensures failed { wait_failed woke ≡ true → result ≡ Some end.Failed }
+    ensures others { listener.new ≡ record listener.old { table = listener.new.table } }
+{
+    listener.table.show();
+    match woke {
+        Woke::Woke(_) => None,
+        Woke::Failed => Some(End::Failed),
+        Woke::Ended => {
+            if listener.table.look(rt).live {
+                None
+            } else {
+                Some(End::Ended)
+            }
+        }
+    }
+}
+
+/// Hands over what is signalled, serves it where no worker has a thread, and folds the history where it may be folded. Where nothing is left
+/// to be done nothing is handed over, and else the bell is rung, so that the next wait comes back at once.
+fn serve<R: Wait, M: Room, L: Link, N: Known, B: Bell, G: Gate>(
+    listener: &mut Listener<'_, '_, M, L, N, B, G>,
+    rt: &R,
+)
+    ensures sees { OnlySees listener.old.table listener.new.table }
+    ensures alone { LeavesAlone (state_of listener.old.table) (state_of listener.new.table) }
+    ensures still { IsAtRest (state_of listener.old.table)
+        → listener.new.table.seen ≡ listener.old.table.seen }
+    ensures timely { KeepsTime listener.old.table listener.new.table }
+    ensures others { listener.new ≡ record listener.old { table = listener.new.table } }
+{
+    if !listener.rest.quiet {
+        listener.table.hand_over(rt);
+        listener.bell.ring();
+    }
+    listener.table.fold(rt);
+}

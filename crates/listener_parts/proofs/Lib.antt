@@ -1,0 +1,17 @@
+pub mod AloneLemmas
+pub mod DidLemmas
+pub mod DownLemmas
+pub mod DroppedLemmas
+pub mod HeldLemmas
+pub mod KeepsTimeLemmas
+pub mod LettingLemmas
+pub mod LingeringLemmas
+pub mod MadeLemmas
+pub mod NewLemmas
+pub mod OrderLemmas
+pub mod PartTimeLemmas
+pub mod RestLemmas
+pub mod RoundLemmas
+pub mod StartTimeLemmas
+pub mod StopLemmas
+pub mod TimesLemmas
