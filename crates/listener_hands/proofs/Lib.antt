@@ -1,3 +1,0 @@
-pub mod ClosingLemmas
-pub mod LineLemmas
-pub mod OpeningLemmas

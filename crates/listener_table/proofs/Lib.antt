@@ -1,2 +1,0 @@
-pub mod AmongLemmas
-pub mod TableLemmas

@@ -1,3 +1,0 @@
-pub mod Among
-pub mod Laws
-pub mod Table
