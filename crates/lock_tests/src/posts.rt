@@ -99,16 +99,18 @@ pub fn posts<'q, 'p, 'a, B: Room>(
 {
     let mut made = Vec::new(alloc);
     for number in 0..seats.len() {
-        if let Some(seat) = last_seat(queue, &mut seats) {
-            if let Some(rester) = last_rester(perch, all) {
-                made.push(Post {
-                    rester,
-                    queue,
-                    seat,
-                    sends: number % 2 == 0,
-                })?;
-            }
-        }
+        let Some(seat) = last_seat(queue, &mut seats) else {
+            return Ok(made);
+        };
+        let Some(rester) = last_rester(perch, all) else {
+            return Ok(made);
+        };
+        made.push(Post {
+            rester,
+            queue,
+            seat,
+            sends: number % 2 == 0,
+        })?;
     }
     Ok(made)
 }

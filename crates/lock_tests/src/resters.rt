@@ -148,10 +148,11 @@ pub fn admit_first<'a, B: Room>(
 {
     let mut made = Vec::new(alloc);
     for _ in 0..count {
-        if let Some(pass) = first_pass(perch.shared, passes) {
-            if let Some(parcel) = admitted(perch, all, pass) {
-                made.push(parcel)?;
-            }
+        let Some(pass) = first_pass(perch.shared, passes) else {
+            return Ok(made);
+        };
+        if let Some(parcel) = admitted(perch, all, pass) {
+            made.push(parcel)?;
         }
     }
     Ok(made)
