@@ -47,69 +47,22 @@ fn outcome_of<
         + Clone
         + Drop,
 >(rt: &R) -> Result<Outcome<SocketLink>, NoMemory> {
-    let words = words_of(rt.alloc(), env::args(rt))?;
-    let operator = operator_of(rt, rt.alloc(), &words);
-    outcome_over(rt, &words, &operator)
-}
-
-/// How the run of the words over the sockets ends. None begins where memory lacks for the front.
-fn outcome_over<
-    'a,
-    R: Alloc<A = Global>
-        + Files
-        + Print
-        + Eprint
-        + time::Clock
-        + Net
-        + Threads
-        + Wait
-        + Sync
-        + Clone
-        + Drop,
->(
-    rt: &'a R,
-    words: &Words,
-    operator: &'a Operator<'a, R>,
-) -> Result<Outcome<SocketLink>, NoMemory> {
+    let alloc = rt.alloc();
+    let words = words_of(alloc, env::args(rt))?;
+    let operator = operator_of(rt, alloc, &words);
     let mut clock = SystemClock::begin(rt);
-    let mut front = SocketFront::make(rt, operator, rt.alloc(), clock.twin(), SLOTS)?;
-    Ok(outcome_in(rt, words, operator, &mut front, &mut clock))
-}
-
-/// How the run of the words in the current folder, over the front and the clock, ends.
-fn outcome_in<
-    'a,
-    'f,
-    'c,
-    R: Alloc<A = Global>
-        + Files
-        + Print
-        + Eprint
-        + time::Clock
-        + Net
-        + Threads
-        + Wait
-        + Sync
-        + Clone
-        + Drop,
->(
-    rt: &'a R,
-    words: &Words,
-    operator: &'a Operator<'a, R>,
-    front: &mut SocketFront<'f, R>,
-    clock: &mut SystemClock<'c, R>,
-) -> Outcome<SocketLink> {
-    let mut folder = Folder::new(rt, operator, rt.alloc());
+    let mut front = SocketFront::make(rt, &operator, alloc, clock.twin(), SLOTS)?;
+    let mut folder = Folder::new(rt, &operator, alloc);
     let mut output = Output::new(io::writer(rt));
-    run_over(
+    Ok(run_over(
         rt,
-        rt.alloc(),
-        words,
+        alloc,
+        &words,
         &mut folder,
-        front,
-        clock,
+        &mut front,
+        &mut clock,
         &mut output,
-    )
+    ))
 }
 
 /// How the run of the words over these ends. Nothing is let go here, so that what `run` says isn't carried through the ends of them all.
@@ -148,22 +101,14 @@ fn operator_of<'a, R: Alloc<A = Global> + Files + Eprint + Clone + Drop>(
     words: &Words,
 ) -> Operator<'a, R> {
     match invocation_of(alloc, words) {
-        Ok(Invocation::Serve(name)) => Operator::present(rt, taken_by(rt, alloc, name.as_str())),
+        Ok(Invocation::Serve(name)) => {
+            let nobody = Operator::absent(rt);
+            let mut folder = Folder::new(rt, &nobody, alloc);
+            Operator::present(rt, connections_by(alloc, name.as_str(), &mut folder))
+        }
         Ok(Invocation::Send(..)) => Operator::present(rt, None),
         _ => Operator::absent(rt),
     }
-}
-
-/// How many connections a server takes at its start by the configuration of that name in the current folder, as far as that is known before
-/// the run.
-fn taken_by<R: Alloc<A = Global> + Files + Eprint + Clone + Drop>(
-    rt: &R,
-    alloc: Global,
-    name: &str,
-) -> Option<u32> {
-    let nobody = Operator::absent(rt);
-    let mut folder = Folder::new(rt, &nobody, alloc);
-    connections_by(alloc, name, &mut folder)
 }
 
 /// The process ends with the status of the run, or with that for want of memory where the run could not begin.

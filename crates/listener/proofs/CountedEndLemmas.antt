@@ -30,11 +30,6 @@ use Rattle.rounds.specs.EndsInside.{HaltsAs, why_of}
 use Rattle.board_book.specs.Moments.{moment_for}
 use Rattle.rounds.specs.PartsInside.{GoesDown, ServesSome, StartsSome, halt_events, halts_for}
 use Rattle.run_report.specs.Endings.{HasEndedGracefully}
-use Rattle.rounds.specs.declared.ends.Rest.{Rest}
-use Rattle.listener.specs.BetweenInside.{HasWaited, ServesAndFolds, ServesRows, TurnClocks, TurnCounts}
-use Rattle.listener.specs.TurnsInside.{SeenListener}
-use Rattle.listener.specs.declared.listen.Pause.{Pause}
-use Rattle.listener.specs.declared.listen.Turn.{Turn}
 use Rattle.listener.specs.Counted.{AsksOnce, CountsBut, CountsRun, stops_at}
 use Rattle.listener.specs.CountedInside.{ClocksAt, ClocksOn, CountsToEnd, IsAtClock, KeepsClockFrom, MovesClock, TurnsCount}
 use Rattle.listener_round.specs.CountedInside.{CountsBroken, CountsOn, CountsSo, CountsUntil}
@@ -46,7 +41,7 @@ use Rattle.listener_round.specs.declared.run_numbers.RunNumbers.{RunNumbers}
 use Rattle.rounds.proofs.AddedLemmas.{added-events, events_in}
 use Rattle.rounds.proofs.PassLemmas.{serves-acts}
 use Rattle.listener_round.proofs.CommandlessLemmas.{AreCommandless, commandless-gone, commandless-retires, commandless-served, commandless-starts, orders-added, orders-kept}
-use Rattle.listener_round.proofs.CountedLemmas.{CountsAlike, alike-same, counts-alike, counts-more, just-as, just-none, same-counts, same-wait}
+use Rattle.listener_round.proofs.CountedLemmas.{CountsAlike, counts-more, just-as, just-none}
 
 -- ## The parts of turns
 
@@ -71,30 +66,6 @@ alike-folded known a b listens = record {
   going = ap (λ (s : State). s.going) listens.state;
   accepted = ap (λ (s : State). s.accepted) listens.state;
 }
-
--- in a wait
-pub counts-waited : (rest : Rest) (pause : Pause) (a w : SeenListener) → HasWaited rest pause a w → CountsOn 0 a.front.counts w.front.counts a.board.book w.board.book
-counts-waited rest pause a w waited =
-    counts-alike a.front.counts w.front.counts a.board.book w.board.book (same-wait a.front w.front rest.until rest.quiet pause.woke w.ready waited.waits)
-    (alike-same a.board.book w.board.book (ap (λ (b : SeenBoard). b.book) waited.board))
-
--- in a service
-pub counts-served : ActsInSteps → (counts : FrontCounts) (a b : SeenBoard) → ServesRows a b → CountsOn 0 counts counts a.book b.book
-counts-served steps counts a b rows =
-    counts-alike counts counts a.book b.book (same-counts counts counts refl) (alike-served steps a b rows.serves rows.rest)
-
--- in a service, and in the fold behind it
-pub counts-folded : ActsInSteps → (known : Option KnownOutside) (counts : FrontCounts) (a b : SeenBoard) → ServesAndFolds known a b
-    → CountsOn 0 counts counts a.book b.book
-counts-folded steps known counts a b did =
-    counts-more 0 counts counts counts a.book did.served.book b.book (counts-served steps counts a did.served did.rows)
-    (counts-alike counts counts did.served.book b.book (same-counts counts counts refl) (alike-folded known did.served b did.folds))
-
--- what a turn counted that was broken off
-pub turn-broken : (turns : Result Turn BoardFault) (fault : BoardFault) (old new : FrontCounts) (a b : SeenBook) → IsErrAnd turns (λ f. f ≡ fault)
-    → CountsUntil old new a b → TurnCounts turns old new a b
-turn-broken (Ok t) fault old new a b is until = absurd is
-turn-broken (Err f) fault old new a b is until = until
 
 -- what turns counted that ended for this
 pub counts-ending : (ended : Option End) (e : End) (x y z : FrontCounts) (a b c : SeenBook) → ended ≡ Some e → CountsOn 0 x y a b
@@ -277,12 +248,6 @@ pub clocks-broken : (turns : Result End BoardFault) (fault : BoardFault) (old ne
     → ((first : ℕ) → IsAtClock first old s → s'.moment ≤ moment_for new) → ClocksOn turns old new s s'
 clocks-broken (Ok e) fault old new s s' is behind = absurd is
 clocks-broken (Err f) fault old new s s' is behind = behind
-
--- and with a turn
-pub turn-clocks : (turns : Result Turn BoardFault) (fault : BoardFault) (old new : ℕ) (s s' : State) → IsErrAnd turns (λ f. f ≡ fault)
-    → ((first : ℕ) → IsAtClock first old s → s'.moment ≤ moment_for new) → TurnClocks turns old new s s'
-turn-clocks (Ok t) fault old new s s' is behind = absurd is
-turn-clocks (Err f) fault old new s s' is behind = behind
 
 -- the clock was not asked, and no wait was made
 pub asks-none : (wakes asked : ℕ) → AsksOnce wakes wakes asked asked

@@ -6,7 +6,6 @@ use Rattle.board.specs.Board.{SeenBoard}
 use Rattle.board_book.specs.Finds.{next_deadline_of}
 use Rattle.worker_group.specs.Service.{IsUp}
 use Rattle.rounds.specs.declared.ends.Rest.{Rest}
-use Rattle.listener.specs.BetweenInside.{GoesAbreast, HasKept, HasPatience, IsBeforeTurn, IsBetween, Rests, WholeFrom}
 use Rattle.listener.specs.FoldsInside.{ListensOn}
 use Rattle.listener.specs.ListenInside.{IsAtStart}
 use Rattle.listener_round.specs.FrontInside.{IsInStep, TookAll}
@@ -14,7 +13,10 @@ use Rattle.board_book.specs.AtRest.{IsAtRest}
 use Rattle.rounds.specs.TableInside.{StandsInTime}
 use Rattle.listener_round.specs.StandingInside.{IsOpenedBy, KnowsLater}
 use Rattle.listener.specs.TurnsInside.{SeenListener}
-use Rattle.listener.proofs.WholeLemmas.{timely-begun, whole-folded}
+use Rattle.listener.proofs.OverLemmas.{IsBeforeTurn}
+use Rattle.listener.proofs.PaceLemmas.{GoesAbreast, HasPatience, Rests}
+use Rattle.listener.proofs.TurnLemmas.{HasKept, IsBetween}
+use Rattle.listener.proofs.WholeLemmas.{WholeFrom, timely-begun, whole-folded}
 
 module _ (known : Option KnownOutside) (a : SeenListener) (b : SeenBoard) (listens : ListensOn known a.board b) where
   kept-folded : (first : SeenListener) → HasKept first a → HasKept first (record a { board = b })

@@ -9,15 +9,12 @@ use Rattle.command_answers.specs.Answers.{stopping_answer}
 use Rattle.rounds.specs.declared.ends.End.{End}
 use Rattle.rounds.specs.declared.ends.End.TheVariants as end
 use Rattle.listener_round.specs.Watched.{IsHushed}
-use Rattle.listener.specs.ListenInside.{AnswersStop, IsUnopened, contacts, contacts_of}
-use Rattle.listener.specs.declared.server.OpenFault.{OpenFault}
-use Rattle.listener.specs.declared.server.OpenFault.TheVariants as opening
-use Rattle.listener_round.specs.declared.run_numbers.RunNumbers.{RunNumbers}
+use Rattle.listener.specs.ListenInside.{AnswersStop, contacts, contacts_of}
 use Rattle.listener_round.specs.FrontInside.{Follows}
 use Rattle.listener.specs.Stops.{HasFailedLast, HasGivenAll}
 use Rattle.listener_round.specs.Times.{waits_of}
 use Rattle.run_report.proofs.CountLemmas.{where-stays}
-use Rattle.listener_round.proofs.FrontLemmas.{clients-mapped, comings-mapped, follows-same}
+use Rattle.listener_round.proofs.FrontLemmas.{clients-mapped, comings-mapped}
 
 -- ## The end of listening
 
@@ -77,16 +74,6 @@ follows-bind old new listen control answer binds = record {
   commands = omega (arith, binds.commands);
   stops = omega (arith, ap (λ (w : GivenWords). w.stop) binds.words);
 }
-
--- so it is where the server did not open for the fault
-pub unopened-follows : (n : RunNumbers) (old new : FrontSeen) (fault : OpenFault) → IsUnopened n old new fault → Follows old new
-unopened-follows n old new opening.Bind binds = follows-bind old new n.listen n.control false binds
-unopened-follows n old new opening.NoMemory same = subst (Follows old) (sym same) (follows-same old)
-
--- which made no wait then
-pub unopened-wakes : (n : RunNumbers) (old new : FrontSeen) (fault : OpenFault) → IsUnopened n old new fault → new.counts.wakes ≡ old.counts.wakes
-unopened-wakes n old new opening.Bind binds = binds.wakes
-unopened-wakes n old new opening.NoMemory same = ap (λ (f : FrontSeen). f.counts.wakes) same
 
 -- ## The end
 

@@ -13,9 +13,7 @@ use Rattle.worker_group.specs.Acts.{ActsInSteps}
 use Rattle.worker_group.specs.Service.{IsUp, RefusalLasts}
 use Rattle.rounds.specs.declared.ends.End.{End}
 use Rattle.rounds.specs.declared.ends.End.TheVariants as end
-use Rattle.listener.specs.BetweenInside.{HasKept, HasPatience, HasWaited, IsBeforeTurn, IsBehindTurn, IsBetween, ServesAndFolds, TurnsGoOn, WholeFrom}
 use Rattle.listener.specs.declared.listen.Pause.{Pause}
-use Rattle.listener.specs.declared.listen.Turn.{Turn}
 use Rattle.rounds.specs.declared.ends.Rest.{Rest}
 use Rattle.board_book.specs.ClosedDown.{HasNoLive}
 use Rattle.rounds.specs.EndsInside.{is_at_end}
@@ -35,14 +33,23 @@ use Rattle.run_report.proofs.CountLemmas.{rises-behind}
 use Rattle.listener.proofs.FrontLemmas.{all-taken, each-handed, failed-last}
 use Rattle.listener_round.proofs.FrontLemmas.{only-takes, step-listens, takes-same}
 use Rattle.listener_round.proofs.LinkLemmas.{hands-step}
-use Rattle.listener.proofs.PaceLemmas.{IsAfter, abreast-round, pace-broken, pace-round, pace-served, pace-started, pace-timed, patience-started, patience-waited, served-patience}
-use Rattle.listener.proofs.FoldedTurnLemmas.{turn-folded}
-use Rattle.listener.proofs.TurnLemmas.{HasBrokenOff, HasGoneRound, HasServedRows, between-round, between-served, did-broken, did-some, kept-round, kept-waited, waited-in_step}
-use Rattle.listener.proofs.WaitLemmas.{idle-wait}
+use Rattle.listener.proofs.PaceLemmas.{GoesAbreast, HasPatience, IsAfter, abreast-round, pace-broken, pace-round, pace-served, pace-started, pace-timed, patience-started, patience-waited, served-patience}
+use Rattle.listener.proofs.TurnLemmas.{HasBrokenOff, HasGoneRound, HasKept, HasServedRows, IsBetween, between-round, between-served, did-broken, did-some, kept-round, kept-waited, waited-in_step}
+use Rattle.listener.proofs.WaitLemmas.{HasWaited, idle-wait}
+use Rattle.listener.proofs.WholeLemmas.{WholeFrom}
 use Rattle.listener.proofs.WholeEndLemmas.{EndsFrom, ends-done, has-turned, whole-served}
 use Rattle.listener.proofs.WholeTurnLemmas.{ends-all_gone, ends-asked, ends-broken, ends-ended, ends-failed, ends-overdue, whole-round}
 
 -- ## What is said of them
+
+-- what holds before a turn, whose wait is told this: the listener is between two turns, and what the run did of all its entries; the clock
+-- tells exactly where it did, no command line that was read stops the server, and the listener goes abreast of a patient front
+pub record IsBeforeTurn (known : Option KnownOutside) (first : SeenListener) (rest : Rest) (now : SeenListener) : Type 0 where
+  pub between : IsBetween known first now
+  pub whole : WholeFrom known first now
+  pub clock : is_some now.calls ≡ is_some first.calls
+  pub heeded : IfSome now.front.told HasNoneToHeed
+  pub paced : IsAtStart first.front.told first.board.book → GoesAbreast rest now
 
 -- what holds of a listener whose turns came to this end
 record HasCome (known : Option KnownOutside) (e : End) (first now : SeenListener) : Type 0 where
@@ -144,7 +151,7 @@ over-started known turns fault l m is kept ends before step heeded same starts l
 
 module _ (steps : ActsInSteps) (known : Option KnownOutside) (rest : Rest) (pause : Pause) (first a w : SeenListener) (before : IsBeforeTurn known first rest a) (waited : HasWaited rest pause a w) where
   -- no command line was read by the wait
-  pub heeded-then : IfSome w.front.told HasNoneToHeed
+  heeded-then : IfSome w.front.told HasNoneToHeed
   heeded-then = heeded-wait _ _ _ _ a.front.told w.front.told waited.waits.tells before.heeded
 
   going-then : IsUp w.board.book.state.going
@@ -314,28 +321,3 @@ module _ (steps : ActsInSteps) (known : Option KnownOutside) (rest : Rest) (paus
           (abreast-round rest pause a w b (before.paced start).abreast waited gone.moment gone.took.front gone.took.calls)
           (patient-then b gone.round None gone start) took read served until quiet;
     }
-
-    -- before the next turn, where the history was folded behind the service, or wasn't
-    pub turn-next : TurnsGoOn → (rest' : Rest) (d : SeenListener) → d ≡ record b { board = d.board } → ServesAndFolds known b.board d.board
-        → TakesInTo None w.front b.front b.board.book.state → rest'.until ≡ next_deadline_of b.board.book.state
-        → IsRestful rest'.quiet b.board.book.state → IsBeforeTurn known first rest' d
-    turn-next laws rest' d same did ends until quiet =
-        let m : SeenListener = record b { board = did.served } in
-        let served : HasServedRows b m = record { serves = did.rows.serves; timely = did.rows.timely; staffed = did.rows.staffed; rest = did.rows.rest; others = refl } in
-        let before' : IsBeforeTurn known first rest' m =
-        turn-served laws.editions laws.state rest' m did.before did.behind served ends.2 ends.0 ends.1 until quiet in
-        subst (IsBeforeTurn known first rest') (sym same) (turn-folded known m d.board did.folds first rest' before')
-
--- ## What a turn left
-
--- where it was broken off for the fault
-pub behind-broken : (known : Option KnownOutside) (turns : Result Turn BoardFault) (fault : BoardFault) (first now : SeenListener) → IsErrAnd turns (λ f. f ≡ fault)
-    → AreOver known (Err fault) first now → IsBehindTurn known first turns now
-behind-broken known (Ok t) fault first now is over = absurd is
-behind-broken known (Err f) fault first now is over = subst (λ (x : BoardFault). AreOver known (Err x) first now) (sym is) over
-
--- so the turns were then
-pub over-broken_off : (known : Option KnownOutside) (turns : Result End BoardFault) (fault : BoardFault) (first now : SeenListener) → IsErrAnd turns (λ f. f ≡ fault)
-    → AreOver known (Err fault) first now → AreOver known turns first now
-over-broken_off known (Ok e) fault first now is over = absurd is
-over-broken_off known (Err f) fault first now is over = subst (λ (x : BoardFault). AreOver known (Err x) first now) (sym is) over

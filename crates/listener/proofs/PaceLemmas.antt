@@ -22,7 +22,6 @@ use Rattle.board_book.specs.Book.{SeenBook}
 use Rattle.board_book.specs.Finds.{acceptable, next_deadline_of}
 use Rattle.worker_group.specs.Acts.{Acts, ActsInSteps}
 use Rattle.rounds.specs.declared.ends.End.{End}
-use Rattle.listener.specs.BetweenInside.{Abreast, GoesAbreast, HasPatience, HasWaited, IsPatientOf, Rests}
 use Rattle.listener.specs.declared.listen.Pause.{Pause}
 use Rattle.rounds.specs.declared.ends.Rest.{Rest}
 use Rattle.listener_round.specs.FrontInside.{HasReadAll, IsInStep, KeepsStep, OnlyReadsAndTakes, TookAll}
@@ -42,6 +41,33 @@ use Rattle.listener.proofs.TimedRoundLemmas.{timed-acts, timed_round}
 use Rattle.listener.proofs.TurnLemmas.{HasServedRows}
 use Rattle.listener.proofs.UnsignalledLemmas.{none-signalled}
 use Rattle.listener.proofs.PatientLemmas.{MomentOf, echoed-before, none-late-then, patient-round, patient-served, patient-silent, patient-weaker, told-before}
+use Rattle.listener.proofs.WaitLemmas.{HasWaited}
+
+-- ## What the listener keeps
+
+-- over such a front and clock time passes patiently in the history that is kept
+abbrev pub IsPatientOf : Option FrontTold → Option (List (ℕ × ℕ)) → SeenBook → Type 0
+IsPatientOf told calls b = IsPatientRun told calls b.base b.history
+
+abbrev pub HasPatience : SeenListener → Type 0
+HasPatience l = IsPatientOf l.front.told l.calls l.board.book
+
+-- the table stands at the moment of the front
+abbrev pub Abreast : SeenListener → Type 0
+Abreast l = (steady : IsSteady l.front.told l.calls) → l.board.book.state.moment ≡ moment_for steady.front.moment
+
+-- a wait that may let time pass is told of a state in which nothing is left to be done
+pub record Rests (rest : Rest) (l : SeenListener) : Type 0 where
+  pub until : rest.until ≡ next_deadline_of l.board.book.state
+  pub at_rest : IsAtRest l.board.book.state
+  pub took : TookAll l.front.told l.board.book.state
+  pub read : HasReadAll l.front.told
+
+-- between two turns
+pub record GoesAbreast (rest : Rest) (l : SeenListener) : Type 0 where
+  pub abreast : Abreast l
+  pub patient : HasPatience l
+  pub rested : rest.quiet ≡ true → Rests rest l
 
 -- ## Lists and moments
 

@@ -8,7 +8,6 @@ use Rattle.mpm_base.specs.Count.{greatest_count}
 use Rattle.mpm_base.specs.Front.{FrontTold, Progress, WaitTold, progress_of}
 use Rattle.listener_round.specs.Commands.{asked_by, asks_to_end}
 use Rattle.listener_round.specs.Pace.{AreSharesOf, Brought, IsShareOf, Share, answer_if, answers_in, lines_between, made_from, made_of, moment_behind, moment_by, progress_at}
-use Rattle.listener.specs.BetweenInside.{AreBegunBy}
 
 -- ## What is made of shares
 
@@ -44,6 +43,11 @@ pub record GoesFurther (t t' : FrontTold) : Type 0 where
   pub lines : t'.lines ≡ t.lines ++ come
   pub read : t'.read < greatest_count → t.read ≤ t'.read
   pub accepted : t'.accepted < greatest_count → t.accepted ≤ t'.accepted
+
+-- no wait began when more lines were read than so many
+abbrev pub AreBegunBy : ℕ → List WaitTold → Type 0
+AreBegunBy read [] = ⊤
+AreBegunBy read (wait ∷ waits) = (wait.began.read ≤ read) × AreBegunBy read waits
 
 pub begun-later : (read read' : ℕ) (waits : List WaitTold) → read ≤ read' → AreBegunBy read waits → AreBegunBy read' waits
 begun-later read read' [] more all = tt

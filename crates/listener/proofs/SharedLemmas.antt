@@ -10,15 +10,15 @@ use Rattle.mpm_base.specs.declared.front.Woke.{Woke}
 use Rattle.mpm_base.specs.declared.front.Woke.TheVariants as woke
 use Rattle.mpm_base.specs.declared.script_line.CommandWord.{CommandWord}
 use Rattle.listener_round.specs.Commands.{asked_by, asks_to_end}
-use Rattle.listener.specs.BetweenInside.{AreBegunBy, IsShared}
 use Rattle.listener.specs.ListenInside.{AsksFor}
 use Rattle.listener_round.specs.FrontInside.{OnlyReadsAndTakes}
 use Rattle.listener_round.specs.Pace.{AreSharesOf, AreSharesOfAll, Brought, IsShareOf, Share, answer_if, answers_in, lines_between, made_of, moment_by, moved, ordered, progress_at, signalled, taken, ticked, ticks_by}
 use Rattle.listener_round.specs.ShareInside.{HandsMany, HushesFor, ReadsFor}
 use Rattle.listener_round.specs.Times.{answers_of}
 use Rattle.board_book.specs.Moments.{known_slots, moment_for, ticks_to}
-use Rattle.listener.proofs.ShareLemmas.{GoesFurther, answers-more, begun-later, begun-more, progress-more, shares-more}
+use Rattle.listener.proofs.ShareLemmas.{AreBegunBy, GoesFurther, answers-more, begun-later, begun-more, progress-more, shares-more}
 use Rattle.listener_round.proofs.ShareLemmas.{first-both}
+use Rattle.listener.proofs.WholeLemmas.{IsShared}
 
 -- ## The answer of the clock
 

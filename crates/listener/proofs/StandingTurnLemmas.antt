@@ -9,7 +9,6 @@ use Rattle.board.specs.Board.{SeenBoard}
 use Rattle.worker_group.specs.Acts.{Acts}
 use Rattle.listener_round.specs.declared.edition.LoadedEdition.{LoadedEdition}
 use Rattle.listener_round.specs.declared.edition.NamedConfig.{NamedConfig}
-use Rattle.listener.specs.BetweenInside.{HasWaited}
 use Rattle.listener.specs.declared.listen.Pause.{Pause}
 use Rattle.rounds.specs.declared.ends.Rest.{Rest}
 use Rattle.board_book.specs.Timely.{AreTimely}
@@ -17,6 +16,7 @@ use Rattle.listener_round.specs.StandingInside.{StandsOn, StandsSo, standing}
 use Rattle.listener.specs.TurnsInside.{SeenListener, stands_at}
 use Rattle.listener_round.proofs.CommandlessLemmas.{AreCommandless, commandless-added}
 use Rattle.listener_round.proofs.StandingLemmas.{acts-stand, lines-waited, same-lines, stands-more, stands-past}
+use Rattle.listener.proofs.WaitLemmas.{HasWaited}
 
 -- how the run stands then, where it stood so
 abbrev pub StandsStep : Option KnownOutside → ℕ → ℕ → SeenListener → SeenListener → Type 0

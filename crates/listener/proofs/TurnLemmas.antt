@@ -1,7 +1,6 @@
 -- What holds of a listener between two turns, and how a turn keeps it.
 use Rattle.std.proofs.Common.{◌≡◌, ℕ, List, [], Option, None, Some, IfSome, ap, sym, subst, refl, true, false, max, ◌∙◌}
 use Rattle.mpm_base.specs.Front.{TellsOn}
-use Rattle.mpm_base.specs.Store.{StoreSeen}
 use Rattle.conn_machine.specs.declared.event.Event.{Event}
 use Rattle.conn_state.specs.Known.{KnownOutside}
 use Rattle.board_book.specs.declared.faults.BoardFault.{BoardFault}
@@ -12,10 +11,8 @@ use Rattle.worker_group.specs.Acts.{Acts, ActsInSteps}
 use Rattle.worker_group.specs.Service.{IsUp, LeavesRest}
 use Rattle.rounds.specs.declared.ends.End.{End}
 use Rattle.rounds.specs.declared.ends.End.TheVariants as end
-use Rattle.listener.specs.BetweenInside.{HasKept, HasWaited, IsBetween}
 use Rattle.listener.specs.declared.listen.Pause.{Pause}
 use Rattle.rounds.specs.declared.ends.Rest.{Rest}
-use Rattle.listener_round.specs.declared.edition.NamedConfig.{NamedConfig}
 use Rattle.listener_round.specs.FrontInside.{Follows, IsInStep, ListensAsServed, OnlyReadsAndTakes, StaysWatching}
 use Rattle.listener.specs.ListenInside.{contacts_of}
 use Rattle.listener_round.specs.OrdersInside.{KnowsComing, ServesNewest}
@@ -39,8 +36,20 @@ use Rattle.listener_round.proofs.FrontLemmas.{follows-same, follows-trans, step-
 use Rattle.rounds.proofs.PassLemmas.{serves-acts}
 use Rattle.rounds.proofs.ActLemmas.{none-has}
 use Rattle.rounds.proofs.TimelyLemmas.{still-in_time}
+use Rattle.listener.proofs.WaitLemmas.{HasWaited}
 
 -- ## What holds of it at any time
+
+-- what holds of a listener that began as the first, also where its turns were broken off
+pub record HasKept (first now : SeenListener) : Type 0 where
+  pub timely : StaysTimely first.board.book now.board.book
+  pub passes : now.board.book.passes ≡ first.board.book.passes
+  pub free : NoneHas now.board.book
+  pub up : IsUp now.board.book.state.going
+  pub follows : Follows first.front now.front
+  pub contacts : contacts_of now.front.told ≡ contacts_of first.front.told
+  pub time : InTime first → InTime now
+  pub config : now.config ≡ first.config
 
 -- it holds at first
 kept-first : (l : SeenListener) → NoneHas l.board.book → IsUp l.board.book.state.going → HasKept l l
@@ -79,6 +88,16 @@ kept-on steps first a b kept step = record {
   time = λ time. step.time (kept.time time);
   config = step.config ∙ kept.config;
 }
+
+-- ## Between two turns
+
+-- what holds of a listener between two turns
+pub record IsBetween (known : Option KnownOutside) (first now : SeenListener) : Type 0 where
+  pub kept : HasKept first now
+  pub in_time : StandsInTime now.board.book.state
+  pub step : IsInStep now.front.told now.board.book.state
+  pub knows : KnowsComing known now.board.book now.config now.store.told
+  pub serves : ServesNewest known now.board.book now.edition
 
 -- ## The start
 
@@ -149,22 +168,6 @@ module _ (rest : Rest) (pause : Pause) (a w : SeenListener) where
   waited-in_step waited step =
       subst (λ (b : SeenBook). IsInStep w.front.told b.state) (sym (waited-book waited))
       (step-wait _ _ _ _ a.front.told w.front.told a.board.book.state waited.waits.tells step)
-
-  -- what holds between two turns holds behind the wait
-  pub between-waited : ActsInSteps → (known : Option KnownOutside) (first : SeenListener) → HasWaited rest pause a w → IsBetween known first a
-      → IsBetween known first w
-  between-waited steps known first waited before = record {
-    kept = kept-waited steps first before.kept waited;
-    in_time = subst (λ (b : SeenBook). StandsInTime b.state) (sym (waited-book waited)) before.in_time;
-    step = waited-in_step waited before.step;
-    knows =
-        subst (λ (b : SeenBook). KnowsComing known b w.config w.store.told) (sym (waited-book waited))
-        (subst (λ (x : NamedConfig). KnowsComing known a.board.book x w.store.told) (sym waited.config)
-        (subst (λ (s : StoreSeen). KnowsComing known a.board.book a.config s.told) (sym waited.store) before.knows));
-    serves =
-        subst (λ (b : SeenBook). ServesNewest known b w.edition) (sym (waited-book waited))
-        (subst (ServesNewest known a.board.book) (sym waited.edition) before.serves);
-  }
 
 -- ## A round
 

@@ -7,7 +7,6 @@ use Rattle.board_book.specs.declared.faults.BoardFault.{BoardFault}
 use Rattle.worker_group.specs.Acts.{ActsInSteps}
 use Rattle.rounds.specs.declared.ends.End.{End}
 use Rattle.rounds.specs.PartsInside.{StartsSome}
-use Rattle.listener.specs.BetweenInside.{HasKept, HasPatience, IsOnPace, IsShared, IsWhole, KeepsWhole, WholeFrom}
 use Rattle.listener.specs.StartedFirst.{IsStartedFirst}
 use Rattle.listener_round.specs.declared.run_numbers.RunNumbers.{RunNumbers}
 use Rattle.listener_round.specs.FirstNumbers.{opened_by}
@@ -22,12 +21,13 @@ use Rattle.rounds.proofs.PassLemmas.{serves-acts}
 use Rattle.rounds.proofs.AddedLemmas.{added-events}
 use Rattle.listener_round.proofs.BroughtLemmas.{brought-others}
 use Rattle.listener_round.proofs.CommandlessLemmas.{AreCommandless, commandless-added, commandless-served}
+use Rattle.listener.proofs.PaceLemmas.{HasPatience}
 use Rattle.listener_round.proofs.StandingLemmas.{entries-acts, keeps-plain, so-broken}
 use Rattle.listener.proofs.StandingTurnLemmas.{StandsStep, stands-acted}
-use Rattle.listener.proofs.TurnLemmas.{HasServedRows}
+use Rattle.listener.proofs.TurnLemmas.{HasKept, HasServedRows}
 use Rattle.listener.proofs.WatchLemmas.{nobody-served}
 use Rattle.listener_round.proofs.WatchLemmas.{watched-as}
-use Rattle.listener.proofs.WholeLemmas.{begins-acts, begun-keeps, begun-pace, keeps-up, nothing_past, pace-kept, timely-begun, whole-acts}
+use Rattle.listener.proofs.WholeLemmas.{IsOnPace, IsShared, IsWhole, KeepsWhole, WholeFrom, begins-acts, begun-keeps, begun-pace, keeps-up, nothing_past, pace-kept, timely-begun, whole-acts}
 
 -- ## Where the turns end
 

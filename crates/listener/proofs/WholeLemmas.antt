@@ -24,7 +24,6 @@ use Rattle.rounds.proofs.TimelyLemmas.{all-both}
 use Rattle.listener_round.specs.Commands.{asks_to_end}
 use Rattle.listener_round.specs.FirstNumbers.{opened_by}
 use Rattle.listener_round.specs.FirstNumbersInside.{opened_book}
-use Rattle.listener.specs.BetweenInside.{AreBegunBy, IsOnPace, IsShared, IsWhole, KeepsWhole}
 use Rattle.listener.specs.FoldsInside.{ListensOn}
 use Rattle.listener_round.specs.Generations.{Opening}
 use Rattle.listener_round.specs.HeardInside.{HasHeardAll}
@@ -41,7 +40,46 @@ use Rattle.listener_round.specs.declared.run_numbers.RunNumbers.{RunNumbers}
 use Rattle.listener_round.proofs.BroughtLemmas.{brings-starts, brought-as, brought-behind}
 use Rattle.listener_round.proofs.CommandlessLemmas.{commandless-added, commandless-starts}
 use Rattle.listener.proofs.HeardAllLemmas.{all-first, all-later}
+use Rattle.listener.proofs.ShareLemmas.{AreBegunBy}
 use Rattle.listener_round.proofs.StandingLemmas.{entries-acts, keeps-plain, past-base}
+
+-- ## What holds on the way
+
+-- all but the pace of a run that stands so: where the front waited the children were started before all else; each link that the table took was watched; and in
+-- what was folded time passed patiently
+pub record KeepsWhole (known : Option KnownOutside) (o : Opening) (n : RunNumbers) (past : Past) (spare owed : ℕ) (l : SeenListener) : Type 0 where
+  pub stands : StandsSo known o n past spare owed (stands_at l)
+  pub rows : length l.board.book.base.rows ≡ n.slots
+  pub started : IfSome l.front.told (IsStartedFirst n (entries_behind past l.board.book))
+  pub watched : IfSome l.front.told (WatchesAll l.board.book.state (entries_behind past l.board.book))
+  pub patient : IfSome o.front.told HasNothingCome → IsPatientRun l.front.told l.calls (opened_by n) past.entries
+
+-- the shares are those of a front that goes on
+pub record IsShared (rows : ℕ) (shares : List Share) (t : FrontTold) : Type 0 where
+  pub are : AreSharesOfAll rows t shares
+  pub begun : AreBegunBy (length t.lines) t.waits
+  pub hushed : t.read < greatest_count → t.hushed ≡ list_any asks_to_end (take t.read t.lines)
+
+-- the pace of a run that opened so and stands so, all of whose entries these are; and all that was heard, since the listener was the one
+pub record IsOnPace (o : Opening) (n : RunNumbers) (from l : SeenListener) (entries : List Entry) : Type 0 where
+  pub shares : List Share
+  pub front : IfSome l.front.told (IsShared n.slots shares)
+  pub clock : IfSome l.calls (λ calls. answers_in shares ≡ answers_of calls)
+  pub first : ℕ
+  pub brought_is : brought entries ≡ replicate first moved ++ made_from 0 shares
+  pub moment : l.board.book.state.moment ≡ moment_behind 0 shares
+  pub heard : HasHeardAll o n entries first shares None l.front from.out from.written l.out l.written
+
+-- both, once the children were started, since the listener was the one
+pub record IsWhole (known : Option KnownOutside) (o : Opening) (n : RunNumbers) (from l : SeenListener) : Type 0 where
+  pub past : Past
+  pub keeps : KeepsWhole known o n past 0 0 l
+  pub begins : BeginsWithStarts (first_children n) (entries_behind past l.board.book)
+  pub pace : IsOnPace o n from l (entries_behind past l.board.book)
+
+-- it holds of each run that opened as the first one says
+abbrev pub WholeFrom : Option KnownOutside → SeenListener → SeenListener → Type 0
+WholeFrom known first now = (o : Opening) (n : RunNumbers) → IsOpenedBy first.config o → IsBegun known o n first → IsWhole known o n first now
 
 -- it was time for each of the entries that are kept
 pub timely-begun : (known : Option KnownOutside) (o : Opening) (n : RunNumbers) (first now : SeenListener) → IsBegun known o n first

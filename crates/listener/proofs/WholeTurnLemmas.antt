@@ -17,7 +17,6 @@ use Rattle.board_book.specs.Moments.{known_slots, moment_for}
 use Rattle.rounds.specs.PartsInside.{NoneHas}
 use Rattle.board_book.specs.Started.{BeginsWithStarts}
 use Rattle.board_book.specs.Timely.{AreTimely}
-use Rattle.listener.specs.BetweenInside.{HasKept, HasWaited, IsOnPace, IsShared, IsWhole, KeepsWhole, WholeFrom}
 use Rattle.listener.specs.StartedFirst.{first_children}
 use Rattle.listener.specs.declared.listen.Pause.{Pause}
 use Rattle.listener_round.specs.declared.run_numbers.RunNumbers.{RunNumbers}
@@ -41,10 +40,11 @@ use Rattle.listener.proofs.ShareLemmas.{made-more, moment-more}
 use Rattle.listener.proofs.SharedLemmas.{answer_for, answers-on, made-for, moment-for, share_for, shared-on, shares-on, ticks-for}
 use Rattle.listener_round.proofs.StandingLemmas.{entries-acts}
 use Rattle.listener.proofs.StandingTurnLemmas.{StandsStep, stands-then, stands-waited}
-use Rattle.listener.proofs.TurnLemmas.{DidSome, HasBrokenOff, HasGoneRound, HasTakenIn, hears_at}
+use Rattle.listener.proofs.TurnLemmas.{DidSome, HasBrokenOff, HasGoneRound, HasKept, HasTakenIn, hears_at}
+use Rattle.listener.proofs.WaitLemmas.{HasWaited}
 use Rattle.listener.proofs.WatchLemmas.{watched-wait}
 use Rattle.listener_round.proofs.WatchLemmas.{watched-both}
-use Rattle.listener.proofs.WholeLemmas.{begins-acts, timely-begun, whole-acts}
+use Rattle.listener.proofs.WholeLemmas.{IsOnPace, IsShared, IsWhole, KeepsWhole, WholeFrom, begins-acts, timely-begun, whole-acts}
 use Rattle.listener.proofs.WholeEndLemmas.{EndsFrom, EndsOnPace}
 
 -- ## What is brought

@@ -1,4 +1,3 @@
-pub mod BetweenInside
 pub mod Counted
 pub mod CountedInside
 pub mod FoldsInside

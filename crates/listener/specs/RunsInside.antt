@@ -1,7 +1,6 @@
 -- What the part that runs a server by its editions leaves.
 use Rattle.board.specs.Backed.{AllBacked}
-use Rattle.board.specs.Board.{AreOfOutside, EndedOfOutside, SeenBoard}
-use Rattle.conn_state.specs.Known.{KnownOutside}
+use Rattle.board.specs.Board.{SeenBoard}
 use Rattle.mpm_base.specs.Front.{FrontSeen}
 use Rattle.mpm_base.specs.Store.{StoreSeen}
 use Rattle.listener_round.specs.Commands.{GivesLines}
@@ -11,15 +10,9 @@ use Rattle.listener_round.specs.Generations.{Opening}
 use Rattle.listener_round.specs.Heard.{KeepsLines, open_lines}
 use Rattle.listener.specs.Outside.{KeepsOutside}
 use Rattle.listener.specs.Runs.{HasRun, ended_of_run, entries_of_run}
-use Rattle.listener.specs.Listen.{HasClosedAll, IsRunFrom}
-use Rattle.listener.specs.Served.{all_ended}
-use Rattle.listener.specs.Tells.{AllReceive}
-use Rattle.listener_round.specs.Folded.{HasFolded, all_entries, whole_book}
-use Rattle.listener_round.specs.FrontInside.{clients_known}
-use Rattle.listener_round.specs.Links.{EndsLinks}
-use Rattle.board_book.specs.ClosedDown.{IsClosedDown}
+use Rattle.listener_round.specs.Folded.{HasFolded, all_entries}
 use Rattle.listener_round.specs.Stores.{KeepsStore}
-use Rattle.std.specs.Prelude.{◌≡◌, ℕ, ◌++◌, List, Option, Some}
+use Rattle.std.specs.Prelude.{ℕ, ◌++◌, List, Option}
 use Rattle.listener_round.specs.declared.run_numbers.RunNumbers.{RunNumbers}
 
 -- what is left is of a run that opened so, over the front, the clock and the store that it left so: it kept to the front and the clock, the
@@ -44,18 +37,3 @@ open_lines_of {o} {b = b} run = open_lines (opened_by (numbers_of o.config)) (en
 -- of each connection that ended in a run by these numbers, folded before or not, the link backs its waits
 abbrev pub BacksWaits : RunNumbers → SeenBoard → Type 0
 BacksWaits n b = (before : HasFolded n b.book) → AllBacked (all_entries n b.book before) (before.ended ++ b.ended)
-
--- what a board shows of its run by these numbers, behind what was folded of it
-pub record ShowsRun (known : Option KnownOutside) (n : RunNumbers) (b : SeenBoard) : Type 0 where
-  pub run : (before : HasFolded n b.book) → IsRunFrom n b
-  pub closed : (before : HasFolded n b.book) → IsClosedDown b.book.state → HasClosedAll b
-  pub links :
-      (clients : List (List ℕ)) (before : HasFolded n b.book)
-      → EndedOfOutside known (whole_book n before.entries) before.ended
-      → clients_known known ≡ Some clients → IsClosedDown b.book.state → EndsLinks b.book.state (all_ended n b before)
-  pub receive :
-      (clients : List (List ℕ)) (before : HasFolded n b.book)
-      → EndedOfOutside known (whole_book n before.entries) before.ended
-      → clients_known known ≡ Some clients → AllReceive clients (all_ended n b before)
-  pub outside : AreOfOutside known b
-  pub backed : BacksWaits n b

@@ -4,11 +4,9 @@
 //! What a round does stands in the crate `listener_round`. What all turns did since the run opened goes on from where it stood
 //! (`specs/TurnsInside.antt`).
 //! Why it is so stands in docs/DECISIONS.md: 90, Front, clock and store stand beside the listener.
-ghost use Rattle.std.specs.Prelude.{◌≡◌, ◌<◌, None, true, length, is_some, IfOk, IfErr, IfSome, OnErr, OnOk};
+ghost use Rattle.std.specs.Prelude.{◌≡◌, ◌<◌, None, true, length, is_some, IfOk, IfErr, IfSome, OnOk};
 ghost use Rattle.mpm_base.specs.Count.{CountsWhere};
 ghost use Rattle.mpm_base.specs.Front.{Waits, after_hush, is_woken};
-ghost use Rattle.mpm_base.specs.Sink.{SinkSeen};
-ghost use Rattle.mpm_base.specs.Store.{StoreSeen};
 ghost use Rattle.board_book.specs.Finds.{next_deadline_of};
 ghost use Rattle.board_book.specs.Book.{row_in};
 ghost use Rattle.worker_group.specs.Service.{LeavesRest, RefusalLasts};
@@ -21,8 +19,7 @@ ghost use Rattle.rounds.specs.PartsInside.{ServesSome, StartsSome, StaysTimely};
 ghost use Rattle.conn_machine.specs.States.{is_staffed};
 ghost use Rattle.conn_machine.specs.declared.state.Going.TheVariants.{Serving};
 ghost use Rattle.board_book.specs.Started.{BeginsWithStarts};
-ghost use Rattle.listener.specs.TurnsInside.{AreOver, HasListened, MayListen, SeenListener, listener_of};
-ghost use Rattle.listener.specs.BetweenInside.{HasWaited, IsBeforeTurn, IsBehindTurn, ServesAndFolds, ServesRows, TurnClocks, TurnCounts, TurnsGoOn};
+ghost use Rattle.listener.specs.TurnsInside.{AreOver, HasListened, MayListen, listener_of};
 
 use crate::folding::fold_history;
 use board::BoardFault;
@@ -43,15 +40,6 @@ pub struct Pause {
     pub woke: Woke,
     /// What the clock says where the wait gave a moment, and else the present one.
     pub moment: Moment,
-}
-
-/// What a turn came to.
-#[derive(Clone, Copy)]
-pub enum Turn {
-    /// It was the last one: the turns ended for this.
-    Last(End),
-    /// Another one follows, whose wait is told this.
-    Next(Rest),
 }
 
 /// Starts the children, takes the connections that come, has them served, does what command lines ask for, and stops when nothing
@@ -116,7 +104,8 @@ fn hush<L: Link + Send, F: Front<L = L>, N: Known, B: Bell, G: Gate>(
 }
 
 /// Starts the children, and takes turns with the front until nothing more can come, a wait fails, a command line asks to stop, or a
-/// graceful stop ends. Err where the server has to stop before.
+/// graceful stop ends, each followed by the service of what is signalled, and by a fold of the history where it may be folded. Err where
+/// the server has to stop before.
 fn take_turns<
     R: Wait,
     D: Store,
@@ -153,85 +142,31 @@ fn take_turns<
     ensures asked { AsksOnce (F.seen front.old).counts.wakes (F.seen front.new).counts.wakes
         (C.asked clock.old) (C.asked clock.new) }
 {
-    turns_go_on();
-    let first = start(listener)?;
-    let mut rest = first;
-    for _ in rt.forever() {
-        let turn = take_turn(listener, rt, store, front, clock, out, rest)?;
-        match turn {
-            Turn::Last(end) => return Ok(end),
-            Turn::Next(next) => rest = next,
-        }
-    }
-    unreachable!()
-}
-
-/// The laws by which a turn keeps what holds between two of them.
-fn turns_go_on()
-    ensures { TurnsGoOn }
-{
     generations_keep_their_editions();
     histories_join();
     passes_act_in_steps();
-}
-
-/// Takes a turn with the front, whose wait is told this: waits, has a round done of what came, serves what is signalled, and folds the history
-/// where it may be folded. Err where the server has to stop before.
-fn take_turn<
-    R: Wait,
-    D: Store,
-    L: Link + Send,
-    F: Front<L = L>,
-    C: Clock,
-    N: Known,
-    B: Bell,
-    G: Gate,
-    K: Sink,
->(
-    listener: &mut Listener<'_, '_, L, N, B, G>,
-    rt: &R,
-    store: &mut D,
-    front: &mut F,
-    clock: &mut C,
-    out: &mut K,
-    rest: Rest,
-) -> Result<Turn, BoardFault>
-    requires named { IsKnownOfFront N.known (F.seen front.old).told }
-    requires passes { 1 < listener.old.board.book.passes }
-    requires before { (first : SeenListener) × IsBeforeTurn N.known first rest
-        (listener_of listener.old.board (F.seen front.old) (C.told clock.old) listener.old.ready
-        listener.old.edition (D.seen store.old) listener.old.config (K.seen out.old)
-        listener.old.written) }
-    ensures turn { let old = listener_of listener.old.board (F.seen front.old)
-        (C.told clock.old) listener.old.ready listener.old.edition (D.seen store.old) listener.old.config
-        (K.seen out.old) listener.old.written in
-        let new = listener_of listener.new.board (F.seen front.new)
-        (C.told clock.new) listener.new.ready listener.new.edition (D.seen store.new) listener.new.config
-        (K.seen out.new) listener.new.written in
-        (first : SeenListener) → IsBeforeTurn N.known first rest old
-        → IsBehindTurn N.known first result new }
-    ensures counts { TurnCounts result (F.seen front.old).counts (F.seen front.new).counts
-        listener.old.board.book listener.new.board.book }
-    ensures clock { TurnClocks result (C.greatest clock.old) (C.greatest clock.new)
-        listener.old.board.book.state listener.new.board.book.state }
-    ensures asked { AsksOnce (F.seen front.old).counts.wakes (F.seen front.new).counts.wakes
-        (C.asked clock.old) (C.asked clock.new) }
-{
-    turns_go_on();
-    let pause = wait_for_next(listener, rt, front, clock, rest);
-    match pause.woke {
-        Woke::Ended if !has_live(&listener.board) => return Ok(Turn::Last(End::Ended)),
-        Woke::Failed => return Ok(Turn::Last(End::Failed)),
-        _ => (),
-    }
-    let ended = listener.take_in(rt, store, front, out, pause.moment)?;
-    match ended {
-        Some(end) => Ok(Turn::Last(end)),
-        None => {
-            let next = serve_on(listener, rt)?;
-            Ok(Turn::Next(next))
+    let first = start(listener)?;
+    let mut rest = first;
+    for _ in rt.forever() {
+        listener.show();
+        let present = listener.moment();
+        let pause = take_pause(rt, front, clock, &mut listener.ready, rest, present);
+        match pause.woke {
+            Woke::Ended if !has_live(&listener.board) => return Ok(End::Ended),
+            Woke::Failed => return Ok(End::Failed),
+            _ => (),
         }
+        let ended = listener.take_in(rt, store, front, out, pause.moment)?;
+        match ended {
+            Some(end) => return Ok(end),
+            None => (),
+        }
+        listener.show();
+        rest = serve(listener, rt)?;
+        listener.show();
+        fold_history(&mut listener.board);
     }
+    unreachable!()
 }
 
 /// Starts the children, and finds what the first wait is told.
@@ -289,32 +224,6 @@ fn serve<R: Wait, L: Link + Send, N: Known, B: Bell, G: Gate>(
     Ok(rest)
 }
 
-/// Serves what is signalled, and folds the history behind that where it may be folded. What the next wait is told is found before both. Err
-/// where a call was refused, and then nothing is folded.
-fn serve_on<R: Wait, L: Link + Send, N: Known, B: Bell, G: Gate>(
-    listener: &mut Listener<'_, '_, L, N, B, G>,
-    rt: &R,
-) -> Result<Rest, BoardFault>
-    requires passes { 1 < listener.old.board.book.passes }
-    requires free { row_in 1 listener.old.board.book ≡ None }
-    requires in_time { NoneDueLate listener.old.board.book.state }
-    requires staffed { is_staffed listener.old.board.book.state ≡ true }
-    ensures served { OnOk result
-        (ServesAndFolds N.known listener.old.board listener.new.board) }
-    ensures until { IfOk result
-        (λ rest. rest.until ≡ next_deadline_of listener.old.board.book.state) }
-    ensures quiet { IfOk result (λ rest. IsRestful rest.quiet listener.old.board.book.state) }
-    ensures others { listener.new ≡ record listener.old { board = listener.new.board } }
-    ensures broken { OnErr result (ServesRows listener.old.board listener.new.board) }
-    ensures err { IfErr result (λ fault. RefusalLasts fault listener.new.board.book) }
-{
-    listener.show();
-    let rest = serve(listener, rt)?;
-    listener.show();
-    fold_history(&mut listener.board);
-    Ok(rest)
-}
-
 /// Answers the line that asked to stop, where the turns ended for one: the server has stopped then.
 fn answer_stop<F: Front>(front: &mut F, turns: Result<End, BoardFault>)
     ensures { AnswersStop turns (F.seen front.old) (F.seen front.new) }
@@ -322,28 +231,6 @@ fn answer_stop<F: Front>(front: &mut F, turns: Result<End, BoardFault>)
     if turns == Ok(End::Asked) {
         front.answer(stopping_answer().as_slice());
     }
-}
-
-/// Waits for the front as the listener stands, by what the wait is told. Nothing else is done.
-fn wait_for_next<R: Wait, L: Link + Send, F: Front<L = L>, C: Clock, N: Known, B: Bell, G: Gate>(
-    listener: &mut Listener<'_, '_, L, N, B, G>,
-    rt: &R,
-    front: &mut F,
-    clock: &mut C,
-    rest: Rest,
-) -> Pause
-    ensures waited { (store : StoreSeen) (out : SinkSeen) → HasWaited rest result
-        (listener_of listener.old.board (F.seen front.old) (C.told clock.old) listener.old.ready
-        listener.old.edition store listener.old.config out listener.old.written)
-        (listener_of listener.new.board (F.seen front.new) (C.told clock.new) listener.new.ready
-        listener.new.edition store listener.new.config out listener.new.written) }
-    ensures moves { MovesClock result.woke listener.old.board.book.state.moment
-        (C.greatest clock.old) (C.greatest clock.new) result.moment }
-    ensures asked { CountsWhere (is_woken result.woke) (C.asked clock.old) (C.asked clock.new) }
-{
-    listener.show();
-    let present = listener.moment();
-    take_pause(rt, front, clock, &mut listener.ready, rest, present)
 }
 
 /// Waits for the front, and asks the clock for the moment that the wait gave. Where it gave none it is the present one.

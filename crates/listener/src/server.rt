@@ -1,19 +1,25 @@
 //! The run of a server over a front and a clock, whichever they are, with what is written where it opens.
 //! Why it is so stands in docs/DECISIONS.md: 78, When warnings are written; 92, What comes before the sockets.
-ghost use Rattle.std.specs.Prelude.{◌≡◌, ◌++◌, [], Some, true, is_some, IfErr, IfOk, IfSome, OnErr, OnOk};
+ghost use Rattle.std.specs.Prelude.{◌≡◌, ◌++◌, ℕ, List, [], Some, is_some, IfErr, IfOk, IfSome, OnErr};
 ghost use Rattle.mpm_base.specs.Count.{NeverFalls};
-ghost use Rattle.mpm_base.specs.Front.{Binds};
 ghost use Rattle.listener.specs.Unused.{IsUnused};
+ghost use Rattle.board.specs.Board.{AreOfOutside, EndedOfOutside};
 ghost use Rattle.run_report.specs.EndingsInside.{WritesAll};
 ghost use Rattle.listener_round.specs.FirstNumbersInside.{AreNumbers, opened_book};
 ghost use Rattle.listener_round.specs.FirstNumbers as opening;
 ghost use Rattle.listener_round.specs.OrdersInside.{known_outside, opening_by};
 ghost use Rattle.listener_round.specs.Generations.{head_limits_of};
-ghost use Rattle.listener.specs.RunsInside.{HasRunBy, ShowsRun, open_lines_of};
+ghost use Rattle.listener.specs.RunsInside.{HasRunBy, open_lines_of, BacksWaits};
+ghost use Rattle.listener.specs.Served.{all_ended};
+ghost use Rattle.listener_round.specs.Folded.{whole_book, HasFolded};
 ghost use Rattle.listener.specs.Counted.{AsksOnce, KeepsClock};
-ghost use Rattle.listener_round.specs.FrontInside.{Follows};
+ghost use Rattle.listener_round.specs.Links.{EndsLinks};
+ghost use Rattle.listener.specs.Listen.{HasClosedAll, IsRunFrom};
+ghost use Rattle.board_book.specs.ClosedDown.{IsClosedDown};
+ghost use Rattle.listener_round.specs.FrontInside.{Follows, clients_known};
 ghost use Rattle.listener.specs.ListenInside.{IsUnopened};
 ghost use Rattle.board_book.specs.Timely.{AreTimely};
+ghost use Rattle.listener.specs.Tells.{AllReceive};
 
 use crate::folding::{folds_join, show_for_folds};
 use crate::listen::listen;
@@ -26,7 +32,7 @@ use conn_machine::laws::{accepted_connections_are_closed_or_live, events_keep_st
 use conn_machine::laws_of_runs::made_histories_are_runs;
 use conn_state::{Known, Nothing};
 use listener_round::{Listener, LoadedEdition, NamedConfig, RunNumbers, numbers_of};
-use mpm_base::{Bell, Clock, Front, Gate, Link, NoMemory, Ready, Sink, Store};
+use mpm_base::{Clock, Front, Gate, Link, NoMemory, Ready, Sink, Store};
 use run_report::write_all;
 use std::alloc::Global;
 use std::sync::Wait;
@@ -39,17 +45,6 @@ pub struct ServedRun<L: Link> {
     pub board: Board<L, Nothing>,
     /// Whether the text of the opening, and each line of it that tells the state, was written whole.
     pub written: bool,
-}
-
-/// What a run opens with, once its front is bound.
-#[derive(Drop)]
-pub struct Opened<L: Link, N: Known, B: Bell> {
-    /// The table of connections.
-    pub board: Board<L, N>,
-    /// The slots that a wait gives.
-    pub ready: Ready,
-    /// The bell that ends a wait.
-    pub bell: B,
 }
 
 /// Why a server did not open.
@@ -115,11 +110,18 @@ pub fn run_server<
     ensures silent { OnErr result (K.seen out.new ≡ K.seen out.old) }
 {
     let numbers = numbers_of(config.config);
-    let opened = match open::<L, F, N>(alloc, numbers, front) {
-        Ok(opened) => opened,
-        Err(fault) => return Err(fault),
+    let Ok(ready) = Ready::make(alloc) else {
+        return Err(OpenFault::NoMemory);
     };
-    let Opened { board, ready, bell } = opened;
+    let Ok(board) = open_board::<L, N>(alloc, numbers) else {
+        return Err(OpenFault::NoMemory);
+    };
+    let Ok(bell) = front.bell(alloc) else {
+        return Err(OpenFault::NoMemory);
+    };
+    if !front.bind(numbers.listen, numbers.control) {
+        return Err(OpenFault::Bind);
+    }
     board.show();
     folds_join();
     generations_keep_their_editions();
@@ -134,48 +136,6 @@ pub fn run_server<
         written,
     };
     listen(&mut listener, rt, store, front, clock, out);
-    Ok(left_of(listener, numbers))
-}
-
-/// Makes what a run opens with, and binds the front. The table is made last, as it is the largest.
-fn open<L: Link + Send, F: Front<L = L>, N: Known>(
-    alloc: Global,
-    numbers: RunNumbers,
-    front: &mut F,
-) -> Result<Opened<L, N, F::B>, OpenFault>
-    requires numbers { AreNumbers numbers }
-    ensures book { IfOk result (λ opened. opened.board.book ≡ opened_book numbers) }
-    ensures bound { OnOk result (Binds (F.seen front.old) (F.seen front.new)
-        numbers.listen numbers.control true) }
-    ensures unopened { IfErr result
-        (IsUnopened numbers (F.seen front.old) (F.seen front.new)) }
-{
-    let Ok(ready) = Ready::make(alloc) else {
-        return Err(OpenFault::NoMemory);
-    };
-    let Ok(bell) = front.bell(alloc) else {
-        return Err(OpenFault::NoMemory);
-    };
-    let Ok(board) = open_board::<L, N>(alloc, numbers) else {
-        return Err(OpenFault::NoMemory);
-    };
-    if !front.bind(numbers.listen, numbers.control) {
-        return Err(OpenFault::Bind);
-    }
-    Ok(Opened { board, ready, bell })
-}
-
-/// What is left of the run of the listener, and what its board shows of it.
-fn left_of<L: Link + Send, N: Known, B: Bell, G: Gate>(
-    listener: Listener<'_, '_, L, N, B, G>,
-    numbers: RunNumbers,
-) -> ServedRun<L>
-    requires passes { listener.board.book.passes ≡ numbers.passes }
-    requires timely { AreTimely listener.board.book.base listener.board.book.history }
-    ensures board { result.board ≡ listener.entry.board }
-    ensures written { result.written ≡ listener.entry.written }
-    ensures shows { ShowsRun N.known numbers listener.entry.board }
-{
     let Listener {
         alloc: _,
         board,
@@ -186,10 +146,10 @@ fn left_of<L: Link + Send, N: Known, B: Bell, G: Gate>(
         written,
     } = listener;
     show_run(&board, numbers);
-    ServedRun {
+    Ok(ServedRun {
         board: board.forget(),
         written,
-    }
+    })
 }
 
 /// A board by the numbers.
@@ -214,7 +174,21 @@ fn open_board<L: Link, N: Known>(
 fn show_run<L: Link, N: Known>(board: &Board<L, N>, numbers: RunNumbers)
     requires passes { board.now.book.passes ≡ numbers.passes }
     requires timely { AreTimely board.now.book.base board.now.book.history }
-    ensures { ShowsRun N.known numbers board.now }
+    ensures run { (before : HasFolded numbers board.now.book) → IsRunFrom numbers board.now }
+    ensures closed { (before : HasFolded numbers board.now.book)
+        → IsClosedDown board.now.book.state
+        → HasClosedAll board.now }
+    ensures links { (clients : List (List ℕ)) (before : HasFolded numbers board.now.book)
+        → EndedOfOutside N.known (whole_book numbers before.entries) before.ended
+        → clients_known N.known ≡ Some clients
+        → IsClosedDown board.now.book.state
+        → EndsLinks board.now.book.state (all_ended numbers board.now before) }
+    ensures receive { (clients : List (List ℕ)) (before : HasFolded numbers board.now.book)
+        → EndedOfOutside N.known (whole_book numbers before.entries) before.ended
+        → clients_known N.known ≡ Some clients
+        → AllReceive clients (all_ended numbers board.now before) }
+    ensures outside { AreOfOutside N.known board.now }
+    ensures backed { BacksWaits numbers board.now }
 {
     ended_connections_are_backed();
     events_keep_states_sound();

@@ -1,6 +1,6 @@
 -- What is left of a script that was played.
 use Rattle.listener.proofs.LeftLemmas.{stopped-ended, store-since}
-use Rattle.std.proofs.Common.{◌≡◌, ◌<◌, ◌++◌, inl, inr, ℕ, List, length, map, Option, None, Some, option_map, IfSome, IsSome, refl, sym, ap, subst, ◌∙◌, arith}
+use Rattle.std.proofs.Common.{◌≡◌, ◌<◌, ◌++◌, inl, inr, ℕ, List, length, map, Option, Some, IfSome, refl, sym, ap, subst, ◌∙◌, arith}
 use Rattle.std.proofs.lemmas.List.{length-map}
 use Rattle.mpm_script.specs.Clients.{clients_of, names_of, sent_by}
 use Rattle.mpm_base.specs.Front.{FrontTold, FrontSeen}
@@ -19,8 +19,7 @@ use Rattle.listener.specs.Stops.{HasEnded, HasGivenAll, StoppedFor}
 use Rattle.run_opening.specs.Configured.{warnings_of}
 use Rattle.run_report.specs.Endings.{EndsAs, MayEndWith}
 use Rattle.script_run.specs.Played.{HasEnd}
-use Rattle.script_run.specs.PlayedInside.{IsPlayedStatus, HasRunScript, scripted_of}
-use Rattle.script_run.specs.declared.scripted.Scripted.{Scripted}
+use Rattle.script_run.specs.PlayedInside.{IsPlayedStatus, HasRunScript}
 use Rattle.run_report.proofs.EndingLemmas.{may-end}
 use Rattle.mpm_base.specs.Store.{StoreCounts, StoreTold, telling_store}
 use Rattle.mpm_config.specs.Config.{Configuration}
@@ -80,36 +79,6 @@ patience-of : (comings : List ℕ) (t : FrontTold) (calls : List (ℕ × ℕ)) (
     → IsPatientRun (Some t) (Some calls) s history → ArePatient comings t.waits s history
 patience-of comings t calls s history is echoes patient =
     patient (record { front = t; tells = refl; comings = comings; patient = is; asked = calls; clock = refl; echoes = echoes })
-
--- ## What is left beside the board of a run
-
--- it was run so
-pub kept-scripted : (lines : List ScriptLine) (c : Configuration) (site : SeenSite) (first f : SeenFront) (calls : List (ℕ × ℕ)) (store : SeenStore)
-    (sink sink' : SinkSeen) (status status' : ℕ) (left : Option SeenBoard) (left' : Option Scripted) → first ≡ new_front lines → status' ≡ status
-    → left' ≡ option_map (λ b. scripted_of b f calls store c) left
-    → IfSome left (λ b. HasRunScript first.script c site b f calls store sink sink' status)
-    → IfSome left' (λ s. HasRunScript lines c site s.board s.front s.clock s.store sink sink' status')
-kept-scripted lines c site first f calls store sink sink' status status' None left' opened same is run =
-    subst (λ (o : Option Scripted). IfSome o (λ s. HasRunScript lines c site s.board s.front s.clock s.store sink sink' status')) (sym is) tt
-kept-scripted lines c site first f calls store sink sink' status status' (Some b) left' opened same is run =
-    subst (λ (o : Option Scripted). IfSome o (λ s. HasRunScript lines c site s.board s.front s.clock s.store sink sink' status')) (sym is)
-    (subst (λ (n : ℕ). HasRunScript lines c site b f calls store sink sink' n) (sym same)
-    (subst (λ (x : SeenFront). HasRunScript x.script c site b f calls store sink sink' status) opened run))
-
--- by the script
-pub script-scripted : (lines : List ScriptLine) (c : Configuration) (first f : SeenFront) (calls : List (ℕ × ℕ)) (store : SeenStore)
-    (left : Option SeenBoard) (left' : Option Scripted) → first ≡ new_front lines → left' ≡ option_map (λ b. scripted_of b f calls store c) left
-    → (IsSome left → f.script ≡ first.script) → IfSome left' (λ s. s.front.script ≡ lines)
-script-scripted lines c first f calls store None left' opened is script =
-    subst (λ (o : Option Scripted). IfSome o (λ s. s.front.script ≡ lines)) (sym is) tt
-script-scripted lines c first f calls store (Some b) left' opened is script =
-    subst (λ (o : Option Scripted). IfSome o (λ s. s.front.script ≡ lines)) (sym is) (script refl ∙ ap (λ (x : SeenFront). x.script) opened)
-
--- and by the configuration
-pub config-scripted : (c : Configuration) (f : SeenFront) (calls : List (ℕ × ℕ)) (store : SeenStore) (left : Option SeenBoard) (left' : Option Scripted)
-    → left' ≡ option_map (λ b. scripted_of b f calls store c) left → IfSome left' (λ s. s.config ≡ c)
-config-scripted c f calls store None left' is = subst (λ (o : Option Scripted). IfSome o (λ s. s.config ≡ c)) (sym is) tt
-config-scripted c f calls store (Some b) left' is = subst (λ (o : Option Scripted). IfSome o (λ s. s.config ≡ c)) (sym is) refl
 
 -- ## A run of the script
 

@@ -1,5 +1,5 @@
 -- Which script is played, and why one isn't.
-use Rattle.run_opening.proofs.FileLemmas.{too_large}
+use Rattle.run_opening.proofs.FileLemmas.{has_file, too_large}
 use Rattle.std.proofs.Common.{◌≡◌, inl, inr, ℕ, List, Option, None, Some, IfSome, IsSome, Result, Ok, Err, refl, sym, subst, ◌⊎◌, IsNone, arith}
 use Rattle.mpm_base.specs.Store.{ReadsBytes}
 use Rattle.mpm_base.specs.declared.store.StoreFault.{StoreFault}
@@ -9,7 +9,7 @@ use Rattle.mpm_script.specs.Load.{load_lines}
 use Rattle.mpm_script.specs.Script.{ScriptIs}
 use Rattle.mpm_script.specs.declared.script.ScriptFault.{ScriptFault}
 use Rattle.run_opening.specs.Calls.{Call, IsFileUnread}
-use Rattle.script_run.specs.Scripts.{PlaysLines, most_script, HasConfig, HasScript, HasScriptSite}
+use Rattle.script_run.specs.Scripts.{PlaysLines, most_script, HasConfig, HasScriptSite}
 use Rattle.script_run.specs.ScriptRefusals.{EndsMisconfigured, EndsRefused, EndsScriptSiteRefused}
 use Rattle.script_run.specs.Played.{HasPlayed}
 use Rattle.script_run.specs.PlayedInside.{HasRunScript, IsPlayed, EndsScript, IsPlayedStatus, IsScriptStatus, IsServedRun}
@@ -27,7 +27,6 @@ use Rattle.run_opening.specs.declared.config_reading.NoConfig.TheVariants as no
 use Rattle.file_table.specs.declared.load_fault.LoadFault.{LoadFault}
 use Rattle.file_table.specs.declared.load_fault.LoadFault.TheVariants as fault
 use Rattle.file_table.specs.Load.{MayLoad}
-use Rattle.file_table.specs.Site.{SeenSite}
 use Rattle.script_front.specs.Editions.{editions_of}
 use Rattle.restart_control.specs.Reload.{order_of}
 use Rattle.run_opening.specs.Refusals.{EndsSilently}
@@ -35,10 +34,16 @@ use Rattle.run_opening.specs.Refusals.{EndsSilently}
 -- ## The lines that are played
 
 -- those of a script that was read
-pub reads-script : (call : Call) (name bytes : List ℕ) (lines : List ScriptLine) → IsScriptWords call.words name → HasScript call name bytes
-    → ScriptIs bytes (Ok lines) → PlaysLines call lines
-reads-script call name bytes lines command has script =
-    inl (record { name = name; bytes = bytes; command = command; has = has; script = script })
+pub reads-script : (call : Call) (name bytes : List ℕ) (lines : List ScriptLine) (answer : Result (List ℕ) StoreFault) → IsScriptWords call.words name
+    → ReadsBytes call.store call.store' name most_script answer → answer ≡ Ok bytes → ScriptIs bytes (Ok lines) → PlaysLines call lines
+reads-script call name bytes lines answer command reads is script =
+    inl (record {
+      name = name;
+      bytes = bytes;
+      command = command;
+      has = has_file most_script call call.store' name bytes answer reads refl is;
+      script = script;
+    })
 
 -- those of a load
 pub makes-load : (call : Call) (count : ℕ) → IsLoadWords call.words count → call.store' ≡ call.store → PlaysLines call (load_lines count)
@@ -103,16 +108,17 @@ unsited call lines plays refusal = record {
 -- ## A script that is refused
 
 -- at a line
-pub at-line : (call : Call) (name bytes : List ℕ) (fault : ScriptFault) → IsScriptWords call.words name → HasScript call name bytes
-    → ScriptIs bytes (Err fault) → IsRefusalOf call.sink call.sink' fault call.shown → EndsRefused call
-at-line call name bytes fault command has script refusal =
+pub at-line : (call : Call) (name bytes : List ℕ) (fault : ScriptFault) (answer : Result (List ℕ) StoreFault) → IsScriptWords call.words name
+    → ReadsBytes call.store call.store' name most_script answer → answer ≡ Ok bytes → ScriptIs bytes (Err fault)
+    → IsRefusalOf call.sink call.sink' fault call.shown → EndsRefused call
+at-line call name bytes fault answer command reads is script refusal =
     inr (record {
       name = name;
       bytes = bytes;
       line = refusal.line;
       why = refusal.why;
       command = command;
-      has = has;
+      has = has_file most_script call call.store' name bytes answer reads refl is;
       refused = subst (λ (f : ScriptFault). ScriptIs bytes (Err f)) refusal.fault_is script;
       shows = refusal.shows;
       text = refusal.text;
@@ -163,14 +169,6 @@ is-played (Some s) lines c told sink sink' status has run = record {
   site_is = subst (λ (x : Configuration). HasScriptSite lines x run.site) (sym run.config) run.site_is;
   run = subst (λ (x : Configuration). HasRunScript lines x run.site s.board s.front s.clock s.store sink sink' status) (sym run.config) run.run;
 }
-
--- a script that was played by the configuration, and by the site that the script has by it
-pub served-run : (o : Option Scripted) (lines : List ScriptLine) (c : Configuration) (site : SeenSite) (sink sink' : SinkSeen) (status : ℕ)
-    → HasScriptSite lines c site → IfSome o (λ s. s.front.script ≡ lines) → IfSome o (λ s. s.config ≡ c)
-    → IfSome o (λ s. HasRunScript lines c site s.board s.front s.clock s.store sink sink' status) → IfSome o (λ s. IsServedRun lines c s sink sink' status)
-served-run None lines c site sink sink' status has script config run = tt
-served-run (Some s) lines c site sink sink' status has script config run =
-    record { script = script; config = config; site = site; site_is = has; run = run }
 
 -- why it is refused
 pub refuses-site : (sink sink' : SinkSeen) (lines : List ScriptLine) (c : Configuration) (shown : Option ℕ) (e : LoadFault)

@@ -4,16 +4,15 @@ use Rattle.conn_machine.specs.Events.{count_events}
 use Rattle.conn_machine.specs.declared.state.Going.TheVariants.{Halted}
 use Rattle.file_table.specs.Site.{SeenSite}
 use Rattle.mpm_base.specs.Sink.{SinkSeen}
-use Rattle.mpm_base.specs.Store.{ReadsBytes, telling_store}
+use Rattle.mpm_base.specs.Store.{telling_store}
 use Rattle.mpm_base.specs.declared.script_line.ScriptLine.{ScriptLine}
-use Rattle.mpm_base.specs.declared.store.StoreFault.{StoreFault}
 use Rattle.mpm_config.specs.Config.{Configuration}
 use Rattle.listener_round.specs.Commands.{is_graceful_stop}
 use Rattle.script_run.specs.Played.{opening_store, script_opening, HasPlayed, IsLeftOfRun}
 use Rattle.listener_round.specs.FirstNumbers.{numbers_of, opened_by}
 use Rattle.listener_round.specs.Heard.{open_lines}
 use Rattle.listener.specs.Runs.{HasRun, ended_of_run, entries_of_run}
-use Rattle.script_run.specs.Scripts.{HasConfig, HasScript, HasScriptSite, most_script}
+use Rattle.script_run.specs.Scripts.{HasConfig, HasScriptSite}
 use Rattle.listener_round.specs.Stores.{KeepsStore}
 use Rattle.listener.specs.Tells.{AllReceive}
 use Rattle.script_run.specs.declared.scripted.Scripted.{Scripted}
@@ -21,7 +20,7 @@ use Rattle.mpm_script.specs.Clients.{clients_of, names_of}
 use Rattle.run_opening.specs.Configured.{Configures, warnings_of}
 use Rattle.script_front.specs.ScriptFront.{SeenFront}
 use Rattle.stand_ins.specs.PlainStore.{SeenStore}
-use Rattle.std.specs.Prelude.{◌≡◌, ℕ, ◌⊎◌, List, ◌++◌, length, IfSome, IsSome, IsNone, Option, Err}
+use Rattle.std.specs.Prelude.{◌≡◌, ℕ, ◌⊎◌, List, ◌++◌, length, IfSome, IsSome, IsNone, Option}
 use Rattle.conn_machine.specs.declared.event.Why.TheVariants as why
 use Rattle.run_opening.specs.Calls.{Call, IsFileUnread}
 use Rattle.run_opening.specs.Refusals.{EndsSilently}
@@ -60,10 +59,6 @@ pub record HasRunScript (lines : List ScriptLine) (c : Configuration) (site : Se
       (warnings_of c ++ open_lines (opened_by (numbers_of c)) (entries_of_run (script_opening lines c site) b has_run) left.lines.heard)
       b status
 
--- what is left of the run of a script, of its parts
-abbrev pub scripted_of : SeenBoard → SeenFront → List (ℕ × ℕ) → SeenStore → Configuration → Scripted
-scripted_of board front clock store config = record { board = board; front = front; clock = clock; store = store; config = config }
-
 -- what is left is of a run of the script by this configuration, and by the site that the script has by it
 pub record IsServedRun (lines : List ScriptLine) (c : Configuration) (s : Scripted) (sink sink' : SinkSeen) (status : ℕ) : Type 0 where
   pub script : s.front.script ≡ lines
@@ -92,12 +87,3 @@ pub record EndsScript (call : Call) (status : ℕ) (left : Option Scripted) : Ty
   pub refused : status ≡ 8 → EndsRefused call
   pub site_refused : status ≡ 9 → EndsScriptSiteRefused call
   pub silent : status ≡ 6 → IsNone left → EndsSilently call.sink call.sink' call.shown
-
--- so it ends of this text, where that is the script of that name, which the words have played
-abbrev pub EndsText : Call → List ℕ → List ℕ → ℕ → Option Scripted → Type 0
-EndsText call name text status left = IsScriptWords call.words name → HasScript call name text → EndsScript call status left
-
--- so it ends where the script of that name, which the words have played, isn't read for the fault
-abbrev pub EndsUnread : Call → List ℕ → StoreFault → ℕ → Option Scripted → Type 0
-EndsUnread call name fault status left =
-    IsScriptWords call.words name → ReadsBytes call.store call.store' name most_script (Err fault) → EndsScript call status left

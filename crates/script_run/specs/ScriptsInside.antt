@@ -1,17 +1,11 @@
 -- What the parts answer that read a script's configuration and load its site.
-use Rattle.file_table.specs.Load.{IsWithinLimits, MayLoad, is_store_fault}
-use Rattle.file_table.specs.Site.{IsSiteOf, SeenSite}
 use Rattle.file_table.specs.declared.load_fault.LoadFault.{LoadFault}
-use Rattle.listener_round.specs.Generations.{head_limits_of}
-use Rattle.listener_round.specs.declared.edition.LoadedEdition.{LoadedEdition}
 use Rattle.mpm_base.specs.Sink.{SinkSeen}
 use Rattle.mpm_base.specs.declared.script_line.ScriptLine.{ScriptLine}
-use Rattle.mpm_base.specs.declared.store.File.{File}
 use Rattle.mpm_config.specs.Config.{Configuration}
 use Rattle.script_run.specs.ScriptRefusals.{fault_at}
 use Rattle.script_run.specs.Scripts.{HasConfig, IsSiteRefused}
 use Rattle.mpm_script.specs.declared.script.ScriptFault.{ScriptFault}
-use Rattle.restart_control.specs.Reload.{order_of}
 use Rattle.run_opening.specs.Configured.{Configures, IsNoConfig, warnings_of}
 use Rattle.run_opening.specs.RefusalsInside.{RefusesRun}
 use Rattle.run_opening.specs.declared.config_reading.NoConfig.{NoConfig}
@@ -19,7 +13,7 @@ use Rattle.run_report.specs.Texts.{config_refused, script_refused, site_refused}
 use Rattle.run_report.specs.Written.{WritesText}
 use Rattle.run_report.specs.declared.texts.ConfigRefusal.{ConfigRefusal}
 use Rattle.run_report.specs.declared.texts.ScriptRefusal.{ScriptRefusal}
-use Rattle.std.specs.Prelude.{◌≡◌, ℕ, List, Option, Some, Result, Ok, Err, ⊤, None, false}
+use Rattle.std.specs.Prelude.{◌≡◌, ℕ, List, Option, Some, Result, Ok, Err, ⊤, None}
 use Rattle.file_table.specs.declared.load_fault.LoadFault.TheVariants as fault
 use Rattle.run_opening.specs.declared.config_reading.NoConfig.TheVariants as no
 
@@ -73,24 +67,6 @@ pub record IsConfigRefusalOf (sink sink' : SinkSeen) (lines : List ScriptLine) (
   pub bad : HasBadConfig lines why number
   pub shows : shown ≡ Some number
   pub text : WritesText sink sink' (config_refused number why)
-
--- the edition has the site, and goes by the configuration
-pub record IsEditionAt (site : SeenSite) (c : Configuration) (e : LoadedEdition) : Type 0 where
-  pub site_is : e.site.value ≡ site
-  pub limits : e.limits ≡ head_limits_of c
-  pub timeout : e.stop_ms ≡ c.current.stop_ms
-
--- the edition is that of the files by the configuration
-pub record IsEditionOf (files : List File) (c : Configuration) (e : LoadedEdition) : Type 0 where
-  pub site : IsSiteOf (order_of c) files e.site.value
-  pub within : IsWithinLimits e.site.value
-  pub limits : e.limits ≡ head_limits_of c
-  pub timeout : e.stop_ms ≡ c.current.stop_ms
-
--- the files make none by the configuration, or memory lacks for it
-pub record HasNoEdition (files : List File) (c : Configuration) (e : LoadFault) : Type 0 where
-  pub may : MayLoad (order_of c) files (Err e)
-  pub unfailed : is_store_fault e ≡ false
 
 -- a run is refused for the fault, as there is no site by the configuration
 abbrev pub RefusesLoad : SinkSeen → SinkSeen → Configuration → LoadFault → Option ℕ → Type 0

@@ -5,10 +5,8 @@
 //! `Played.antt`, and why one isn't played in `ScriptRefusals.antt`.
 #![tactic(auto)]
 
-mod opening;
 mod playing;
 mod scripted;
-mod serving;
 
 pub use playing::{run_load, run_script};
 pub use scripted::Scripted;

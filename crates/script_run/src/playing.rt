@@ -1,32 +1,39 @@
 //! The run of a script: `--script FILE`, and `--load N`.
-ghost use Rattle.std.specs.Prelude.{◌≡◌, ◌≤◌, ◌⊎◌, ℕ, List, false, None, IfSome, IsSome, IsNone};
+ghost use Rattle.std.specs.Prelude.{◌≡◌, ◌≤◌, ◌⊎◌, ℕ, List, false, None, Ok, Err, IfSome, IsSome, IsNone, MatchResult};
 ghost use Rattle.command_words.specs.Invocations.{IsLoadWords, IsScriptWords};
 ghost use Rattle.file_table.specs.Load.{is_store_fault};
 ghost use Rattle.mpm_base.specs.Store.{StoreSeen};
-ghost use Rattle.script_run.specs.PlayedInside.{EndsScript, EndsText, EndsUnread, IsPlayed, IsPlayedStatus, IsServedRun};
+ghost use Rattle.listener_round.specs.Generations.{head_limits_of};
+ghost use Rattle.script_run.specs.PlayedInside.{EndsScript, HasRunScript, IsPlayed, IsPlayedStatus, IsServedRun};
 ghost use Rattle.script_run.specs.ScriptRefusals.{fault_at};
-ghost use Rattle.script_run.specs.ScriptsInside.{IsConfigRefusalOf, IsOfText, IsRefusalOf, IsSiteRefusalOf, RefusesConfig, RefusesLoad, RefusesSite};
+ghost use Rattle.script_run.specs.ScriptsInside.{IsConfigRefusalOf, IsOfText, IsRefusalOf, IsScriptConfig, IsSiteRefusalOf, RefusesConfig, RefusesLoad, RefusesSite};
 ghost use Rattle.mpm_script.specs.FileNames.{HaveTextNames};
 ghost use Rattle.run_opening.specs.Calls.{seen_call};
 ghost use Rattle.run_opening.specs.Configured.{warnings_of};
 ghost use Rattle.run_opening.specs.Refusals.{EndsSilently};
-ghost use Rattle.script_front.specs.Editions.{editions_of};
+ghost use Rattle.run_report.specs.Endings.{EndsAs};
+ghost use Rattle.script_front.specs.Editions.{editions_of, store_of};
 
-use crate::opening::{load_edition, script_config};
 use crate::scripted::Scripted;
-use crate::serving::serve_script;
 use file_table::LoadFault;
-use mpm_base::{Gate, NoMemory, Octets, Sink, Store, StoreFault};
+use listener::{OpenFault, ServedRun, run_server};
+use listener_round::{LoadedEdition, NamedConfig, head_limits_of};
+use mpm_base::{Content, Gate, NoMemory, Octets, Sink, Store, StoreFault};
 use mpm_config::Config;
 use mpm_script::{Script, ScriptFault, load_script, read_script};
+use restart_control::{MOST_CONFIG, load_site};
 use run_opening::{
-    Ending, NoConfig, no_memory, refuse_config, refuse_script, refuse_site, refuse_unread,
+    Ending, NoConfig, config_from, no_memory, refuse_config, refuse_script, refuse_site,
+    refuse_unread,
 };
-use run_report::ScriptRefusal;
-use script_front::script_store;
-use stand_ins::PlainStore;
+use run_report::{ScriptRefusal, report_run};
+use script_front::{
+    CONF_NAME, ScriptClock, ScriptFront, editions_have_a_configuration, script_store,
+};
+use stand_ins::{PlainStore, ScriptLink};
 use std::alloc::Global;
-use std::sync::Wait;
+use std::marker::Brand;
+use std::sync::{Arc, Wait};
 
 /// The most bytes that a script may have.
 const MOST_SCRIPT: u64 = 67_108_864;
@@ -46,46 +53,16 @@ pub fn run_script<R: Wait, D: Store, G: Gate, K: Sink>(
         (K.seen out.old) (K.seen out.new) result.shown)
         result.status result.left }
 {
-    match store.read_bytes(alloc, name, MOST_SCRIPT) {
-        Ok(text) => play_text(rt, alloc, &text, gate, out),
-        Err(fault) => refuse_file(alloc, name, fault, out),
-    }
-}
-
-/// Plays the script of that text.
-fn play_text<R: Wait, G: Gate, K: Sink>(
-    rt: &R,
-    alloc: Global,
-    text: &Octets,
-    gate: &G,
-    out: &mut K,
-) -> Ending<Scripted>
-    ensures { (words : List (List ℕ)) (name : List ℕ) (store store' : StoreSeen) → EndsText
-        (seen_call words store store' (K.seen out.old) (K.seen out.new) result.shown)
-        name text.now result.status result.left }
-{
-    match read_script(alloc, text.as_slice()) {
+    let bytes = match store.read_bytes(alloc, name, MOST_SCRIPT) {
+        Ok(bytes) => bytes,
+        Err(StoreFault::Missing) => return refuse_unread(alloc, name.as_bytes(), Some(0), out),
+        Err(StoreFault::Failed) => return refuse_unread(alloc, name.as_bytes(), None, out),
+        Err(StoreFault::Large(_)) => return refuse_script(alloc, ScriptRefusal::BadLine, 0, out),
+        Err(StoreFault::Many | StoreFault::NoMemory) => return no_memory(),
+    };
+    match read_script(alloc, bytes.as_slice()) {
         Ok(script) => play_script(rt, alloc, script, gate, out),
         Err(fault) => refuse_for(alloc, fault, out),
-    }
-}
-
-/// The end of a run whose script can't be read for the fault.
-fn refuse_file<K: Sink>(
-    alloc: Global,
-    name: &str,
-    fault: StoreFault,
-    out: &mut K,
-) -> Ending<Scripted>
-    ensures { (words : List (List ℕ)) (store store' : StoreSeen) → EndsUnread
-        (seen_call words store store' (K.seen out.old) (K.seen out.new) result.shown)
-        name.now fault result.status result.left }
-{
-    match fault {
-        StoreFault::Missing => refuse_unread(alloc, name.as_bytes(), Some(0), out),
-        StoreFault::Failed => refuse_unread(alloc, name.as_bytes(), None, out),
-        StoreFault::Large(_) => refuse_script(alloc, ScriptRefusal::BadLine, 0, out),
-        StoreFault::Many | StoreFault::NoMemory => no_memory(),
     }
 }
 
@@ -190,10 +167,21 @@ fn play_site<R: Wait, G: Gate, K: Sink>(
         EndsSilently (K.seen out.old) (K.seen out.new) result.shown }
 {
     let mut store = store;
-    match load_edition(alloc, &mut store, &config) {
-        Ok(edition) => serve_script(rt, alloc, script, store, config, edition, told, gate, out),
-        Err(fault) => refuse_unloaded(alloc, fault, &config, out),
-    }
+    let answer = load_site(alloc, &mut store, &config);
+    store.faults();
+    let site = match answer {
+        Ok(site) => site,
+        Err(fault) => return refuse_unloaded(alloc, fault, &config, out),
+    };
+    let Ok(site) = Arc::new(alloc, site) else {
+        return no_memory();
+    };
+    let edition = LoadedEdition {
+        limits: head_limits_of(&config),
+        site,
+        stop_ms: config.now.stop_ms,
+    };
+    serve_script(rt, alloc, script, store, config, edition, told, gate, out)
 }
 
 /// The end of a run of a script whose site is refused for the fault, or for which memory lacked.
@@ -233,5 +221,106 @@ fn refuse_unconfigured<K: Sink>(alloc: Global, why: NoConfig, out: &mut K) -> En
         NoConfig::Refused(why, number) => refuse_config(alloc, why, number, out),
         NoConfig::NoMemory => no_memory(),
         NoConfig::Missing | NoConfig::Failed => unreachable!(),
+    }
+}
+
+/// The configuration of the script in its store, of which no call was made, and what is told of its corrections.
+fn script_config(
+    alloc: Global,
+    script: &Script,
+    store: &mut PlainStore,
+) -> Result<(Config, Octets), NoConfig>
+    requires { store.old ≡ store_of script.now }
+    ensures store { store.new.told ≡ editions_of script.now }
+    ensures config { IsScriptConfig script.now result }
+{
+    editions_have_a_configuration();
+    let answer = store.read(alloc, CONF_NAME, MOST_CONFIG);
+    config_from(alloc, bytes_alone(answer))
+}
+
+/// The bytes of what was read.
+fn bytes_alone(answer: Result<Content, StoreFault>) -> Result<Octets, StoreFault>
+    ensures { MatchResult answer
+        (λ content. result ≡ Ok content.bytes)
+        (λ fault. result ≡ Err fault) }
+{
+    match answer {
+        Ok(content) => {
+            let Content { bytes, second: _ } = content;
+            Ok(bytes)
+        }
+        Err(fault) => Err(fault),
+    }
+}
+
+/// Plays the script by the configuration and the edition, over its store, which has its editions, and writes the warnings and the report.
+fn serve_script<R: Wait, G: Gate, K: Sink>(
+    rt: &R,
+    alloc: Global,
+    script: Script,
+    store: PlainStore,
+    config: Config,
+    edition: LoadedEdition,
+    told: &Octets,
+    gate: &G,
+    out: &mut K,
+) -> Ending<Scripted>
+    requires told { told.now ≡ warnings_of config }
+    requires store { store.told ≡ editions_of script }
+    requires faults { store.counts.faults ≡ 0 }
+    requires limits { edition.limits ≡ head_limits_of config }
+    requires timeout { edition.stop_ms ≡ config.current.stop_ms }
+    ensures kept { IfSome result.left (λ s.
+        HasRunScript script config edition.site.value s.board s.front s.clock s.store
+        (K.seen out.old) (K.seen out.new) result.status) }
+    ensures script { IfSome result.left (λ s. s.front.script ≡ script) }
+    ensures config { IfSome result.left (λ s. s.config ≡ config) }
+    ensures opened { (result.status ≡ 0) ⊎ (result.status ≡ 5) → IsSome result.left }
+    ensures shown { result.shown ≡ None }
+    ensures known { IsPlayedStatus result.status }
+    ensures silent { IsNone result.left →
+        EndsSilently (K.seen out.old) (K.seen out.new) result.shown }
+{
+    let mut store = store;
+    let Ok(mut front) = ScriptFront::make(alloc, script) else {
+        return no_memory();
+    };
+    let mut clock = ScriptClock::make();
+    let answer = run_server::<R, PlainStore, ScriptLink, ScriptFront, ScriptClock, G, K, Brand>(
+        rt,
+        alloc,
+        NamedConfig {
+            name: CONF_NAME,
+            config: &config,
+        },
+        edition,
+        &mut store,
+        &mut front,
+        &mut clock,
+        gate,
+        out,
+        told.as_slice(),
+    );
+    front.show();
+    clock.show();
+    match answer {
+        Ok(served) => {
+            let ServedRun { board, written } = served;
+            let status = report_run(alloc, &board, written, out);
+            Ending {
+                status,
+                shown: None,
+                left: Some(Scripted {
+                    board,
+                    front,
+                    clock,
+                    store,
+                    config,
+                }),
+            }
+        }
+        Err(OpenFault::NoMemory) => no_memory(),
+        Err(OpenFault::Bind) => unreachable!(),
     }
 }

@@ -1,8 +1,8 @@
-use Rattle.listener.specs.BetweenInside.{IsBeforeTurn}
 use Rattle.listener.specs.Counted.{AsksOnce}
 use Rattle.listener.specs.CountedInside.{ClocksAt}
 use Rattle.listener_round.specs.CountedInside.{CountsOn}
 use Rattle.listener.specs.TurnsInside.{listener_of}
+use Rattle.listener.proofs.OverLemmas.{IsBeforeTurn}
 use Rattle.listener.proofs.listen.take_turns.Given as goal
 
 -- between two turns the server goes on, no pass has a connection, and all that the waits and the clock gave was done; no command line
