@@ -4,6 +4,7 @@ ghost use Rattle.recycle_perch.specs.Looking.{AllAreOf, AreOf};
 ghost use Rattle.recycle_perch.specs.Resting.{IsFreeCarrier};
 ghost use Rattle.board_turns.specs.Turns.{IsListener};
 ghost use Rattle.turn_tests.specs.Passes.{HasCredit, IsFresh};
+ghost use Rattle.turn_tests.specs.Props.{listens_props};
 
 use crate::opening::{CARRIERS, TestBoard, last_of};
 use board_lock::{Carrier, Pass, Room, Shared, number};
@@ -27,7 +28,7 @@ pub struct Zero<M: Room> {
     pub pass: Pass<TestBoard>,
     pub of: PhantomData<M>,
     ghost own: { pass.seat.table_id ≡ M.table },
-    ghost listens: { IsListener pass.seat.me },
+    ghost listens: { IsListener pass.seat.me } by { Prim.hlevel listens_props },
     ghost none: { pass.seat.me.0.row ≡ None },
     ghost credit: { HasCredit 0 pass.seat.me.0.credits },
 }

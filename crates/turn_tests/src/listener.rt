@@ -4,6 +4,7 @@ ghost use Rattle.crossbeam_queue.specs.Passes.{IsPassOf};
 ghost use Rattle.recycle_perch.specs.Looking.{AreOf};
 ghost use Rattle.board_turns.specs.Turns.{IsListener};
 ghost use Rattle.turn_tests.specs.Passes.{HasCredit};
+ghost use Rattle.turn_tests.specs.Props.{listens_props};
 
 use crate::clients::Client;
 use crate::links::TestLink;
@@ -56,7 +57,7 @@ pub struct Front<'a, M: Room> {
     pub tally: &'a Arc<Tally>,
     pub alloc: Global,
     ghost own: { pass.seat.table_id ≡ M.table },
-    ghost listens: { IsListener pass.seat.me },
+    ghost listens: { IsListener pass.seat.me } by { Prim.hlevel listens_props },
     ghost credited: { HasCredit credit pass.seat.me.0.credits },
 }
 
