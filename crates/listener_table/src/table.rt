@@ -88,5 +88,6 @@ impl<'a, M: Room, L: Link, N: Known, B: Bell, G: Gate> Table<'a, M, L, N, B, G> 
         ensures row { row_in 0 (book_of self.now) ≡ None }
     {
         table_rests_on_these();
+        let _ = &self.moment;
     }
 }
