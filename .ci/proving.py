@@ -8,7 +8,8 @@ and builds what isn't of the sources in its room anew: so whatever was kept, the
 
 How many processors a proof may use is said where it begins. A crate of few functions gains nothing by more than one: each further one begins
 with all that was read. So the crate on which most of what is left waits, one behind the other, gets as many as its lines are worth and those
-beside it leave, and at least two of them; each of these gets one."""
+beside it leave, and at least two of them; each of these gets one. They stand back behind it by their priority, the more the less waits for
+them: so the longest chain goes on as if it were alone, and the others take what it leaves."""
 
 import contextlib
 import fcntl
@@ -30,6 +31,8 @@ MOST_JOBS = 4
 LINES_OF_JOB = 500
 # What each further job of a proof takes of memory.
 FURTHER_JOB = 7e8
+# By how much a proof stands back (`nice`) for which nothing waits, beside the one for which most does.
+FURTHEST_BACK = 12
 
 
 @functools.lru_cache(maxsize=None)
@@ -104,7 +107,7 @@ def crates_to_oneself(top, crates):
 class Room:
     """A crate that is being proved, in a room of its own."""
 
-    def __init__(self, rooms, crate, jobs):
+    def __init__(self, rooms, crate, jobs, back):
         self.crate, self.jobs, self.top = crate, jobs, rooms.top
         self.place = f"{rooms.place}/{crate}"
         self.folder = f"{self.place}/crates/{crate}"
@@ -118,7 +121,7 @@ class Room:
         words = ["run", "--jobs", str(jobs), "--", *rooms.words] if is_program else ["lib", "--jobs", str(jobs)]
         with open(f"{self.place}/said", "wb") as said:
             streams = {"stdin": subprocess.DEVNULL, "stdout": said, "stderr": subprocess.STDOUT}
-            self.running = subprocess.Popen(["rt", *words], cwd=self.folder, **streams)
+            self.running = subprocess.Popen(["nice", "-n", str(back), "rt", *words], cwd=self.folder, **streams)
 
     def said(self):
         return f"== {self.crate}, with {self.jobs} jobs\n" + text_of(f"{self.place}/said").replace(self.place, self.top)
@@ -205,7 +208,11 @@ class Lanes:
             while jobs > 1 and self.taken(crate, jobs) > spare:
                 jobs -= 1
             self.left.remove(crate)
-            self.running[crate] = Room(self.rooms, crate, jobs)
+            self.running[crate] = Room(self.rooms, crate, jobs, self.back(crate, undone))
+
+    def back(self, crate, undone):
+        """How far a crate stands back beside those that are left, by how much shorter the chain is that waits for it."""
+        return round(FURTHEST_BACK * (1 - self.ways[crate] / max(self.ways[it] for it in undone)))
 
     def useful(self, crate):
         """How many processors a crate gains of."""

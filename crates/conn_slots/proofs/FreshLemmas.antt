@@ -21,6 +21,10 @@ before_push [] y i h = absurd (omega arith)
 before_push (x ∷ xs) y zero h = refl
 before_push (x ∷ xs) y (suc i) h = before_push xs y i (omega arith)
 
+-- where there is room for n and not all are there, there is room for one more
+pub room_left : (len slot n room : ℕ) → len ≡ slot → slot < n → n ≤ room → len < room
+room_left len slot n room count less fits = omega arith
+
 module _ (T : Type 0) where
   -- the entry of a slot of n
   abbrev pub fresh_entry : ℕ → ℕ → Entry T

@@ -4,4 +4,3 @@ pub mod OrderLemmas
 pub mod PathLemmas
 pub mod ResourceLemmas
 pub mod RootLemmas
-pub mod TagLemmas

@@ -5,8 +5,8 @@
 //! `Resource.antt`): it searches the names of the files that the host has by halves (`specs/Order.antt`), and takes memory only
 //! where the path is no plain one or names a folder without its slash. `count_before` is that search, of anything that has a
 //! name. `hosts`, `bytes`, `content_type`, `entity_tag` (`specs/Tag.antt`) and `last_change` hand out what the site holds. Tags, and the places of
-//! types in the table of `media_types`, are found once a file, and `load_again` takes the tags of an old site over. That each host has
-//! the files under its own root stands in `laws` (`specs/HostFiles.antt`).
+//! types in the table of `media_types`, are found once a file, and with `load_again` a file takes over the bytes of an old site and their
+//! tag where it has the same. That each host has the files under its own root stands in `laws` (`specs/HostFiles.antt`).
 #![tactic(auto)]
 
 mod found;
@@ -16,11 +16,13 @@ mod load_fault;
 mod loading;
 mod marks;
 mod part;
+mod past;
 mod path;
 mod reading;
 mod resource;
 mod search;
 mod site;
+mod site_file;
 mod site_order;
 mod tag;
 
@@ -32,4 +34,5 @@ pub use part::Part;
 pub use resource::find;
 pub use search::{Named, count_before};
 pub use site::{Host, Site, bytes, content_type, entity_tag, hosts, last_change};
+pub use site_file::SiteFile;
 pub use site_order::{HostOrder, HostOrders, SiteOrder};

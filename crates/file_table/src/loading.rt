@@ -11,11 +11,13 @@ ghost use Rattle.file_table.specs.SiteInside.{IsPartOf};
 use crate::found_once::found_once;
 use crate::load_fault::LoadFault;
 use crate::part::Part;
+use crate::past::Past;
 use crate::reading::read_root;
 use crate::site::{Host, Site};
+use crate::site_file::SiteFile;
 use crate::site_order::{HostOrders, SiteOrder};
 use media_types::TypeTable;
-use mpm_base::{File, Names, NoMemory, Octets, Store};
+use mpm_base::{Names, NoMemory, Octets, Store};
 use name_hosts::{HostList, HostNames};
 use std::alloc::Global;
 
@@ -48,9 +50,10 @@ fn add_root<D: Store>(
     alloc: Global,
     store: &mut D,
     root: &[u8],
-    files: &mut Vec<File>,
+    files: &mut Vec<SiteFile>,
     parts: &mut Vec<Part>,
     before: u64,
+    past: &mut Past<'_>,
 ) -> Result<u64, LoadFault>
     requires text { IsUtf8 root.now }
     requires few { length files.old.items ≤ most_files }
@@ -61,7 +64,8 @@ fn add_root<D: Store>(
     ensures refused { IfSome (D.seen store.old).told (λ t.
         IfErr result (MayNotReadRoot root.now t.files (length files.old.items) before)) }
 {
-    let (mut more, sum) = match read_root(alloc, store, root, files.len(), before) {
+    past.turn_to(root);
+    let (mut more, sum) = match read_root(alloc, store, root, files.len(), before, past) {
         Ok(read) => read,
         Err(fault) => return Err(fault),
     };
@@ -80,7 +84,8 @@ fn read_roots<D: Store>(
     alloc: Global,
     store: &mut D,
     roots: &[&[u8]],
-) -> Result<(Vec<File>, Vec<Part>), LoadFault>
+    past: &mut Past<'_>,
+) -> Result<(Vec<SiteFile>, Vec<Part>), LoadFault>
     requires { All (λ root. IsUtf8 root.now) roots.now }
     ensures store { LeavesStore (D.seen store.old) (D.seen store.new) result }
     ensures read { IfOk result (λ read. HasReadRoots (D.seen store.old).told
@@ -92,7 +97,7 @@ fn read_roots<D: Store>(
     let mut parts = Vec::new(alloc);
     let mut sum = 0;
     for root in roots {
-        sum = match add_root(alloc, store, root, &mut files, &mut parts, sum) {
+        sum = match add_root(alloc, store, root, &mut files, &mut parts, sum, past) {
             Ok(sum) => sum,
             Err(fault) => return Err(fault),
         };
@@ -165,8 +170,7 @@ fn site_of(
     order: &SiteOrder,
     roots: &[&[u8]],
     parts: &[Part],
-    files: Vec<File>,
-    old: Option<&Site>,
+    files: Vec<SiteFile>,
 ) -> Result<Site, NoMemory>
     requires some { 0 < length order.now.hosts }
     requires most { length order.now.hosts < 2 ^ 32 }
@@ -184,7 +188,7 @@ fn site_of(
     let names = names_of(alloc, &order.hosts)?;
     let hosts = hosts_of(alloc, &order.hosts, roots, parts)?;
     let types = TypeTable::of(alloc, &order.types)?;
-    let found = found_once(alloc, order.marks, &types, &files, &hosts, old)?;
+    let found = found_once(alloc, order.marks, &types, &files)?;
     Ok(Site::of(names, hosts, order.status, order.marks, types, files, found))
 }
 
@@ -204,11 +208,12 @@ fn load_by<D: Store>(
         Ok(roots) => roots,
         Err(NoMemory) => return Err(LoadFault::NoMemory),
     };
-    let (files, parts) = match read_roots(alloc, store, roots.as_slice()) {
+    let mut past = Past::of(old, &order.hosts, order.marks.tags);
+    let (files, parts) = match read_roots(alloc, store, roots.as_slice(), &mut past) {
         Ok(read) => read,
         Err(fault) => return Err(fault),
     };
-    match site_of(alloc, order, roots.as_slice(), parts.as_slice(), files, old) {
+    match site_of(alloc, order, roots.as_slice(), parts.as_slice(), files) {
         Ok(site) => Ok(site),
         Err(NoMemory) => Err(LoadFault::NoMemory),
     }
@@ -228,7 +233,7 @@ pub fn load<D: Store>(alloc: Global, store: &mut D, order: &SiteOrder) -> Result
     load_by(alloc, store, order, None)
 }
 
-/// The same, where a server has an old site. What is as it was there needn't be found again: no clause sees the difference.
+/// The same, where a server has an old site. A file that has the bytes of before takes them over, and their tag: no clause sees the difference.
 pub fn load_again<D: Store>(
     alloc: Global,
     store: &mut D,

@@ -9,8 +9,10 @@ ghost use Rattle.file_table.specs.LoadInside.{AreCounted, IsReadBehind, MayListF
 ghost use Rattle.file_table.specs.Site.{AreUnder, file_within, is_too_large, most_bytes_together, most_files, name_within, no_content};
 
 use crate::load_fault::LoadFault;
+use crate::past::Past;
 use crate::search::begins_with;
-use mpm_base::{Content, File, Names, NoMemory, Octets, Second, Store, StoreFault};
+use crate::site_file::SiteFile;
+use mpm_base::{Content, Names, NoMemory, Octets, Second, Store, StoreFault};
 use std::alloc::Global;
 
 /// The most files that a site has.
@@ -136,7 +138,8 @@ fn read_next<D: Store>(
     root: &[u8],
     name: &[u8],
     before: u64,
-) -> Result<File, LoadFault>
+    past: &mut Past<'_>,
+) -> Result<SiteFile, LoadFault>
     requires utf8 { IsUtf8 name.now }
     requires under { lies_under root.now name.now ≡ true }
     requires bounded { before ≤ most_bytes_together }
@@ -149,11 +152,10 @@ fn read_next<D: Store>(
     let most = MOST_BYTES.min(MOST_BYTES_TOGETHER - before);
     let Content { bytes, second } = read_content(alloc, store, name, most)?;
     let name = Octets::of(alloc, &name[root.len() + 1..])?;
-    Ok(File {
-        name,
-        bytes,
-        second,
-    })
+    match past.file_of(alloc, name, bytes, second) {
+        Ok(file) => Ok(file),
+        Err(NoMemory) => Err(LoadFault::NoMemory),
+    }
 }
 
 /// The files of these names, where those before them have so many bytes; and how many all have then.
@@ -163,7 +165,8 @@ fn read_files<D: Store>(
     root: &[u8],
     names: &[&[u8]],
     before: u64,
-) -> Result<(Vec<File>, u64), LoadFault>
+    past: &mut Past<'_>,
+) -> Result<(Vec<SiteFile>, u64), LoadFault>
     requires utf8 { All (λ name. IsUtf8 name.now) names.now }
     requires under { All (λ name. lies_under root.now name.now ≡ true) names.now }
     requires bounded { before ≤ most_bytes_together }
@@ -179,11 +182,11 @@ fn read_files<D: Store>(
     let mut files = Vec::new(alloc);
     let mut sum = before;
     for name in names {
-        let file = match read_next(alloc, store, root, name, sum) {
+        let file = match read_next(alloc, store, root, name, sum, past) {
             Ok(file) => file,
             Err(fault) => return Err(fault),
         };
-        sum += file.bytes.len() as u64;
+        sum += file.bytes().len() as u64;
         if files.push(file).is_err() {
             return Err(LoadFault::NoMemory);
         }
@@ -199,7 +202,8 @@ fn read_listed<D: Store>(
     root: &[u8],
     names: &Names,
     before: u64,
-) -> Result<(Vec<File>, u64), LoadFault>
+    past: &mut Past<'_>,
+) -> Result<(Vec<SiteFile>, u64), LoadFault>
     requires utf8 { All IsUtf8 names.now }
     requires bounded { before ≤ most_bytes_together }
     ensures store { LeavesStore (D.seen store.old) (D.seen store.new) result }
@@ -212,7 +216,7 @@ fn read_listed<D: Store>(
         (MayNotReadRoot root.now t.files count before)) }
 {
     let sorted = sorted_names(alloc, names, root)?;
-    match read_files(alloc, store, root, sorted.as_slice(), before) {
+    match read_files(alloc, store, root, sorted.as_slice(), before, past) {
         Ok(read) => Ok(read),
         Err(fault) => Err(fault),
     }
@@ -226,7 +230,8 @@ pub fn read_root<D: Store>(
     root: &[u8],
     count: usize,
     before: u64,
-) -> Result<(Vec<File>, u64), LoadFault>
+    past: &mut Past<'_>,
+) -> Result<(Vec<SiteFile>, u64), LoadFault>
     requires text { IsUtf8 root.now }
     requires few { count ≤ most_files }
     requires bounded { before ≤ most_bytes_together }
@@ -240,5 +245,5 @@ pub fn read_root<D: Store>(
         Ok(names) => names,
         Err(fault) => return Err(fault),
     };
-    read_listed(alloc, store, root, &names, before)
+    read_listed(alloc, store, root, &names, before, past)
 }

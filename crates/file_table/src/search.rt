@@ -7,7 +7,8 @@ ghost use Rattle.std.specs.Ordering.{nat_cmp};
 ghost use Rattle.file_table.specs.Order.{IsInOrder, name_goes_before};
 ghost use Rattle.file_table.specs.Resource.{has_files_under, place_of_file};
 
-use mpm_base::{File, is_made_of};
+use crate::site_file::SiteFile;
+use mpm_base::is_made_of;
 use std::cmp::Ordering;
 
 /// What has a name.
@@ -19,11 +20,11 @@ pub trait Named {
         ensures { result.now ≡ name_of self.now };
 }
 
-impl Named for File {
+impl Named for SiteFile {
     ghost name_of = { λ file. file.name };
 
     fn name(&self) -> &[u8] {
-        self.name.as_slice()
+        SiteFile::name(self)
     }
 }
 
@@ -56,12 +57,12 @@ pub fn count_before<T: Named>(items: &[T], front: &[u8], back: &[u8]) -> usize
 }
 
 /// The place of the first file whose name is made of the two parts.
-pub fn place_of_file(files: &[File], front: &[u8], back: &[u8]) -> Option<usize>
+pub fn place_of_file(files: &[SiteFile], front: &[u8], back: &[u8]) -> Option<usize>
     requires { IsInOrder files.now }
     ensures { result ≡ place_of_file (front.now ++ back.now) files.now }
 {
     let place = count_before(files, front, back);
-    if place < files.len() && is_made_of(files[place].name.as_slice(), front, back) {
+    if place < files.len() && is_made_of(files[place].name(), front, back) {
         Some(place)
     } else {
         None
@@ -76,10 +77,10 @@ pub fn begins_with(name: &[u8], front: &[u8], back: &[u8]) -> bool
 }
 
 /// Whether some file lies under the name.
-pub fn has_files_under(files: &[File], name: &[u8]) -> bool
+pub fn has_files_under(files: &[SiteFile], name: &[u8]) -> bool
     requires { IsInOrder files.now }
     ensures { result ≡ has_files_under name.now files.now }
 {
     let place = count_before(files, name, b"/");
-    place < files.len() && begins_with(files[place].name.as_slice(), name, b"/")
+    place < files.len() && begins_with(files[place].name(), name, b"/")
 }

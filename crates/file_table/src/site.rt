@@ -10,8 +10,9 @@ ghost use Rattle.mpm_base.specs.Moment.{IsSecond};
 use crate::found_once::{FoundOnce, Tags};
 use crate::marks::Marks;
 use crate::part::Part;
+use crate::site_file::SiteFile;
 use media_types::TypeTable;
-use mpm_base::{File, NoMemory, Octets};
+use mpm_base::{NoMemory, Octets};
 use name_hosts::HostList;
 use std::alloc::Global;
 use std::marker::Model;
@@ -80,7 +81,7 @@ pub struct Site {
     status: bool,
     marks: Marks,
     types: TypeTable,
-    files: Vec<File>,
+    files: Vec<SiteFile>,
     tags: Tags,
     places: Vec<usize>,
 }
@@ -112,7 +113,7 @@ impl Site {
         status: bool,
         marks: Marks,
         types: TypeTable,
-        files: Vec<File>,
+        files: Vec<SiteFile>,
         found: FoundOnce,
     ) -> Site
         requires hosts { AreHosts names hosts.items files.items }
@@ -186,7 +187,7 @@ impl Site {
     }
 
     /// The files, those of one root behind those of another, in the order of their names there.
-    pub fn files(&self) -> &[File]
+    pub fn files(&self) -> &[SiteFile]
         ensures files { result.now ≡ self.now.files }
         ensures few { length self.now.files ≤ most_files }
     {
@@ -213,7 +214,7 @@ impl Site {
     }
 
     /// The files that the host has, in the order of their names.
-    pub(crate) fn files_of(&self, host: u32) -> &[File]
+    pub(crate) fn files_of(&self, host: u32) -> &[SiteFile]
         requires { host < length self.now.hosts }
         ensures files { result.now ≡ (folder_at self.now host).files }
         ensures in_order { IsInOrder (folder_at self.now host).files }
@@ -241,7 +242,7 @@ pub fn bytes(site: &Site, file: u32) -> &[u8]
     requires { file < length site.now.files }
     ensures { option_map (λ f. f.bytes) (slice_get site.now.files file) ≡ Some result.now }
 {
-    site.files()[file as usize].bytes.as_slice()
+    site.files()[file as usize].bytes()
 }
 
 /// The content type of a file of the site (RFC 9110, section 8.3). Takes no memory, and compares nothing.
@@ -268,5 +269,5 @@ pub fn last_change(site: &Site, file: u32) -> u64
     ensures second { option_map (λ f. f.second) (slice_get site.now.files file) ≡ Some result }
     ensures bound { IsSecond result }
 {
-    site.files()[file as usize].second.number()
+    site.files()[file as usize].second()
 }

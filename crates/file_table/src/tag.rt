@@ -1,4 +1,5 @@
 //! Entity tags.
+//! Why it is so stands in docs/DECISIONS.md: 142, What tags cost a start.
 ghost use Rattle.std.specs.Prelude.{◌≡◌, IfOk, take};
 ghost use Rattle.hex.specs.Hex.{encode_lower};
 ghost use Rattle.sha2.specs.Sha256.{sha256};

@@ -89,7 +89,13 @@ fn by_fd_queue<R: Wait + Threads + Sync>(
     alloc: Global,
     workload: Workload,
 ) -> Result<u64, NoMemory> {
-    let counts = work_all(rt, alloc, PLACES, workload.threads, Work::Rounds(workload.rounds))?;
+    let counts = work_all(
+        rt,
+        alloc,
+        PLACES,
+        workload.threads,
+        Work::Rounds(workload.rounds),
+    )?;
     Ok(total_of(&counts))
 }
 

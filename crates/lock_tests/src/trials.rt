@@ -70,7 +70,10 @@ pub fn show_trial<R: Threads + Wait + Clock + Sync>(
     alloc: Global,
     plan: Plan,
 ) -> Result<(), NoMemory> {
-    let Plan { trial, passes: count } = plan;
+    let Plan {
+        trial,
+        passes: count,
+    } = plan;
     let (shared, mut passes) = opened(alloc, count)?;
     let all = players(alloc, &shared, &mut passes, count)?;
     try_with(sheet, rt, trial, all)

@@ -1,6 +1,7 @@
 //! A carrier that tries for a permit.
 ghost use Rattle.std.specs.Prelude.{◌≡◌, true, false, Some, None};
-ghost use Rattle.board_lock.specs.Passes.{IsFree};
+ghost use Rattle.board_lock.specs.Passes.{HasNoTurn};
+ghost use Rattle.table_rule.specs.Views.{empty_hand};
 
 use board_lock::{Carrier, Shared};
 use idle_workers::{release, reserve};
@@ -13,9 +14,10 @@ pub struct Trier<'a> {
     carrier: Carrier<Box<Toy>>,
     has_permit: bool,
     ghost own: { carrier.seat.table_id ≡ shared.now.table.shared.table_id },
-    ghost free: { has_permit ≡ false → IsFree carrier.seat.me },
-    ghost permit: { has_permit ≡ true → carrier.seat.me.0.hand.permit ≡ Some 0 },
-    ghost row: { has_permit ≡ true → carrier.seat.me.0.row ≡ None },
+    ghost no_turn: { HasNoTurn carrier.seat.me },
+    ghost row: { carrier.seat.me.0.row ≡ None },
+    ghost free: { has_permit ≡ false → carrier.seat.me.0.hand ≡ empty_hand },
+    ghost permit: { has_permit ≡ true → carrier.seat.me.0.hand ≡ record empty_hand { permit = Some 0 } },
 }
 
 impl<'a> Trier<'a> {
@@ -31,11 +33,11 @@ impl<'a> Trier<'a> {
 
     /// Reserves a worker, where it has none: whether it got a permit.
     pub fn reserve(&mut self) -> bool {
-        if self.has_permit {
+        if self.has_permit || !reserve(self.shared, &mut self.carrier, 0) {
             return false;
         }
-        self.has_permit = reserve(self.shared, &mut self.carrier, 0);
-        self.has_permit
+        self.has_permit = true;
+        true
     }
 
     /// Gives its permit back, where it has one.

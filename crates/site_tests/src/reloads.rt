@@ -82,7 +82,7 @@ fn show_plan(sheet: &mut Sheet, plan: &Plan) {
     );
     for file in plan.site.files() {
         sheet.print(" ");
-        sheet.text(file.name.as_slice());
+        sheet.text(file.name());
     }
     sheet.print("\n");
 }

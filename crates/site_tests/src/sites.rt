@@ -158,7 +158,7 @@ fn show_restarted(
 fn show_files(sheet: &mut Sheet, site: &Site) {
     for (place, file) in site.files().iter().enumerate() {
         if place < site.files().len() {
-            sheet.text(file.name.as_slice());
+            sheet.text(file.name());
             sheet.print(" =>");
             show_file(sheet, site, place as u32);
         }

@@ -84,7 +84,7 @@ first_of_none slots = record { least = λ i p at among. absurd (omega arith); pa
 
 -- ## The least deadline
 
-kind_few : (k : Kind) → ring_number k < 5
+pub kind_few : (k : Kind) → ring_number k < 5
 kind_few Reading = omega arith
 kind_few KeepAlive = omega arith
 kind_few Writing = omega arith

@@ -1,12 +1,12 @@
 -- What the kept slots stand for, read one by one.
-use Rattle.std.proofs.Common.{◌≡◌, ℕ, ◌+◌, ◌≤◌, Bool, true, false, nat_eq, List, [], ◌∷◌, length, map, replicate, zero, suc, get_or, slice_get, Option, Some, None, refl, ap, ◌∙◌, arith}
+use Rattle.std.proofs.Common.{◌≡◌, ℕ, ◌+◌, ◌<◌, ◌≤◌, Bool, true, false, nat_eq, List, [], ◌∷◌, length, map, replicate, zero, suc, get_or, slice_get, Option, Some, None, refl, sym, ap, ◌∙◌, arith}
 use Rattle.std.specs.Bool.{OnTrue}
 use Rattle.std.specs.Option.{option_map_or}
 use Rattle.std.proofs.Math.ListN.{get_or-map}
 use Rattle.std.proofs.lemmas.Bool.{eq-eqb, eqb-true}
 use Rattle.std.proofs.lemmas.List.{length-map}
-use Rattle.std.proofs.lemmas.Option.{slice_get_past}
-use Rattle.timeout_queues.specs.Waiting.{ParkedName, nothing_parked, deadline_of}
+use Rattle.std.proofs.lemmas.Option.{none-some, same_Some, slice_get-map, slice_get_past, slice_get_read}
+use Rattle.timeout_queues.specs.Waiting.{ParkedName, IsFree, nothing_parked, deadline_of}
 use Rattle.timeout_queues.specs.Entries.{parked_in}
 use Rattle.timeout_queues.specs.RingsInside.{by_kind, due_at, ring_at, ring_number, ring_of}
 use Rattle.timeout_queues.specs.declared.Entry.{Entry}
@@ -55,3 +55,32 @@ map-replicate (suc n) = ap (λ (ps : List (Option ParkedName)). None ∷ ps) (ma
 
 pub seen_empty : (n m : ℕ) (kept : List (Option Entry)) → kept ≡ replicate m None → m ≡ n → map parked_in kept ≡ nothing_parked n
 seen_empty n m kept h e = rw (h, e) (map-replicate n)
+
+-- ## What a look at a slot finds
+
+-- what is read of a list that equals the kept slots stands for what is parked there
+slot_read : (kept xs : List (Option Entry)) (i : ℕ) (o : Option Entry) → xs ≡ kept → i < length xs → o ≡ get_or xs i o →
+    slice_get (map parked_in kept) i ≡ Some (parked_in o)
+slot_read kept xs i o same within read =
+    let at = slice_get_read xs (length xs) i o refl within read in
+    ap (λ (ys : List (Option Entry)). slice_get (map parked_in ys) i) (sym same) ∙ slice_get-map parked_in xs i ∙ rw at refl
+
+-- a slot in which nothing is kept is free
+pub free_here : (kept xs : List (Option Entry)) (i : ℕ) (o : Option Entry) → xs ≡ kept → i < length xs → o ≡ get_or xs i o → o ≡ None →
+    IsFree (map parked_in kept) i
+free_here kept xs i o same within read none = slot_read kept xs i o same within read ∙ rw none refl
+
+-- nothing is kept in a free slot
+pub free_none : (kept xs : List (Option Entry)) (i : ℕ) (o : Option Entry) → xs ≡ kept → i < length xs → o ≡ get_or xs i o →
+    IsFree (map parked_in kept) i → o ≡ None
+free_none kept xs i o same within read free =
+    none o (same_Some (parked_in o) None (sym (slot_read kept xs i o same within read) ∙ free))
+  where
+    none : (o : Option Entry) → parked_in o ≡ None → o ≡ None
+    none None e = refl
+    none (Some k) e = absurd (cc)
+
+-- and no slot past the last is free
+pub past_not_free : (kept xs : List (Option Entry)) (i : ℕ) → xs ≡ kept → length xs ≤ i → IsFree (map parked_in kept) i → ⊥
+past_not_free kept xs i same past free =
+    none-some None (sym (ap (λ (ys : List (Option Entry)). slice_get (map parked_in ys) i) (sym same) ∙ slice_get-map parked_in xs i ∙ rw (slice_get_past xs i past) refl) ∙ free)

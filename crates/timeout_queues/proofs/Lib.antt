@@ -7,3 +7,4 @@ pub mod PlaceLemmas
 pub mod RingLemmas
 pub mod SlotLemmas
 pub mod WalkLemmas
+pub mod WithinLemmas

@@ -3,7 +3,7 @@
 --
 -- A slot has at most one parked name, so the map is a list by slot: of each slot what is parked in
 -- it, or None.
-use Rattle.std.specs.Prelude.{◌≡◌, ◌≢◌, ℕ, ◌≤◌, nat_le, min, ◌==◌, if◌then◌else◌, List, [], ◌∷◌, Option, Some, None, IsSomeAnd, slice_get, slice_set, slice_index_or, map, filter, filter_map, option_map, option_and_then, replicate}
+use Rattle.std.specs.Prelude.{◌≡◌, ◌≢◌, ℕ, ◌≤◌, nat_le, min, ◌==◌, if◌then◌else◌, List, Option, Some, None, IsSomeAnd, slice_get, slice_set, slice_index_or, map, filter, filter_map, option_map, option_and_then, replicate}
 use Rattle.std.specs.List.{reduce}
 use Rattle.mpm_base.specs.declared.conn.ConnName.{ConnName}
 use Rattle.mpm_base.specs.declared.conn.Kind.{Kind}

@@ -1,10 +1,12 @@
 use Rattle.std.proofs.Common.{ℕ, Option, arith, refl, subst}
+use Rattle.std.proofs.lemmas.Bool.{false≢true}
 use Rattle.std.proofs.lemmas.List.{map-set}
 use Rattle.conn_slots.specs.TableInside.{IsTable}
 use Rattle.conn_slots.proofs.LawLemmas.{next_never_live}
+use Rattle.conn_slots.proofs.LiveLemmas.{head_within, head_counts}
 use Rattle.conn_slots.proofs.MapLemmas.{put_updates}
 use Rattle.conn_slots.proofs.EntryLemmas.{name_at, next_at}
-use Rattle.conn_slots.proofs.VacantLemmas.{head_read, table_fill}
+use Rattle.conn_slots.proofs.VacantLemmas.{head_read, table_fill, no_head, some_head}
 use Rattle.conn_slots.proofs.Slots.put.Goals as goal
 
 pub index_mut-requires : goal.index_mut-requires
@@ -48,3 +50,27 @@ returns-clause-never_before g c = next_never_live _ _ (returns-clause-next g c)
 
 pub returns-clause-updates : goal.returns-clause-updates
 returns-clause-updates g c = rw (returns-clause-stored g c) (put_updates _ _ _ (returns-clause-next g c))
+
+pub returns-in_default-clause-full : goal.returns-in_default-clause-full
+returns-in_default-clause-full g c =
+    let es = c.self.inside.entries.items in
+    let table = subst (λ (h : Option ℕ). IsTable es h c.self.inside.free) c.in_default.is c.self.invariant in
+    (λ _. rw (← c.self.view_is) (no_head {T = g.row.T.Denot} es c.self.inside.free table), λ _. refl)
+
+pub index-requires : goal.index-requires
+index-requires g c =
+    let es = c.self.inside.entries.items in
+    let table = subst (λ (h : Option ℕ). IsTable es h c.self.inside.free) c.in-Some.is c.self.invariant in
+    rw c.self.inside.entries.ok.0 (head_within {T = g.row.T.Denot} es c.in-Some.slot c.self.inside.free table)
+
+pub overflow_sub-self : goal.overflow_sub-self
+overflow_sub-self g c =
+    let es = c.self.inside.entries.items in
+    let table = subst (λ (h : Option ℕ). IsTable es h c.self.inside.free) c.in-Some.is c.self.invariant in
+    head_counts {T = g.row.T.Denot} es c.in-Some.slot c.self.inside.free table
+
+pub returns-clause-full : goal.returns-clause-full
+returns-clause-full g c =
+    let es = c.self.inside.entries.items in
+    let table = subst (λ (h : Option ℕ). IsTable es h c.self.inside.free) c.in-Some.is c.self.invariant in
+    (λ full. absurd (false≢true full), λ none. absurd (some_head {T = g.row.T.Denot} es c.in-Some.slot c.self.inside.free table (rw (← c.self.view_is) at none)))

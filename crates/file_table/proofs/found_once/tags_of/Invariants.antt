@@ -3,5 +3,5 @@ use Rattle.std.proofs.Common.{◌≡◌, take}
 use Rattle.file_table.specs.SiteInside.{tags_of}
 use Rattle.file_table.proofs.found_once.tags_of.Given as goal
 
-abbrev pub invariant-loop-place : goal.invariant-loop-place
-invariant-loop-place l = l.tags ≡ tags_of (take l.place l.files)
+abbrev pub invariant-loop-file : goal.invariant-loop-file
+invariant-loop-file l = l.tags ≡ tags_of (take l.file-index l.files)

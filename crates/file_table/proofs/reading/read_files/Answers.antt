@@ -19,7 +19,7 @@ loop-name-preserved g c =
         refusals = omega (arith, c.in-Ok.ensures.store.refusals, c.loop-name.invariant.store.refusals);
       };
       read =
-          rw (c.push.ensures.items, ok, c.len.ensures)
+          rw (c.push.ensures.items, ok, c.bytes.ensures)
           (one_more_read c.args.root.now (map (λ name. name.now) c.args.names.now) c.args.before c.loop-name.name-index _ (rw length-map c.loop-name-test.true)
           (sym (get_or-map (λ name. name.now) c.args.names.now c.loop-name.name-index _ [] c.loop-name-test.true))
           (g.D.Store.seen c.args.store.now).told (g.D.Store.seen c.loop-name.store).told c.loop-name.files.items c.loop-name.sum c.in-Ok.file c.loop-name.invariant.store.told c.loop-name.invariant.read

@@ -10,7 +10,7 @@ returns-then-place-files c =
     let file = c.index-files-place.result in
     let key = c.args.name.now ++ 47 ∷ [] in
     front_tells (λ (f : File). f.name) c.args.files.now c.requires key c.count_before-place.result file (c.count_before-place.ensures c.requires) c.begins_with.result (omega arith)
-    (c.begins_with.ensures ∙ ap (λ (n : List ℕ). starts_with eqb n key) c.as_slice.ensures)
+    (c.begins_with.ensures ∙ ap (λ (n : List ℕ). starts_with eqb n key) (c.name.ensures ∙ ap (λ (f : File). f.name) c.index-files-place.is))
 
 pub returns-else-place-files : goal.returns-else-place-files
 returns-else-place-files c =

@@ -10,5 +10,5 @@ invariant-loop g l =
     (l.perch.shared.now.table.shared.table_id ≡ l.initial.perch.shared.now.table.shared.table_id)
     × AllAreOf l.perch.places l.all.items
     × ((p : ℕ) (pass : _) → slice_get l.passes.items p ≡ Some pass
-        → pass.seat.table_id ≡ l.initial.perch.shared.now.table.shared.table_id)
+    → pass.seat.table_id ≡ l.initial.perch.shared.now.table.shared.table_id)
     × ((p : ℕ) (pass : _) → slice_get l.passes.items p ≡ Some pass → IsReadyPass pass.seat.me)
