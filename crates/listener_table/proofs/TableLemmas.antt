@@ -306,3 +306,27 @@ module _ {S : Type 0} (laws : TableRestsOn) {known : Option KnownOutside} {me : 
 
   pub shown_row : row_in 0 (book_of me.0) ≡ None
   shown_row = laws.turns.opens me.0.origin.passes 0 me.0.seen ∙ sym t.listener.row_is ∙ t.none
+
+-- ## Whether a server is gone
+
+pub gone_serves : (serves staffed gone : Bool) → gone ≡ (not serves && not staffed) → gone ≡ true → serves ≡ false
+gone_serves true staffed gone is yes =
+    let no : gone ≡ false = is in
+    absurd (cc (no, yes))
+gone_serves false staffed gone is yes = refl
+
+pub gone_empty : (serves staffed gone : Bool) → gone ≡ (not serves && not staffed) → gone ≡ true → staffed ≡ false
+gone_empty true staffed gone is yes =
+    let no : gone ≡ false = is in
+    absurd (cc (no, yes))
+gone_empty false true gone is yes =
+    let no : gone ≡ false = is in
+    absurd (cc (no, yes))
+gone_empty false false gone is yes = refl
+
+pub gone_staffed : (serves staffed gone : Bool) → gone ≡ (not serves && not staffed) → gone ≡ false → serves ≡ false → staffed ≡ true
+gone_staffed true staffed gone is no none = absurd (cc none)
+gone_staffed false true gone is no none = refl
+gone_staffed false false gone is no none =
+    let yes : gone ≡ true = is in
+    absurd (cc (no, yes))

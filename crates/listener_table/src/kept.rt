@@ -1,6 +1,7 @@
 //! What a table keeps of the state, behind a call that changes it or doesn't.
-ghost use Rattle.std.specs.Prelude.{◌≡◌, ◌<◌, ◌+◌, max, if◌then◌else◌};
+ghost use Rattle.std.specs.Prelude.{◌≡◌, ◌<◌, ◌+◌, ◌&&◌, max, not, if◌then◌else◌};
 ghost use Rattle.board_book.specs.Moments.{moment_for};
+ghost use Rattle.conn_machine.specs.States.{is_serving};
 ghost use Rattle.conn_machine.specs.Table.{greatest_generation};
 
 use conn_machine::Going;
@@ -30,4 +31,11 @@ pub(crate) fn going_behind(going: Going, next: Going, made: bool) -> Going
     ensures { result ≡ (if made then next else going) }
 {
     if made { next } else { going }
+}
+
+/// Whether a server is gone that goes on so, and of which some child is there, or none: it takes no connections, and each child is gone.
+pub(crate) fn is_gone_with(going: Going, staffed: bool) -> bool
+    ensures { result ≡ (not (is_serving going) && not staffed) }
+{
+    !going.is_serving() && !staffed
 }

@@ -14,7 +14,7 @@ ghost use Rattle.listener_parts.specs.Letting.{LetsGo, LetsGoOfConns, LetsGoUnti
 ghost use Rattle.listener_parts.specs.Times.{KeepsTime, MayPassTo, MaySignal};
 ghost use Rattle.listener_parts.specs.Rounds.{IsRestedFor, PassesTime, RetiresSome, Signals, SignalsSome, StartsAtFirst, StartsEach, TicksAtOnce};
 
-use crate::kept::moment_behind;
+use crate::kept::{is_gone_with, moment_behind};
 use crate::laws::table_rests_on_these;
 use crate::table::Table;
 use board::BoardFault;
@@ -133,7 +133,7 @@ impl<'a, M: Room, L: Link, N: Known, B: Bell, G: Gate> Table<'a, M, L, N, B, G> 
     {
         table_rests_on_these();
         let look = take_look(rt, self.hands.shared, &mut self.pass);
-        !look.going.is_serving() && !look.staffed
+        is_gone_with(look.going, look.staffed)
     }
 
     /// Starts the first children, all in one turn, and gives each its credit.

@@ -1,6 +1,7 @@
-use Rattle.std.proofs.Common.{None, ◌∙◌}
+use Rattle.std.proofs.Common.{None, ap, sym, ◌∙◌}
+use Rattle.conn_machine.specs.States.{is_serving}
 use Rattle.listener_parts.proofs.PartTimeLemmas.{nothing_keeps}
-use Rattle.listener_table.proofs.TableLemmas.{is_made, look_did, look_leaves, table_looks}
+use Rattle.listener_table.proofs.TableLemmas.{gone_empty, gone_serves, gone_staffed, is_made, look_did, look_leaves, table_looks}
 use Rattle.listener_table.proofs.round.Table.is_gone.Goals as goal
 
 pub invariant_of-self : goal.invariant_of-self
@@ -27,3 +28,19 @@ returns-clause-number g c = c.take_look-look.ensures.listener.number
 
 pub returns-clause-made : goal.returns-clause-made
 returns-clause-made g c = c.take_look-look.ensures.listener.made
+
+pub returns-clause-gone : goal.returns-clause-gone
+returns-clause-gone g c yes =
+    ap is_serving (sym c.take_look-look.ensures.seen.going)
+    ∙ gone_serves (is_serving c.take_look-look.result.going) c.take_look-look.result.staffed c.is_gone_with.result c.is_gone_with.ensures yes
+
+pub returns-clause-empty : goal.returns-clause-empty
+returns-clause-empty g c yes =
+    sym c.take_look-look.ensures.seen.staffed
+    ∙ gone_empty (is_serving c.take_look-look.result.going) c.take_look-look.result.staffed c.is_gone_with.result c.is_gone_with.ensures yes
+
+pub returns-clause-staffed : goal.returns-clause-staffed
+returns-clause-staffed g c no none =
+    sym c.take_look-look.ensures.seen.staffed
+    ∙ gone_staffed (is_serving c.take_look-look.result.going) c.take_look-look.result.staffed c.is_gone_with.result c.is_gone_with.ensures no
+    (ap is_serving c.take_look-look.ensures.seen.going ∙ none)
