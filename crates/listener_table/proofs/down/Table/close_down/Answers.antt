@@ -27,3 +27,6 @@ returns-clause-timely g c =
 pub close_down-requires-clause-halted : goal.close_down-requires-clause-halted
 close_down-requires-clause-halted g c =
     subst (λ (v : View). is_halted (state_of v).going ≡ true) (sym c.self.view_is) c.requires
+
+pub close_down-requires-clause-own : goal.close_down-requires-clause-own
+close_down-requires-clause-own g c = c.self.invariant.0 ∙ sym c.self.inside.hands.now.lock

@@ -1,4 +1,4 @@
-use Rattle.std.proofs.Common.{◌∙◌}
+use Rattle.std.proofs.Common.{◌∙◌, sym}
 use Rattle.listener_table.proofs.TableLemmas.{is_made, stops_keep, table_stops}
 use Rattle.listener_table.proofs.down.Table.stop.Goals as goal
 
@@ -35,3 +35,6 @@ returns-clause-alone g c =
 pub returns-clause-timely : goal.returns-clause-timely
 returns-clause-timely g c =
     rw (← c.self.view_is) (stops_keep c.table_rests_on_these.ensures.frame _ _ _ _ (is_made c.self.invariant.1) c.stop-stopped.ensures.did)
+
+pub stop-stopped-requires-clause-own : goal.stop-stopped-requires-clause-own
+stop-stopped-requires-clause-own g c = c.self.invariant.0 ∙ sym c.self.inside.hands.now.lock

@@ -44,3 +44,6 @@ returns-clause-number g c = c.order-begun.ensures.listener.number
 
 pub returns-clause-made : goal.returns-clause-made
 returns-clause-made g c = c.order-begun.ensures.listener.made
+
+pub order-begun-requires-clause-own : goal.order-begun-requires-clause-own
+order-begun-requires-clause-own g c = c.self.invariant.0 ∙ sym c.self.inside.hands.now.lock

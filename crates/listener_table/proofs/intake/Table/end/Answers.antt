@@ -37,3 +37,6 @@ returns-clause-number g c = c.order-ends.ensures.listener.number
 
 pub returns-clause-made : goal.returns-clause-made
 returns-clause-made g c = c.order-ends.ensures.listener.made
+
+pub order-ends-requires-clause-own : goal.order-ends-requires-clause-own
+order-ends-requires-clause-own g c = c.self.invariant.0 ∙ sym c.self.inside.hands.now.lock

@@ -1,4 +1,4 @@
-use Rattle.std.proofs.Common.{◌∙◌}
+use Rattle.std.proofs.Common.{◌∙◌, sym}
 use Rattle.listener_parts.proofs.PartTimeLemmas.{sees_keep}
 use Rattle.listener_table.proofs.TableLemmas.{folds_own, is_made, table_folds}
 use Rattle.listener_table.proofs.intake.Table.fold.Goals as goal
@@ -25,3 +25,6 @@ pub returns-clause-timely : goal.returns-clause-timely
 returns-clause-timely g c =
     rw (← c.self.view_is) (sees_keep c.table_rests_on_these.ensures.frame _ _ (is_made c.self.invariant.1)
     (folds_own c.table_rests_on_these.ensures c.self.invariant.1 c.fold_history.ensures.listener c.fold_history.ensures.sees) c.fold_history.ensures.sees)
+
+pub fold_history-requires-clause-own : goal.fold_history-requires-clause-own
+fold_history-requires-clause-own g c = c.self.invariant.0 ∙ sym c.self.inside.hands.now.lock

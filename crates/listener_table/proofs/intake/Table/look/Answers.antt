@@ -1,4 +1,4 @@
-use Rattle.std.proofs.Common.{None, ◌∙◌}
+use Rattle.std.proofs.Common.{None, ◌∙◌, sym}
 use Rattle.listener_parts.proofs.PartTimeLemmas.{nothing_keeps}
 use Rattle.listener_table.proofs.TableLemmas.{is_made, look_did, look_leaves, table_looks}
 use Rattle.listener_table.proofs.intake.Table.look.Goals as goal
@@ -27,3 +27,6 @@ returns-clause-number g c = c.take_look.ensures.listener.number
 
 pub returns-clause-made : goal.returns-clause-made
 returns-clause-made g c = c.take_look.ensures.listener.made
+
+pub take_look-requires-clause-own : goal.take_look-requires-clause-own
+take_look-requires-clause-own g c = c.self.invariant.0 ∙ sym c.self.inside.hands.now.lock

@@ -1,4 +1,4 @@
-use Rattle.std.proofs.Common.{◌∙◌}
+use Rattle.std.proofs.Common.{◌∙◌, sym}
 use Rattle.listener_parts.proofs.PartTimeLemmas.{order_keeps}
 use Rattle.listener_table.proofs.TableLemmas.{is_made, may_refuse, table_refuses}
 use Rattle.listener_table.proofs.intake.Table.refuse.Goals as goal
@@ -29,3 +29,6 @@ returns-clause-number g c = c.order.ensures.listener.number
 
 pub returns-clause-made : goal.returns-clause-made
 returns-clause-made g c = c.order.ensures.listener.made
+
+pub order-requires-clause-own : goal.order-requires-clause-own
+order-requires-clause-own g c = c.self.invariant.0 ∙ sym c.self.inside.hands.now.lock

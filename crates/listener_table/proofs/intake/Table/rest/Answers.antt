@@ -40,3 +40,6 @@ returns-clause-number g c = c.rest_of.ensures.listener.number
 
 pub returns-clause-made : goal.returns-clause-made
 returns-clause-made g c = c.rest_of.ensures.listener.made
+
+pub rest_of-requires-clause-own : goal.rest_of-requires-clause-own
+rest_of-requires-clause-own g c = c.self.invariant.0 ∙ sym c.self.inside.hands.now.lock

@@ -41,3 +41,6 @@ returns-clause-number g c = c.take.ensures.listener.number
 
 pub returns-clause-made : goal.returns-clause-made
 returns-clause-made g c = c.take.ensures.listener.made
+
+pub take-requires-clause-own : goal.take-requires-clause-own
+take-requires-clause-own g c = c.self.invariant.0 ∙ sym c.self.inside.hands.now.lock

@@ -44,3 +44,6 @@ returns-clause-staffed g c no none =
     sym c.take_look-look.ensures.seen.staffed
     ∙ gone_staffed (is_serving c.take_look-look.result.going) c.take_look-look.result.staffed c.is_gone_with.result c.is_gone_with.ensures no
     (ap is_serving c.take_look-look.ensures.seen.going ∙ none)
+
+pub take_look-look-requires-clause-own : goal.take_look-look-requires-clause-own
+take_look-look-requires-clause-own g c = c.self.invariant.0 ∙ sym c.self.inside.hands.now.lock

@@ -1,4 +1,4 @@
-use Rattle.std.proofs.Common.{◌∙◌}
+use Rattle.std.proofs.Common.{◌∙◌, sym}
 use Rattle.listener_parts.proofs.PartTimeLemmas.{conns_keep}
 use Rattle.listener_table.proofs.TableLemmas.{is_made, table_lets}
 use Rattle.listener_table.proofs.round.Table.let_go_of_conns.Goals as goal
@@ -30,3 +30,6 @@ returns-clause-number g c = c.let_go_of_conns.ensures.listener.number
 
 pub returns-clause-made : goal.returns-clause-made
 returns-clause-made g c = c.let_go_of_conns.ensures.listener.made
+
+pub let_go_of_conns-requires-clause-own : goal.let_go_of_conns-requires-clause-own
+let_go_of_conns-requires-clause-own g c = c.self.invariant.0 ∙ sym c.self.inside.hands.now.lock

@@ -1,4 +1,4 @@
-use Rattle.std.proofs.Common.{◌∙◌}
+use Rattle.std.proofs.Common.{◌∙◌, sym}
 use Rattle.listener_parts.proofs.PartTimeLemmas.{time_keeps}
 use Rattle.listener_table.proofs.TableLemmas.{is_made, table_passes}
 use Rattle.listener_table.proofs.round.Table.pass_time.Goals as goal
@@ -42,3 +42,6 @@ returns-clause-number g c = c.let_time_pass-passed.ensures.listener.number
 
 pub returns-clause-made : goal.returns-clause-made
 returns-clause-made g c = c.let_time_pass-passed.ensures.listener.made
+
+pub let_time_pass-passed-requires-clause-own : goal.let_time_pass-passed-requires-clause-own
+let_time_pass-passed-requires-clause-own g c = c.self.invariant.0 ∙ sym c.self.inside.hands.now.lock

@@ -1,4 +1,4 @@
-use Rattle.std.proofs.Common.{◌∙◌}
+use Rattle.std.proofs.Common.{◌∙◌, sym}
 use Rattle.listener_parts.proofs.PartTimeLemmas.{retires_keep}
 use Rattle.listener_table.proofs.TableLemmas.{is_made, table_stays}
 use Rattle.listener_table.proofs.round.Table.retire_all.Goals as goal
@@ -26,3 +26,6 @@ returns-clause-number g c = c.retire_all.ensures.listener.number
 
 pub returns-clause-made : goal.returns-clause-made
 returns-clause-made g c = c.retire_all.ensures.listener.made
+
+pub retire_all-requires-clause-own : goal.retire_all-requires-clause-own
+retire_all-requires-clause-own g c = c.self.invariant.0 ∙ sym c.self.inside.hands.now.lock

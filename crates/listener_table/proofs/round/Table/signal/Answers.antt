@@ -1,4 +1,4 @@
-use Rattle.std.proofs.Common.{◌∙◌}
+use Rattle.std.proofs.Common.{◌∙◌, sym}
 use Rattle.listener_parts.proofs.PartTimeLemmas.{all_signals_keep}
 use Rattle.listener_table.proofs.TableLemmas.{is_made, table_signals}
 use Rattle.listener_table.proofs.round.Table.signal.Goals as goal
@@ -30,3 +30,6 @@ returns-clause-number g c = c.signal.ensures.listener.number
 
 pub returns-clause-made : goal.returns-clause-made
 returns-clause-made g c = c.signal.ensures.listener.made
+
+pub signal-requires-clause-own : goal.signal-requires-clause-own
+signal-requires-clause-own g c = c.self.invariant.0 ∙ sym c.self.inside.hands.now.lock

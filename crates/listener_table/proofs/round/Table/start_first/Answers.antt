@@ -1,4 +1,4 @@
-use Rattle.std.proofs.Common.{◌∙◌}
+use Rattle.std.proofs.Common.{◌∙◌, sym}
 use Rattle.listener_parts.proofs.PartTimeLemmas.{first_keep}
 use Rattle.listener_table.proofs.TableLemmas.{is_made, table_stays}
 use Rattle.listener_table.proofs.round.Table.start_first.Goals as goal
@@ -20,3 +20,6 @@ returns-clause-rest g c =
 pub returns-clause-timely : goal.returns-clause-timely
 returns-clause-timely g c =
     rw (← c.self.view_is) (first_keep c.table_rests_on_these.ensures.frame c.table_rests_on_these.ensures.others _ _ (is_made c.self.invariant.1) c.start_first.ensures.first)
+
+pub start_first-requires-clause-own : goal.start_first-requires-clause-own
+start_first-requires-clause-own g c = c.self.invariant.0 ∙ sym c.self.inside.hands.now.lock

@@ -1,4 +1,4 @@
-use Rattle.std.proofs.Common.{◌∙◌}
+use Rattle.std.proofs.Common.{◌∙◌, sym}
 use Rattle.listener_parts.proofs.PartTimeLemmas.{starts_keep}
 use Rattle.listener_table.proofs.TableLemmas.{is_made, table_stays}
 use Rattle.listener_table.proofs.round.Table.start_further.Goals as goal
@@ -27,3 +27,6 @@ returns-clause-number g c = c.start_further.ensures.listener.number
 
 pub returns-clause-made : goal.returns-clause-made
 returns-clause-made g c = c.start_further.ensures.listener.made
+
+pub start_further-requires-clause-own : goal.start_further-requires-clause-own
+start_further-requires-clause-own g c = c.self.invariant.0 ∙ sym c.self.inside.hands.now.lock
