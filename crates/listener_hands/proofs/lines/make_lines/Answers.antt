@@ -1,5 +1,5 @@
-use Rattle.std.proofs.Common.{length, arith, rules}
-use Rattle.std.proofs.lemmas.Option.{slice_get-get_or}
+use Rattle.std.proofs.Common.{length, refl, arith, rules}
+use Rattle.std.proofs.lemmas.Option.{slice_get_read}
 use Rattle.crossbeam_queue.specs.Passes.{IsPassOf}
 use Rattle.listener_hands.proofs.LineLemmas.{left_first, left_next}
 use Rattle.listener_hands.proofs.OpeningLemmas.{at_end}
@@ -18,10 +18,13 @@ loop-queue-init g c = record {
 pub invariant_of-push_reserved : goal.invariant_of-push_reserved
 invariant_of-push_reserved g c =
     let rest = c.pop.new.self in
-    c.loop-queue.invariant.own (length rest.items) c.loop-queue.queue-index _ c.in-Some.seat
-    (omega (arith, c.loop-queue.invariant.left, c.in-Some.ensures.cases, rest.ok.0))
-    (slice_get-get_or c.args.queues.now c.loop-queue.queue-index _ c.loop-queue-test.true)
-    (at_end c.loop-queue.seats.items rest.items c.in-Some.seat c.in-Some.ensures.items)
+    record {
+      seat_of =
+          c.loop-queue.invariant.own (length rest.items) c.loop-queue.queue-index c.queue-item.result c.in-Some.seat
+          (omega (arith, c.loop-queue.invariant.left, c.in-Some.ensures.cases, rest.ok.0))
+          (slice_get_read c.args.queues.now (length c.args.queues.now) c.loop-queue.queue-index c.queue-item.result refl c.loop-queue-test.true c.queue-item.is)
+          (at_end c.loop-queue.seats.items rest.items c.in-Some.seat c.in-Some.ensures.items);
+    }
 
 pub loop-queue-preserved : goal.loop-queue-preserved
 loop-queue-preserved g c = record {
