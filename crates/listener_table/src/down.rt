@@ -73,7 +73,7 @@ impl<'a, M: Room, L: Link, N: Known, B: Bell, G: Gate> Table<'a, M, L, N, B, G> 
     /// The board, once no connection is live, and each child is gone.
     pub fn close<R: Wait>(self, rt: &R) -> Board<L, N>
         requires { IsClosedDown (state_of self) }
-        ensures { ClosesAs N.known self result }
+        ensures { ClosesAs N.known self.entry result }
     {
         let Table {
             hands,

@@ -18,6 +18,7 @@ use conn_state::Known;
 use listener_hands::WorksHere;
 use listener_parts::Credits;
 use mpm_base::{Bell, Gate, Link, Moment};
+use std::marker::Model;
 use worker_threads::Hands;
 
 /// The board under its lock, as its listener has it.
