@@ -54,7 +54,7 @@ err_tells (Ok x) P tells err = tt
 err_tells (Err e) P tells err = tells e err
 
 -- a connection that was taken and given up
-given_did : (name : ConnName) (why : BoardFault) (a b : View) → TakesUntil name why a b → Did (event.Accept name.slot ∷ give_up_events why name) None a b
+pub given_did : (name : ConnName) (why : BoardFault) (a b : View) → TakesUntil name why a b → Did (event.Accept name.slot ∷ give_up_events why name) None a b
 given_did name why a b g =
     did_turns (event.Accept name.slot ∷ give_up_events why name) None a b
     (more_turns (event.Accept name.slot ∷ []) (give_up_events why name) a g.between b g.took g.given_up) g.row

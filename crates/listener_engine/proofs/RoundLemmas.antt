@@ -25,14 +25,14 @@ use Rattle.listener_engine.proofs.BroughtLemmas.{brings_both, brings_first, brin
 -- ## The front of a round
 
 -- nothing of a part
-abbrev no_departures : Departures
+abbrev pub no_departures : Departures
 no_departures = record { retiring = []; cut = []; drained = [] }
 
-none_let_go : AreLetGo no_departures
+pub none_let_go : AreLetGo no_departures
 none_let_go = record { retiring = tt; cut = tt; drained = tt }
 
 -- what a table has of slots, of whatever the pass has seen
-same_slots : HistoriesKeepSizes → (slots : List ℕ) (old new : View) → new.origin ≡ old.origin
+pub same_slots : HistoriesKeepSizes → (slots : List ℕ) (old new : View) → new.origin ≡ old.origin
     → known_slots (length (state_of new).rows) slots ≡ known_slots (length old.origin.state.rows) slots
 same_slots sizes slots old new origin =
     ap (λ n. known_slots n slots)
