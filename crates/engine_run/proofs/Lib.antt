@@ -1,1 +1,2 @@
 pub mod DownLemmas
+pub mod StartLemmas
