@@ -249,8 +249,8 @@ fn run_table<
     text: &[u8],
 ) -> Result<ServedRun<L>, OpenFault>
     requires numbers { numbers ≡ opening.numbers_of config.config.now }
-    requires opens { OpensAt (opened_origin numbers) table.view }
-    requires none { HasNoLive table.book.state }
+    requires opens { OpensAt (opened_origin numbers) table }
+    requires none { HasNoLive (state_of table) }
     requires limits { edition.limits ≡ head_limits_of config.config.now }
     requires timeout { edition.stop_ms ≡ config.config.now.current.stop_ms }
     requires named { N.known ≡ Some

@@ -20,18 +20,18 @@ ghost use Rattle.listener_round.specs.StandingInside.{owed_at};
 ghost use Rattle.listener.specs.Counted.{AsksOnce};
 ghost use Rattle.listener.specs.CountedInside.{ClocksAt};
 ghost use Rattle.listener_engine.specs.Rests.{RestsAs};
-ghost use Rattle.engine_run.specs.Between.{ClocksBehind, EndsBy, GoesOnFrom, MayTurn};
+ghost use Rattle.engine_run.specs.Between.{ClocksBehind, EndsBy, GoesOnFrom, MayTurn, TurnsGoOn};
 ghost use Rattle.engine_run.specs.Turns.{listener_of};
 
 use crate::pause::take_pause;
 use board::BoardFault;
 use board::laws::generations_keep_their_editions;
 use board_lock::Room;
-use board_turns::turns_rest_on_these;
 use conn_machine::laws_between_turns::{own_events_tell_the_frame, own_events_tell_what_was_taken};
 use conn_machine::laws_of_runs::histories_keep_sizes;
 use conn_state::Known;
 use listener_engine::Listener;
+use listener_engine::laws::own_events_tell_the_orders;
 use mpm_base::{Bell, Clock, Front, Gate, Link, Sink, Store, Woke};
 use rounds::End;
 use std::sync::Wait;
@@ -113,10 +113,7 @@ pub(crate) fn listen_turn<
         (C.asked clock.old) (C.asked clock.new) }
     ensures named { IsKnownOfFront N.known (F.seen front.new).told }
 {
-    turns_rest_on_these();
-    own_events_tell_the_frame();
-    own_events_tell_what_was_taken();
-    generations_keep_their_editions();
+    turns_go_on();
     listener.table.show();
     let present = listener.table.moment();
     let pause = take_pause(
@@ -127,14 +124,29 @@ pub(crate) fn listen_turn<
         listener.rest,
         present,
     );
-    if let Some(end) = end_of(listener, rt, pause.woke) {
-        return Ok(Some(end));
+    let over = end_of(listener, rt, pause.woke);
+    if over.is_some() {
+        return Ok(over);
     }
-    if let Some(end) = listener.take_in(rt, store, front, out, pause.moment)? {
-        return Ok(Some(end));
+    let ended = listener.take_in(rt, store, front, out, pause.moment)?;
+    match ended {
+        Some(end) => Ok(Some(end)),
+        None => {
+            serve(listener, rt);
+            Ok(None)
+        }
     }
-    serve(listener, rt);
-    Ok(None)
+}
+
+/// The laws by which a turn keeps what holds between two of them. Does nothing.
+pub(crate) fn turns_go_on()
+    ensures { TurnsGoOn }
+{
+    own_events_tell_the_orders();
+    own_events_tell_the_frame();
+    own_events_tell_what_was_taken();
+    generations_keep_their_editions();
+    histories_keep_sizes();
 }
 
 /// Why the turns end by what the wait answered, where they do: a wait failed; or nothing more can come, and no connection is live, as a turn
@@ -195,10 +207,14 @@ fn serve<R: Wait, M: Room, L: Link, N: Known, B: Bell, G: Gate>(
     ensures still { IsAtRest (state_of listener.old.table)
         → listener.new.table.seen ≡ listener.old.table.seen }
     ensures timely { KeepsTime listener.old.table listener.new.table }
+    ensures number { listener.new.table.who.number ≡ 0 }
+    ensures made { AreMade listener.new.table.origin.state
+        (opening_record listener.new.table.origin.passes) listener.new.table.seen }
     ensures others { listener.new ≡ record listener.old { table = listener.new.table } }
 {
     hand_over(listener, rt);
     listener.table.fold(rt);
+    listener.table.show();
 }
 
 /// Hands over what is signalled, and serves it where no worker has a thread. Where nothing is left to be done nothing is handed over, and else

@@ -14,5 +14,7 @@ returns g c =
       alone = subst (λ (l : _). LeavesAlone (state_of l.table) (state_of new)) same c.fold.ensures.rest;
       still = subst (λ (l : _). IsAtRest (state_of l.table) → new.seen ≡ l.table.seen) same c.fold.ensures.still;
       timely = subst (λ (l : _). KeepsTime l.table new) same c.fold.ensures.timely;
+      number = c.show.ensures.number;
+      made = c.show.ensures.made;
       others = ap (λ (l : _). record l { table = new }) same;
     }
