@@ -1,2 +1,4 @@
 pub mod DownLemmas
+pub mod PatienceLemmas
 pub mod StartLemmas
+pub mod TurnLemmas

@@ -217,7 +217,7 @@ untimed_left (exit.GiveUp why) name = refl
 untimed_one : (l : Departure) → count_by is_tick (departure_events l) ≡ 0
 untimed_one l = untimed_left l.way l.name
 
-untimed_gone : (gone : List Departure) → count_by is_tick (gone_events gone) ≡ 0
+pub untimed_gone : (gone : List Departure) → count_by is_tick (gone_events gone) ≡ 0
 untimed_gone [] = refl
 untimed_gone (l ∷ gone) =
     let both : count_by is_tick (departure_events l ++ gone_events gone) ≡ count_by is_tick (departure_events l) + count_by is_tick (gone_events gone) =
