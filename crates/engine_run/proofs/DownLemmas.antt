@@ -1,5 +1,5 @@
 -- That the server stops for what ended the listener's turns, and how it goes down behind that.
-use Rattle.std.proofs.Common.{◌≡◌, Bool, true, false, List, [], ◌∷◌, None, Option, Some, Result, Ok, Err, IfNone, IfSome, is_none, if◌then◌else◌, refl, sym, ap, subst, ◌∙◌}
+use Rattle.std.proofs.Common.{◌≡◌, Bool, true, false, List, [], None, Option, Some, Result, Ok, Err, IfNone, IfSome, is_none, refl, sym, ap, subst, ◌∙◌}
 use Rattle.conn_machine.specs.declared.event.Commanded.TheVariants.{Stop}
 use Rattle.conn_machine.specs.declared.event.Event.{Event}
 use Rattle.conn_machine.specs.declared.event.Event.TheVariants as event
@@ -7,8 +7,7 @@ use Rattle.conn_machine.specs.declared.event.Why.{Why}
 use Rattle.conn_machine.specs.declared.event.Why.TheVariants as why
 use Rattle.conn_machine.specs.declared.state.Going.{Going}
 use Rattle.conn_machine.specs.declared.state.Going.TheVariants.{Halted}
-use Rattle.conn_machine.specs.Table.{is_allowed, may_command}
-use Rattle.conn_machine.specs.States.{is_halted}
+use Rattle.conn_machine.specs.Table.{is_allowed}
 use Rattle.table_rule.specs.declared.view.View.{View}
 use Rattle.board_book.specs.declared.faults.BoardFault.{BoardFault}
 use Rattle.board_book.specs.declared.faults.BoardFault.TheVariants as fault
@@ -21,7 +20,7 @@ use Rattle.rounds.specs.EndsInside.{HaltsAs, MustHalt, is_at_end, why_of}
 use Rattle.rounds.specs.PartsInside as rounds
 use Rattle.rounds.specs.PartsInside.{halt_events}
 use Rattle.rounds.proofs.HaltLemmas.{over-up}
-use Rattle.listener_parts.specs.Closing.{ClosesDown, IsOwnReason, halts_for}
+use Rattle.listener_parts.specs.Closing.{IsOwnReason, halts_for}
 use Rattle.listener_parts.specs.Did.{Did}
 use Rattle.listener_parts.proofs.DidLemmas.{did_nothing}
 use Rattle.engine_run.specs.Down.{GoesDown}

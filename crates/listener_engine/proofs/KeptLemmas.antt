@@ -67,6 +67,18 @@ orders_kept law events has a b is is' silent did =
     ap (count_by is_order) (own_behind events has a b is.number did) in
     omega (arith, orders_own law a is, orders_own law b is', more, none, behind)
 
+-- where none was made there are as many in the whole history
+pub ordered_same : OwnEventsTellTheOrders → (a b : View) → IsMade a → IsMade b → Did [] None a b
+    → count_events is_order b.seen ≡ count_events is_order a.seen
+ordered_same law a b is is' did =
+    let first : count_events is_order a.seen ≡ count_by is_order (own_of a) =
+    law.counted is_order a.origin.state (opening_record a.origin.passes) a.seen order_own is.made in
+    let all : count_events is_order b.seen ≡ count_by is_order (own_of b) =
+    law.counted is_order b.origin.state (opening_record b.origin.passes) b.seen order_own is'.made in
+    let own : count_by is_order (own_of b) ≡ count_by is_order (own_of a) =
+    ap (count_by is_order) (own_behind [] None a b is.number did ∙ append-nil (own_of a)) in
+    omega (arith, first, all, own)
+
 -- ## Connections
 
 -- where no connection was taken, none was of the whole history
