@@ -1,4 +1,6 @@
+pub mod CountedLemmas
 pub mod DownLemmas
+pub mod OverLemmas
 pub mod PatienceLemmas
 pub mod StartLemmas
 pub mod TurnLemmas
