@@ -1,5 +1,7 @@
+pub mod BegunLemmas
 pub mod CountedLemmas
 pub mod DownLemmas
+pub mod FirstLemmas
 pub mod OverLemmas
 pub mod PatienceLemmas
 pub mod StartLemmas

@@ -29,6 +29,10 @@ stands_more a b d first second = record {
 pub leaves_same : (s : State) → LeavesAlone s s
 leaves_same s = record { stands = record { moment = refl; accepted = refl; newest = refl; shape = refl; going = refl }; children = refl }
 
+-- the same children may be started
+pub startable_same : (a b : State) → LeavesAlone a b → startable b ≡ startable a
+startable_same a b rest = rw (rest.children, rest.stands.shape, rest.stands.going) refl
+
 -- nothing behind the first starts
 pub first_more : (a b d : View) → StartsAtFirst a b → Did [] None b d → StartsAtFirst a d
 first_more a b d starts did = record {

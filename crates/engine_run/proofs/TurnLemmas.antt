@@ -232,7 +232,7 @@ untimed_retires : (children : List ℕ) → count_by is_tick (map event.Retire c
 untimed_retires [] = refl
 untimed_retires (k ∷ children) = untimed_retires children
 
-untimed_starts : (children : List ℕ) → count_by is_tick (map event.StartChild children) ≡ 0
+pub untimed_starts : (children : List ℕ) → count_by is_tick (map event.StartChild children) ≡ 0
 untimed_starts [] = refl
 untimed_starts (k ∷ children) = untimed_starts children
 

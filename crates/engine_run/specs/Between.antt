@@ -7,7 +7,7 @@ use Rattle.mpm_base.specs.declared.front.Woke.{Woke}
 use Rattle.mpm_base.specs.declared.front.Woke.TheVariants as woke
 use Rattle.conn_machine.specs.declared.state.State.{State}
 use Rattle.conn_machine.specs.Frames.{OwnEventsTellTheFrame, OwnEventsTellWhatWasTaken}
-use Rattle.conn_machine.specs.HistoryLaws.{HistoriesKeepSizes}
+use Rattle.conn_machine.specs.HistoryLaws.{ChildrenChangeOneAtATime, HistoriesKeepSizes}
 use Rattle.conn_state.specs.Known.{KnownOutside}
 use Rattle.board.specs.Editions.{GenerationsKeepTheirEditions}
 use Rattle.board_book.specs.declared.faults.BoardFault.{BoardFault}
@@ -160,6 +160,7 @@ pub record TurnsGoOn : Type 0 where
   pub taken : OwnEventsTellWhatWasTaken
   pub editions : GenerationsKeepTheirEditions
   pub sizes : HistoriesKeepSizes
+  pub children : ChildrenChangeOneAtATime
 
 -- ## The clock
 

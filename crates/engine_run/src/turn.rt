@@ -7,6 +7,7 @@ ghost use Rattle.conn_machine.specs.Made.{AreMade};
 ghost use Rattle.conn_machine.specs.States.{is_staffed};
 ghost use Rattle.conn_machine.specs.declared.state.Going.TheVariants.{Serving};
 ghost use Rattle.board_book.specs.AtRest.{IsAtRest};
+ghost use Rattle.board_book.specs.Finds.{startable};
 ghost use Rattle.mpm_base.specs.Front.{is_woken, wait_failed};
 ghost use Rattle.mpm_base.specs.declared.front.Woke.TheVariants as woke;
 ghost use Rattle.rounds.specs.declared.ends.End.TheVariants as end;
@@ -28,7 +29,7 @@ use board::BoardFault;
 use board::laws::generations_keep_their_editions;
 use board_lock::Room;
 use conn_machine::laws_between_turns::{own_events_tell_the_frame, own_events_tell_what_was_taken};
-use conn_machine::laws_of_runs::histories_keep_sizes;
+use conn_machine::laws_of_runs::{children_change_one_at_a_time, histories_keep_sizes};
 use conn_state::Known;
 use listener_engine::Listener;
 use listener_engine::laws::own_events_tell_the_orders;
@@ -46,6 +47,7 @@ pub(crate) fn start<R: Wait, M: Room, L: Link, N: Known, B: Bell, G: Gate>(
     ensures first { StartsAtFirst listener.old.table listener.new.table }
     ensures stands { StandsAs (state_of listener.old.table) (state_of listener.new.table) }
     ensures staffed { OnOk result (is_staffed (state_of listener.new.table) ≡ true) }
+    ensures none_left { OnOk result (startable (state_of listener.new.table) ≡ None) }
     ensures rests { OnOk result (RestsAs listener.new.rest listener.new.table) }
     ensures timely { KeepsTime listener.old.table listener.new.table }
     ensures others { listener.new ≡ record listener.old
@@ -147,6 +149,7 @@ pub(crate) fn turns_go_on()
     own_events_tell_what_was_taken();
     generations_keep_their_editions();
     histories_keep_sizes();
+    children_change_one_at_a_time();
 }
 
 /// Why the turns end by what the wait answered, where they do: a wait failed; or nothing more can come, and no connection is live, as a turn

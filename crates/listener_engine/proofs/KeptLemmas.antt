@@ -34,7 +34,7 @@ own_behind events has a b number did = subst (λ (p : ℕ). own_events p b.seen 
 -- ## Orders
 
 -- the listener alone takes and refuses orders
-order_own : (e : Event) → is_order e ≡ true → is_listeners e ≡ true
+pub order_own : (e : Event) → is_order e ≡ true → is_listeners e ≡ true
 order_own (event.Accept slot) is = refl
 order_own (event.Park name kind) is = absurd (cc is)
 order_own (event.Hold name) is = refl

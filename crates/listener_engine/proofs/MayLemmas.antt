@@ -84,7 +84,7 @@ at_once_on to events a b d did ticks =
 
 -- ## Behind children that were started
 
-frame_did : OwnEventsTellTheFrame → (events : List Event) (a b : View) → IsMade a → IsMade b → Did events None a b
+pub frame_did : OwnEventsTellTheFrame → (events : List Event) (a b : View) → IsMade a → IsMade b → Did events None a b
     → frame_of (state_of b) ≡ frames (frame_of (state_of a)) events
 frame_did law events a b is is' did =
     let first = opening_record a.origin.passes in

@@ -7,7 +7,7 @@ use Rattle.listener_parts.proofs.DidLemmas.{did_no_more}
 use Rattle.listener_round.proofs.PassedLemmas.{passed}
 use Rattle.listener_engine.proofs.BreakLemmas.{refusal_lasts}
 use Rattle.listener_engine.proofs.MayLemmas.{leaves_more, same_state, staffed_on}
-use Rattle.engine_run.proofs.StartLemmas.{first_more, staffed_first, stands_more}
+use Rattle.engine_run.proofs.StartLemmas.{first_more, staffed_first, stands_more, startable_same}
 use Rattle.engine_run.proofs.turn.start.Goals as goal
 
 pub returns-in_err-start_first : goal.returns-in_err-start_first
@@ -18,6 +18,7 @@ returns-in_err-start_first g c =
       first = c.start_first.ensures.first;
       stands = c.start_first.ensures.rest;
       staffed = passed c.from_residual.result fault _ _ c.from_residual.ensures.1 tt;
+      none_left = passed c.from_residual.result fault _ _ c.from_residual.ensures.1 tt;
       rests = passed c.from_residual.result fault _ _ c.from_residual.ensures.1 tt;
       timely = c.start_first.ensures.timely;
       others = refl;
@@ -42,6 +43,7 @@ returns g c =
       staffed =
           staffed_on (state_of b) (state_of e) alone
           (staffed_first c.histories_keep_sizes.ensures a b origin serves c.in_ok-start_first.ensures.all c.show.ensures.sound.children.newest c.requires.children);
+      none_left = startable_same (state_of b) (state_of e) alone ∙ c.in_ok-start_first.ensures.all;
       rests =
           record {
             still = λ quiet. (c.rest-listener.ensures.quiet quiet).rest;
