@@ -1,5 +1,6 @@
 pub mod BegunLemmas
 pub mod CountedLemmas
+pub mod CountedStartLemmas
 pub mod DownLemmas
 pub mod FirstLemmas
 pub mod OverLemmas

@@ -128,13 +128,13 @@ fn take_turns<
         (C.asked clock.old) (C.asked clock.new) }
 {
     turns_go_on();
-    let started = start(listener, rt);
     listener.table.show();
-    started?;
+    start(listener, rt)?;
     for _ in rt.forever() {
         let ended = listen_turn(listener, rt, store, front, clock, out)?;
-        if let Some(end) = ended {
-            return Ok(end);
+        match ended {
+            Some(end) => return Ok(end),
+            None => (),
         }
     }
     unreachable!()

@@ -50,16 +50,26 @@ pub(crate) fn start<R: Wait, M: Room, L: Link, N: Known, B: Bell, G: Gate>(
     ensures none_left { OnOk result (startable (state_of listener.new.table) ≡ None) }
     ensures rests { OnOk result (RestsAs listener.new.rest listener.new.table) }
     ensures timely { KeepsTime listener.old.table listener.new.table }
+    ensures number { listener.new.table.who.number ≡ 0 }
+    ensures made { AreMade listener.new.table.origin.state
+        (opening_record listener.new.table.origin.passes) listener.new.table.seen }
     ensures others { listener.new ≡ record listener.old
         { table = listener.new.table; rest = listener.new.rest } }
     ensures err { IfErr result (λ fault. RefusalLasts fault (book_of listener.new.table)) }
 {
     histories_keep_sizes();
-    listener.table.start_first(rt)?;
-    listener.table.show();
-    let look = listener.table.look(rt);
-    listener.rest = listener.table.rest(look);
-    Ok(())
+    match listener.table.start_first(rt) {
+        Ok(()) => {
+            listener.table.show();
+            let look = listener.table.look(rt);
+            listener.rest = listener.table.rest(look);
+            Ok(())
+        }
+        Err(fault) => {
+            listener.table.show();
+            Err(fault)
+        }
+    }
 }
 
 /// Waits for what comes, has a round done of it, hands over what is signalled and has it served, and folds the history where it may be folded.
