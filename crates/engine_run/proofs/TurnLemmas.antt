@@ -228,7 +228,7 @@ untimed_orders : (orders : List Commanded) → count_by is_tick (map event.Comma
 untimed_orders [] = refl
 untimed_orders (order ∷ orders) = untimed_orders orders
 
-untimed_retires : (children : List ℕ) → count_by is_tick (map event.Retire children) ≡ 0
+pub untimed_retires : (children : List ℕ) → count_by is_tick (map event.Retire children) ≡ 0
 untimed_retires [] = refl
 untimed_retires (k ∷ children) = untimed_retires children
 

@@ -84,7 +84,7 @@ quiet_as events a b silent nobody did stands timely = record {
 
 -- ## The parts of a round
 
-none_gone : (gone : List Departure) → TakesNone (gone_events gone)
+pub none_gone : (gone : List Departure) → TakesNone (gone_events gone)
 none_gone [] = refl
 none_gone (l ∷ gone) = none-both (departure_events l) (gone_events gone) (none-left l.way l.name) (none_gone gone)
 
