@@ -1,4 +1,5 @@
 pub mod BegunLemmas
+pub mod BoardLemmas
 pub mod CountedLemmas
 pub mod CountedStartLemmas
 pub mod DownLemmas
@@ -7,6 +8,7 @@ pub mod FirstLemmas
 pub mod LeftLemmas
 pub mod OverLemmas
 pub mod PatienceLemmas
+pub mod RunLemmas
 pub mod StartLemmas
 pub mod StoodLemmas
 pub mod TurnLemmas

@@ -1,5 +1,5 @@
 -- How a run stood in the end, once its server was stopped for what ended the listener's turns.
-use Rattle.std.proofs.Common.{◌≡◌, ◌×◌, ◌+◌, ℕ, Bool, true, false, not, cond, List, [], ◌∷◌, ◌++◌, count_by, length, map, replicate, None, Option, Some, IfSome, option_map, Result, Ok, Err, refl, sym, ap, subst, ◌∙◌, arith}
+use Rattle.std.proofs.Common.{◌≡◌, ◌+◌, ℕ, Bool, true, false, not, cond, List, [], ◌∷◌, ◌++◌, count_by, length, map, replicate, None, Option, Some, IfSome, option_map, Result, Ok, Err, refl, sym, ap, subst, ◌∙◌, arith}
 use Rattle.std.proofs.lemmas.List.Sums.{sum_by-cons}
 use Rattle.std.specs.List.{list_any}
 use Rattle.mpm_base.specs.Count.{NeverFalls}

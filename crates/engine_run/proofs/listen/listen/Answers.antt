@@ -15,18 +15,18 @@ use Rattle.engine_run.proofs.StoodLemmas.{stood_down}
 use Rattle.engine_run.proofs.listen.listen.Goals as goal
 
 pub hush-requires : goal.hush-requires
-hush-requires g c = c.take_turns-turns.ensures.over.listens
+hush-requires g c κs within = c.take_turns-turns.ensures.over.listens
 
 pub go_down-requires-clause-must : goal.go_down-requires-clause-must
-go_down-requires-clause-must g c =
+go_down-requires-clause-must g c κs within =
     must-halt c.take_turns-turns.result (g.F.Front.seen c.args.front.now) (g.F.Front.seen c.take_turns-turns.new.front)
     (book_of c.take_turns-turns.new.listener.table) c.take_turns-turns.ensures.over.ends
 
 pub go_down-requires-clause-up : goal.go_down-requires-clause-up
-go_down-requires-clause-up g c = c.take_turns-turns.ensures.over.up
+go_down-requires-clause-up g c κs within = c.take_turns-turns.ensures.over.up
 
 pub go_down-requires-clause-end : goal.go_down-requires-clause-end
-go_down-requires-clause-end g c = c.take_turns-turns.ensures.over.end
+go_down-requires-clause-end g c κs within = c.take_turns-turns.ensures.over.end
 
 pub returns-clause-listened : goal.returns-clause-listened
 returns-clause-listened g c =
