@@ -1,19 +1,17 @@
 -- What a run did of all its entries, once the first children were started, or one could not be.
-use Rattle.std.proofs.Common.{◌≡◌, ◌≤◌, ◌<◌, inl, inr, ℕ, true, false, List, [], ◌∷◌, ◌++◌, count_by, length, map, replicate, take, Option, None, Some, IfSome, Result, Err, is_some, refl, sym, ap, subst, ◌∙◌, append-nil, arith}
+use Rattle.std.proofs.Common.{◌≡◌, inl, inr, ℕ, true, false, List, [], ◌∷◌, ◌++◌, count_by, length, map, replicate, take, Option, None, Some, IfSome, Err, is_some, refl, sym, ap, subst, ◌∙◌, append-nil, arith}
 use Rattle.std.specs.List.{list_any}
-use Rattle.mpm_base.specs.Count.{greatest_count}
 use Rattle.mpm_base.specs.Front.{FrontTold, HasNoneToTake, WaitTold}
 use Rattle.conn_machine.specs.declared.event.Entry.{Entry}
 use Rattle.conn_machine.specs.declared.event.Event.{Event}
 use Rattle.conn_machine.specs.declared.event.Event.TheVariants as event
 use Rattle.conn_machine.specs.declared.state.State.{State}
-use Rattle.conn_machine.specs.Events.{count_events, is_order, is_tick}
+use Rattle.conn_machine.specs.Events.{count_events, is_order}
 use Rattle.conn_machine.specs.Folds.{opening_record}
 use Rattle.conn_machine.specs.Runs.{after, own_events}
-use Rattle.conn_machine.specs.States.{is_at_its_end, is_halted, is_serving}
+use Rattle.conn_machine.specs.States.{is_halted, is_serving}
 use Rattle.conn_state.specs.Known.{KnownOutside}
 use Rattle.table_rule.specs.declared.view.Origin.{Origin}
-use Rattle.table_rule.specs.declared.view.View.{View}
 use Rattle.board_book.specs.declared.faults.BoardFault.{BoardFault}
 use Rattle.board_book.specs.Started.{BeginsWithStarts}
 use Rattle.board_turns.specs.Books.{book_of, state_of}
@@ -28,7 +26,7 @@ use Rattle.listener_parts.proofs.PartTimeLemmas.{IsMade}
 use Rattle.listener_round.specs.declared.run_numbers.RunNumbers.{RunNumbers}
 use Rattle.listener_round.specs.Commands.{asks_to_end}
 use Rattle.listener_round.specs.FirstNumbers.{opened_by}
-use Rattle.listener_round.specs.FrontInside.{HasNoneToHeed, IsInStep, WatchesAll}
+use Rattle.listener_round.specs.FrontInside.{IsInStep, WatchesAll}
 use Rattle.listener_round.specs.Generations.{Opening}
 use Rattle.listener_round.specs.Pace.{AreSharesOf, AreSharesOfAll, Brought, Share, answers_in, brought, made_from, moved, progress_at}
 use Rattle.listener_round.specs.StandingInside.{IsOpenedBy}
@@ -43,7 +41,7 @@ use Rattle.listener.specs.StartedFirst.{IsStartedFirst, first_children}
 use Rattle.listener.proofs.HeardAllLemmas.{all-first}
 use Rattle.listener_engine.specs.Rests.{RestsAs}
 use Rattle.listener_engine.specs.Own.{own_of}
-use Rattle.listener_engine.specs.Standing.{StandsSo, opened_origin, standing}
+use Rattle.listener_engine.specs.Standing.{StandsSo}
 use Rattle.listener_engine.specs.Watching.{Watches}
 use Rattle.listener_engine.proofs.BreakLemmas.{stands_spare}
 use Rattle.listener_engine.proofs.BroughtLemmas.{brings_starts, brought_as}
@@ -51,13 +49,13 @@ use Rattle.listener_engine.proofs.KeptLemmas.{order_own, own_behind}
 use Rattle.listener_engine.proofs.QuietLemmas.{Quiet, quiet_as, quiet_knows, quiet_serves, quiet_stands, quiet_step, quiet_watched}
 use Rattle.listener_engine.proofs.SilentLemmas.{silent_starts}
 use Rattle.listener_engine.proofs.StandingLemmas.{silent_count, silent_order}
-use Rattle.engine_run.specs.Between.{AreBegunBy, GoesAbreast, HasKept, HasPatience, IsBeforeTurn, IsOnPace, IsShared, IsWhole, MayTurn, TurnsGoOn, WholeFrom}
+use Rattle.engine_run.specs.Between.{AreBegunBy, GoesAbreast, HasKept, HasPatience, IsBeforeTurn, IsOnPace, IsShared, MayTurn, TurnsGoOn, WholeFrom}
 use Rattle.engine_run.specs.Turns.{AreOver, IsBegun, MayListen, SeenListener, stands_at}
 use Rattle.engine_run.proofs.FirstLemmas.{did_first}
 use Rattle.engine_run.proofs.OverLemmas.{over_err}
 use Rattle.engine_run.proofs.PatienceLemmas.{patience_still}
 use Rattle.engine_run.proofs.TurnLemmas.{TakesStep, kept_first, kept_on, untimed_starts}
-use Rattle.engine_run.proofs.WholeLemmas.{EndsFrom, EndsOnPace, EndsWhole}
+use Rattle.engine_run.proofs.WholeLemmas.{EndsFrom, EndsOnPace}
 
 -- ## A front that hasn't begun
 

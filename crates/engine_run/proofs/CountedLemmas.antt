@@ -1,12 +1,12 @@
 -- What a front counts in a turn, and what an answer of a wait tells of it.
-use Rattle.std.proofs.Common.{◌≡◌, ◌⊎◌, inl, inr, ℕ, true, Option, None, Some, IfSome, Result, Ok, Err, IsErrAnd, is_some, refl, sym, ap, subst}
+use Rattle.std.proofs.Common.{◌≡◌, ◌⊎◌, inl, inr, true, Option, None, Some, IfSome, Result, Ok, Err, IsErrAnd, is_some, refl, sym, subst}
 use Rattle.mpm_base.specs.Front.{FrontCounts, is_woken}
 use Rattle.mpm_base.specs.declared.front.Woke.{Woke}
 use Rattle.mpm_base.specs.declared.front.Woke.TheVariants as woke
 use Rattle.conn_machine.specs.declared.state.State.{State}
 use Rattle.conn_state.specs.Known.{KnownOutside}
 use Rattle.board_book.specs.declared.faults.BoardFault.{BoardFault}
-use Rattle.board_turns.specs.Books.{book_of, state_of}
+use Rattle.board_turns.specs.Books.{book_of}
 use Rattle.rounds.specs.declared.ends.End.{End}
 use Rattle.rounds.specs.declared.ends.End.TheVariants as end
 use Rattle.listener_parts.specs.declared.rest.Rest.{Rest}

@@ -1,5 +1,5 @@
 -- What a front counts as the first children are started, and turns that were broken off.
-use Rattle.std.proofs.Common.{◌≡◌, List, map, None, Result, Ok, Err, IsErrAnd, refl, sym, subst}
+use Rattle.std.proofs.Common.{◌≡◌, List, map, Result, Ok, Err, IsErrAnd, sym, subst}
 use Rattle.mpm_base.specs.Front.{FrontCounts}
 use Rattle.conn_machine.specs.declared.event.Event.{Event}
 use Rattle.conn_machine.specs.declared.event.Event.TheVariants as event

@@ -1,5 +1,5 @@
 -- When the turns of the listener are over, and how one goes on to the next.
-use Rattle.std.proofs.Common.{◌≡◌, ◌⊎◌, inl, inr, ℕ, true, false, List, [], ◌∷◌, ◌++◌, Option, None, Some, IfSome, Result, Ok, Err, is_some, refl, sym, ap, subst, ◌∙◌, append-nil}
+use Rattle.std.proofs.Common.{◌≡◌, ℕ, true, false, List, [], ◌++◌, Option, None, Some, IfSome, Ok, Err, is_some, refl, sym, ap, subst, ◌∙◌, append-nil}
 use Rattle.mpm_base.specs.Count.{RisesExactlyWhere, RisesWhere}
 use Rattle.mpm_base.specs.Front.{GoesForward, TellsOn, is_ended, moments_in, wait_failed}
 use Rattle.mpm_base.specs.declared.front.Woke.{Woke}
@@ -21,7 +21,6 @@ use Rattle.run_report.proofs.CountLemmas.{rises-behind}
 use Rattle.listener_parts.specs.declared.rest.Rest.{Rest}
 use Rattle.listener_parts.specs.Rounds.{OpenedWithNone}
 use Rattle.listener_round.specs.FrontInside.{HandsOut, HasNoneToHeed, IsInStep, ListensAsServed, TakesInTo}
-use Rattle.listener_round.specs.StandingInside.{owed_at}
 use Rattle.listener_round.proofs.FrontLemmas.{only-takes, step-listens, takes-same}
 use Rattle.listener.specs.ListenInside.{HeedsUntil, IsAtStart, TurnsEnd}
 use Rattle.listener.proofs.CommandLemmas.{heeds-asked, heeds-ended, heeds-failed, heeds-gone, heeds-none, heeds-overdue}

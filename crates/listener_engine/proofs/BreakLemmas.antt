@@ -1,5 +1,5 @@
 -- Where a round is broken off, and how a run stands there.
-use Rattle.std.proofs.Common.{◌≡◌, inl, inr, ◌+◌, ℕ, List, [], ◌∷◌, ◌++◌, count_by, length, nat_lt, None, refl, sym, ap, subst, ◌∙◌, append-nil, arith}
+use Rattle.std.proofs.Common.{◌≡◌, inl, inr, ◌+◌, ℕ, List, [], ◌∷◌, ◌++◌, count_by, length, nat_lt, None, refl, sym, ap, ◌∙◌, append-nil, arith}
 use Rattle.std.specs.List.{flat_map}
 use Rattle.std.proofs.lemmas.List.Elements.{filter-append}
 use Rattle.mpm_base.specs.declared.conn.ConnName.{ConnName}
@@ -20,7 +20,7 @@ use Rattle.worker_group.specs.declared.service.Exit.{Exit}
 use Rattle.worker_group.specs.declared.service.Exit.TheVariants as exit
 use Rattle.worker_group.specs.Service.{RefusalLasts, give_up_events, left_events}
 use Rattle.listener_parts.specs.Did.{Did, LeavesAlone}
-use Rattle.listener_parts.specs.Letting.{Departure, GivesUpDrained, IsLateWay, LetsGo, LetsGoOfConns, LetsGoUntil, departure_events, departures_events, gone_events, lingering_give_up_events}
+use Rattle.listener_parts.specs.Letting.{Departure, IsLateWay, LetsGo, LetsGoOfConns, LetsGoUntil, departure_events, departures_events, gone_events, lingering_give_up_events}
 use Rattle.listener_parts.specs.Rounds.{PassesTime, RetiresSome, Signals, SignalsSome, StartsEach}
 use Rattle.listener_parts.specs.Times.{KeepsTime}
 use Rattle.listener_parts.proofs.DidLemmas.{did_as, did_more, did_nothing, did_turns}

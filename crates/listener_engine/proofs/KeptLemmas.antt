@@ -1,11 +1,9 @@
 -- What the listener's events leave as it was: how many orders there were, and which connections were taken.
-use Rattle.std.proofs.Common.{◌≡◌, ℕ, ◌+◌, true, false, List, [], ◌++◌, count_by, None, Option, refl, sym, ap, subst, ◌∙◌, append-nil, arith}
+use Rattle.std.proofs.Common.{◌≡◌, ℕ, ◌+◌, true, List, [], ◌++◌, count_by, None, Option, refl, sym, ap, subst, ◌∙◌, append-nil, arith}
 use Rattle.std.proofs.lemmas.Grind.{flat_map-append}
 use Rattle.std.proofs.lemmas.List.{append_cancel_left}
 use Rattle.std.proofs.lemmas.List.Elements.{filter-append}
 use Rattle.mpm_base.specs.declared.conn.ConnName.{ConnName}
-use Rattle.conn_machine.specs.declared.event.Commanded.{Commanded}
-use Rattle.conn_machine.specs.declared.event.Commanded.TheVariants as commanded
 use Rattle.conn_machine.specs.declared.event.Entry.{Entry}
 use Rattle.conn_machine.specs.declared.event.Event.{Event}
 use Rattle.conn_machine.specs.declared.event.Event.TheVariants as event
@@ -24,7 +22,7 @@ use Rattle.listener_round.specs.Watched.{accepted_names, names_given}
 use Rattle.listener_round.proofs.NobodyLemmas.{TakesNobody, TakesNone, unnamed}
 use Rattle.listener_engine.specs.Ordered.{OwnEventsTellTheOrders}
 use Rattle.listener_engine.specs.Own.{own_of}
-use Rattle.listener_engine.proofs.StandingLemmas.{AreSilent, count_more, is_command, silent_count, silent_order}
+use Rattle.listener_engine.proofs.StandingLemmas.{AreSilent, count_more, silent_count, silent_order}
 use Rattle.listener_engine.proofs.TakenLemmas.{names_own, own_since}
 
 -- the listener's own events behind a part

@@ -1,5 +1,5 @@
 -- Parts of a round that make no command and take no connection: how a run stands, what is known, counted, heard and watched behind them.
-use Rattle.std.proofs.Common.{◌≡◌, ℕ, Bool, List, [], ◌∷◌, ◌++◌, count_by, length, map, None, Option, refl, sym, ap, ◌∙◌}
+use Rattle.std.proofs.Common.{◌≡◌, ℕ, Bool, List, [], ◌∷◌, ◌++◌, count_by, length, map, None, Option, refl, ap, ◌∙◌}
 use Rattle.mpm_base.specs.Front.{FrontCounts, FrontSeen, FrontTold}
 use Rattle.mpm_base.specs.Sink.{SinkSeen}
 use Rattle.mpm_base.specs.Store.{StoreSeen, StoreTold}

@@ -1,5 +1,5 @@
 -- Connections that were taken: how a run stands, what is known, served by and heard behind them.
-use Rattle.std.proofs.Common.{◌≡◌, ℕ, Bool, List, [], count_by, None, Option, refl, sym, ap, subst, ◌∙◌}
+use Rattle.std.proofs.Common.{ℕ, Bool, List, [], None, Option, refl, sym, ap, subst, ◌∙◌}
 use Rattle.std.specs.List.{flat_map}
 use Rattle.mpm_base.specs.Front.{FrontSeen}
 use Rattle.mpm_base.specs.Sink.{SinkSeen}

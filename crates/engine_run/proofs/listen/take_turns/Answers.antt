@@ -1,4 +1,4 @@
-use Rattle.std.proofs.Common.{None, Option, Some, ap, refl, subst}
+use Rattle.std.proofs.Common.{Option, Some, ap, subst}
 use Rattle.board_turns.specs.Books.{book_of, state_of}
 use Rattle.rounds.specs.declared.ends.End.{End}
 use Rattle.listener_round.specs.CountedInside.{CountsOn}

@@ -1,4 +1,4 @@
-use Rattle.std.proofs.Common.{◌≡◌, ◌≤◌, inl, inr, ℕ, max, List, Option, None, Some, ap, refl, sym, subst, ◌∙◌}
+use Rattle.std.proofs.Common.{◌≡◌, ◌≤◌, ℕ, max, List, Option, None, Some, ap, refl, sym, subst, ◌∙◌}
 use Rattle.mpm_base.specs.Front.{Waits, is_woken}
 use Rattle.board_book.specs.Moments.{moment_for}
 use Rattle.board_turns.specs.Books.{book_of, state_of}
