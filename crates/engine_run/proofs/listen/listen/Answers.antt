@@ -14,8 +14,8 @@ use Rattle.engine_run.proofs.EndLemmas.{clock_down, counts_end, has_stopped}
 use Rattle.engine_run.proofs.StoodLemmas.{stood_down}
 use Rattle.engine_run.proofs.listen.listen.Goals as goal
 
-pub hush-requires : goal.hush-requires
-hush-requires g c κs within = c.take_turns-turns.ensures.over.listens
+pub hush-requires-clause-listens : goal.hush-requires-clause-listens
+hush-requires-clause-listens g c κs within = c.take_turns-turns.ensures.over.listens
 
 pub go_down-requires-clause-must : goal.go_down-requires-clause-must
 go_down-requires-clause-must g c κs within =
