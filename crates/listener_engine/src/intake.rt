@@ -148,7 +148,7 @@ impl<'a, 'c, M: Room, L: Link, N: Known, B: Bell, G: Gate> Listener<'a, 'c, M, L
             (λ fault. FailsTaking fault self.old.table self.new.table) }
         ensures makes { OnOk result (brought self.new.table.seen
             ≡ brought self.old.table.seen ++ taken ∷ []) }
-        ensures made { OnErr result (MakesOneAtMost (book_of self.old.table) (book_of self.new.table)) }
+        ensures one { OnErr result (MakesOneAtMost (book_of self.old.table) (book_of self.new.table)) }
         ensures handed { TellsOn (HandsMany 0) (F.seen front.old).told (F.seen front.new).told }
         ensures timely { KeepsTime self.old.table self.new.table }
         ensures rest { LeavesAlone (record (state_of self.old.table)
