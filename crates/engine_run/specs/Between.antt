@@ -6,7 +6,10 @@ use Rattle.mpm_base.specs.Front.{FrontTold, WaitTold}
 use Rattle.mpm_base.specs.declared.front.Woke.{Woke}
 use Rattle.mpm_base.specs.declared.front.Woke.TheVariants as woke
 use Rattle.conn_machine.specs.declared.state.State.{State}
+use Rattle.conn_machine.specs.Frames.{OwnEventsTellTheFrame, OwnEventsTellWhatWasTaken}
+use Rattle.conn_machine.specs.HistoryLaws.{ChildrenChangeOneAtATime, HistoriesKeepSizes}
 use Rattle.conn_state.specs.Known.{KnownOutside}
+use Rattle.board.specs.Editions.{GenerationsKeepTheirEditions}
 use Rattle.board_book.specs.declared.faults.BoardFault.{BoardFault}
 use Rattle.board_book.specs.ClosedDown.{HasNoLive}
 use Rattle.board_book.specs.Moments.{moment_for}
@@ -31,6 +34,7 @@ use Rattle.listener.specs.CountedInside.{IsAtClock}
 use Rattle.listener.specs.ListenInside.{IsAtStart, contacts_of}
 use Rattle.listener.specs.Patient.{IsPatientRun, IsSteady}
 use Rattle.listener.specs.StartedFirst.{first_children}
+use Rattle.listener_engine.specs.Ordered.{OwnEventsTellTheOrders}
 use Rattle.listener_engine.specs.Rests.{RestsAs}
 use Rattle.listener_engine.specs.Standing.{StandsSo}
 use Rattle.listener_engine.specs.Watching.{Watches}
@@ -146,6 +150,17 @@ GoesOnFrom known rest rest' old new (Ok ended) =
     → LeavesTurn known first rest' new ended
 GoesOnFrom known rest rest' old new (Err fault) =
     (first : SeenListener) → IsBeforeTurn known first rest old → AreOver (Err fault) first new
+
+-- ## The laws
+
+-- the laws by which a turn keeps what holds, as one fact
+pub record TurnsGoOn : Type 0 where
+  pub orders : OwnEventsTellTheOrders
+  pub frame : OwnEventsTellTheFrame
+  pub taken : OwnEventsTellWhatWasTaken
+  pub editions : GenerationsKeepTheirEditions
+  pub sizes : HistoriesKeepSizes
+  pub children : ChildrenChangeOneAtATime
 
 -- ## The clock
 

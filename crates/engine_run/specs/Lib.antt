@@ -1,3 +1,4 @@
 pub mod Between
 pub mod Down
+pub mod Left
 pub mod Turns

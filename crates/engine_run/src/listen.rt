@@ -13,15 +13,11 @@ ghost use Rattle.listener.specs.CountedInside.{ClocksOn, CountsToEnd, KeepsClock
 ghost use Rattle.engine_run.specs.Turns.{AreOver, HasListened, MayListen, listener_of};
 
 use crate::going_down::{answer_stop, go_down};
-use crate::turn::{listen_turn, start};
+use crate::turn::{listen_turn, start, turns_go_on};
 use board::BoardFault;
-use board::laws::generations_keep_their_editions;
 use board_lock::Room;
-use board_turns::turns_rest_on_these;
-use conn_machine::laws_between_turns::{own_events_tell_the_frame, own_events_tell_what_was_taken};
 use conn_state::Known;
 use listener_engine::Listener;
-use listener_engine::laws::own_events_tell_the_orders;
 use mpm_base::{Bell, Clock, Front, Gate, Link, Sink, Store};
 use rounds::End;
 use std::sync::Wait;
@@ -67,8 +63,7 @@ pub(crate) fn listen<
     ensures asked { AsksOnce (F.seen front.old).counts.wakes (F.seen front.new).counts.wakes
         (C.asked clock.old) (C.asked clock.new) }
 {
-    own_events_tell_the_orders();
-    own_events_tell_the_frame();
+    turns_go_on();
     let turns = take_turns(listener, rt, store, front, clock, out);
     listener.table.show();
     hush(listener, front);
@@ -132,15 +127,14 @@ fn take_turns<
     ensures asked { AsksOnce (F.seen front.old).counts.wakes (F.seen front.new).counts.wakes
         (C.asked clock.old) (C.asked clock.new) }
 {
-    turns_rest_on_these();
-    own_events_tell_the_frame();
-    own_events_tell_what_was_taken();
-    generations_keep_their_editions();
+    turns_go_on();
+    listener.table.show();
     start(listener, rt)?;
     for _ in rt.forever() {
-        listener.table.show();
-        if let Some(end) = listen_turn(listener, rt, store, front, clock, out)? {
-            return Ok(end);
+        let ended = listen_turn(listener, rt, store, front, clock, out)?;
+        match ended {
+            Some(end) => return Ok(end),
+            None => (),
         }
     }
     unreachable!()

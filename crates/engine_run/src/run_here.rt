@@ -1,8 +1,9 @@
 //! The run of a server on the thread that listens, over a front and a clock, whichever they are, with what is written where it opens.
 //! Why it is so stands in docs/DECISIONS.md: 78, When warnings are written; 92, What comes before the sockets; 140, Parts of the listener's
 //! round.
-ghost use Rattle.std.specs.Prelude.{◌≡◌, ◌++◌, [], Some, is_some, vec_len, IfErr, IfOk, IfSome, OnErr};
+ghost use Rattle.std.specs.Prelude.{◌≡◌, ◌++◌, [], Some, is_some, vec_len, IfErr, IfOk, IfSome, OnErr, OnOk};
 ghost use Rattle.mpm_base.specs.Count.{NeverFalls};
+ghost use Rattle.mpm_base.specs.Front.{Binds};
 ghost use Rattle.conn_machine.specs.Sound.{IsSound};
 ghost use Rattle.recycle_perch.specs.Looking.{AllAreOf};
 ghost use Rattle.board_book.specs.ClosedDown.{HasNoLive};
@@ -13,6 +14,7 @@ ghost use Rattle.listener_turns.specs.Folds.{HasDropped};
 ghost use Rattle.listener_parts.specs.Rounds.{OpenedWithNone};
 ghost use Rattle.listener_hands.specs.Opened.{OpensAt};
 ghost use Rattle.listener_round.specs.FirstNumbers as opening;
+ghost use Rattle.listener_round.specs.FirstNumbersInside.{AreNumbers};
 ghost use Rattle.listener_round.specs.FrontInside.{Follows};
 ghost use Rattle.listener_round.specs.Generations.{head_limits_of};
 ghost use Rattle.listener_round.specs.OrdersInside.{known_outside, opening_by};
@@ -25,6 +27,7 @@ ghost use Rattle.listener_engine.specs.Standing.{opened_origin};
 use crate::leaving::leave;
 use crate::listen::listen;
 use board::Board;
+use board::laws::{ended_connections_join, generations_keep_their_editions};
 use board_lock::{Pass, Room, Shared};
 use conn_state::Known;
 use listener::{OpenFault, ServedRun};
@@ -149,6 +152,7 @@ fn run_at<
     text: &[u8],
 ) -> Result<ServedRun<L>, OpenFault>
     requires numbers { numbers ≡ opening.numbers_of config.config.now }
+    requires allowed { AreNumbers numbers }
     requires lock { place.shared.now.table.shared.table_id ≡ M.table }
     requires perched { place.perch.now.shared.now.table.shared.table_id ≡ M.table }
     requires own { place.pass.seat.table_id ≡ M.table }
@@ -249,8 +253,9 @@ fn run_table<
     text: &[u8],
 ) -> Result<ServedRun<L>, OpenFault>
     requires numbers { numbers ≡ opening.numbers_of config.config.now }
-    requires opens { OpensAt (opened_origin numbers) table.view }
-    requires none { HasNoLive table.book.state }
+    requires allowed { AreNumbers numbers }
+    requires opens { OpensAt (opened_origin numbers) table }
+    requires none { HasNoLive (state_of table) }
     requires limits { edition.limits ≡ head_limits_of config.config.now }
     requires timeout { edition.stop_ms ≡ config.config.now.current.stop_ms }
     requires named { N.known ≡ Some
@@ -277,12 +282,12 @@ fn run_table<
     ensures clock { OnErr result (C.told clock.new ≡ C.told clock.old) }
     ensures silent { OnErr result (K.seen out.new ≡ K.seen out.old) }
 {
-    let Ok(ready) = Ready::make(alloc) else {
-        return Err(OpenFault::NoMemory);
+    let ready = match bind_front(alloc, numbers, front) {
+        Ok(ready) => ready,
+        Err(fault) => return Err(fault),
     };
-    if !front.bind(numbers.listen, numbers.control) {
-        return Err(OpenFault::Bind);
-    }
+    generations_keep_their_editions();
+    ended_connections_join();
     let written = write_all(out, text);
     let mut listener = Listener {
         alloc,
@@ -299,4 +304,24 @@ fn run_table<
     };
     listen(&mut listener, rt, store, front, clock, out);
     Ok(leave(rt, listener, numbers))
+}
+
+/// Makes what a wait gives its slots in, and binds the front by the numbers.
+fn bind_front<F: Front>(
+    alloc: Global,
+    numbers: RunNumbers,
+    front: &mut F,
+) -> Result<Ready, OpenFault>
+    ensures bound { OnOk result (Binds (F.seen front.old) (F.seen front.new)
+        numbers.listen numbers.control true) }
+    ensures unopened { IfErr result
+        (IsUnopened numbers (F.seen front.old) (F.seen front.new)) }
+{
+    let Ok(ready) = Ready::make(alloc) else {
+        return Err(OpenFault::NoMemory);
+    };
+    if !front.bind(numbers.listen, numbers.control) {
+        return Err(OpenFault::Bind);
+    }
+    Ok(ready)
 }

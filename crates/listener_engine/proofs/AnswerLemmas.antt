@@ -16,7 +16,6 @@ use Rattle.listener_round.proofs.CountedLemmas.{counts-more}
 use Rattle.listener_round.proofs.HeedLemmas.{ReadsOn}
 use Rattle.listener_round.proofs.LineLemmas.{HasRead, HasReadSo}
 use Rattle.listener_round.proofs.WatchLemmas.{watched-reads}
-use Rattle.listener_engine.specs.Standing.{standing}
 use Rattle.listener_engine.proofs.CommandLemmas.{stands_front}
 use Rattle.listener_engine.proofs.HeedLemmas.{GoesOn, Heeds, does_none, goes_command, goes_more, heeds_more, heeds_start}
 

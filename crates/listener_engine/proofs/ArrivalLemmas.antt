@@ -1,14 +1,13 @@
 -- What comes of the connections that have arrived, one behind the other.
-use Rattle.std.proofs.Common.{◌≡◌, ◌⊎◌, inl, inr, ℕ, ◌+◌, ◌-◌, List, [], ◌∷◌, ◌++◌, None, Option, Some, option_map, replicate, is_none, true, refl, sym, ap, subst, ◌∙◌, append-nil, append_assoc, arith}
+use Rattle.std.proofs.Common.{◌≡◌, ◌⊎◌, inl, ℕ, ◌+◌, ◌-◌, List, [], ◌∷◌, ◌++◌, None, Option, Some, replicate, is_none, true, refl, sym, ap, ◌∙◌, append-nil, append_assoc, arith}
 use Rattle.std.proofs.lemmas.Grind.{flat_map-append}
 use Rattle.std.proofs.lemmas.List.{replicate-append-replicate}
 use Rattle.std.specs.List.{flat_map}
 use Rattle.mpm_base.specs.Count.{next_count}
-use Rattle.mpm_base.specs.Front.{Accepts, FrontCounts, FrontSeen, FrontTold, TellsOn, after_accept}
+use Rattle.mpm_base.specs.Front.{Accepts, FrontCounts, FrontSeen, FrontTold, TellsOn}
 use Rattle.mpm_base.specs.Link.{LinkSeen, LinkTold}
 use Rattle.mpm_base.specs.declared.front.Arrival.{Arrival}
 use Rattle.mpm_base.specs.declared.front.Arrival.TheVariants as arrival
-use Rattle.conn_machine.specs.declared.state.State.{State}
 use Rattle.conn_machine.specs.Frames.{OwnEventsTellWhatWasTaken}
 use Rattle.table_rule.specs.declared.view.View.{View}
 use Rattle.board_book.specs.Book.{SeenBook}
@@ -23,9 +22,9 @@ use Rattle.listener_parts.specs.Times.{KeepsTime}
 use Rattle.listener_parts.proofs.DidLemmas.{did_as, did_more, did_nothing}
 use Rattle.listener_parts.proofs.PartTimeLemmas.{IsMade}
 use Rattle.listener_round.specs.CountedInside.{LacksLink}
-use Rattle.listener_round.specs.FrontInside.{Follows, HandsOut, IsInStep, OnlyTakes}
+use Rattle.listener_round.specs.FrontInside.{Follows, HandsOut, OnlyTakes}
 use Rattle.listener_round.specs.Pace.{Brought, brought, taken}
-use Rattle.listener_round.specs.ShareInside.{HandsMany, MakesOneAtMost, TakesAllButOne, TakesHanded}
+use Rattle.listener_round.specs.ShareInside.{HandsMany, MakesOneAtMost, TakesHanded}
 use Rattle.listener_round.proofs.CountedLemmas.{CountsAlike, counts-alike, counts-lacking, counts-more, counts-taken, counts-unbroken, counts-until, same-counts, same-unhanded}
 use Rattle.listener_round.proofs.FrontLemmas.{follows-accept, follows-same, follows-trans, takes-accept, takes-same, takes-trans}
 use Rattle.listener_round.proofs.HandedLemmas.{counts-both, counts-link, counts-none, counts-same}
@@ -33,7 +32,7 @@ use Rattle.listener_round.proofs.HeardLineLemmas.{keeps-accept, keeps-same, keep
 use Rattle.listener_round.proofs.WatchLemmas.{watched-accept, watched-as}
 use Rattle.listener_engine.specs.Intakes.{TakesFrom, TakesIn, TakesInUntil}
 use Rattle.listener_engine.specs.Ordered.{OwnEventsTellTheOrders}
-use Rattle.listener_engine.specs.Rounds.{FailsTaking, Intake, TakesSome, TakesSomeUntil, intake_events}
+use Rattle.listener_engine.specs.Rounds.{FailsTaking, TakesSome, intake_events}
 use Rattle.listener_engine.specs.Watching.{WatchesOn}
 use Rattle.listener_engine.proofs.BroughtLemmas.{brought_kept}
 use Rattle.listener_engine.proofs.KeptLemmas.{nobody_did, orders_kept}

@@ -1,9 +1,9 @@
 -- How a run stands behind a command line that was read, and what the listener did for it.
-use Rattle.std.proofs.Common.{◌≡◌, inl, inr, ◌≤◌, ◌<◌, ◌+◌, ℕ, suc, Bool, true, false, not, ◌||◌, cond, List, [], ◌∷◌, ◌++◌, count_by, refl, sym, ap, subst, ◌∙◌, arith}
+use Rattle.std.proofs.Common.{◌≡◌, inl, inr, ◌≤◌, ◌+◌, ℕ, suc, Bool, true, false, not, ◌||◌, cond, List, [], ◌∷◌, ◌++◌, count_by, refl, sym, ap, subst, ◌∙◌, arith}
 use Rattle.std.proofs.lemmas.List.Folds.{list_any-append}
 use Rattle.std.proofs.lemmas.List.Sums.{sum_by-cons}
 use Rattle.std.specs.List.{list_any}
-use Rattle.mpm_base.specs.Count.{NeverFalls, Rises}
+use Rattle.mpm_base.specs.Count.{Rises}
 use Rattle.mpm_base.specs.Front.{FrontSeen}
 use Rattle.mpm_base.specs.Store.{StoreSeen}
 use Rattle.conn_machine.specs.declared.event.Commanded.{Commanded}
@@ -19,7 +19,7 @@ use Rattle.board_turns.specs.Books.{state_of}
 use Rattle.listener_round.specs.Commands.{is_by_line, is_graceful_stop}
 use Rattle.listener_round.specs.FirstNumbers.{opened_by}
 use Rattle.listener_round.specs.Generations.{Opening}
-use Rattle.listener_round.specs.Orders.{edition_with, orders_with}
+use Rattle.listener_round.specs.Orders.{edition_with}
 use Rattle.listener_round.specs.StandingInside.{HasTimeout}
 use Rattle.listener_round.specs.Stores.{RisesBy, is_store_refusal}
 use Rattle.listener_round.specs.declared.run_numbers.RunNumbers.{RunNumbers}

@@ -24,7 +24,7 @@ use Rattle.listener_parts.specs.Times.{KeepsTime}
 use Rattle.listener_parts.proofs.DidLemmas.{did_as, did_more, did_nothing}
 use Rattle.listener_parts.proofs.PartTimeLemmas.{IsMade}
 use Rattle.listener_round.specs.Commands.{asked_in, asks_to_end}
-use Rattle.listener_round.specs.FrontInside.{Follows, HasNoneToHeed, IsInStep, OnlyReads}
+use Rattle.listener_round.specs.FrontInside.{Follows, IsInStep, OnlyReads}
 use Rattle.listener_round.specs.OrdersInside.{IsHushedIf, MakesOrders, MayHush, end_if}
 use Rattle.listener_round.specs.Pace.{Brought, brought, ordered}
 use Rattle.listener_round.specs.RoundInside.{NoneHalts}

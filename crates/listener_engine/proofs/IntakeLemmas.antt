@@ -1,15 +1,12 @@
 -- What a link that the front handed out leaves behind: its connection was taken, or given up, or it was turned away.
-use Rattle.std.proofs.Common.{◌≡◌, ◌⊎◌, inl, inr, ⊎_elim, ℕ, Bool, true, false, List, [], ◌∷◌, ◌++◌, None, Option, Some, Result, Ok, Err, IfErr, OnErr, OnOk, replicate, refl, sym, ap, subst, ◌∙◌, append-nil, arith}
+use Rattle.std.proofs.Common.{◌≡◌, ◌⊎◌, inl, inr, ⊎_elim, ℕ, Bool, true, [], ◌∷◌, ◌++◌, None, Option, Result, Ok, Err, IfErr, OnErr, OnOk, refl, sym, ap, subst, ◌∙◌, append-nil, arith}
 use Rattle.std.proofs.lemmas.Result.{IfErr-weaker, on_ok_weaker}
 use Rattle.mpm_base.specs.Count.{next_count}
-use Rattle.mpm_base.specs.Front.{FrontCounts, FrontSeen, FrontTold, TellsOn, after_turning_away, after_watch}
+use Rattle.mpm_base.specs.Front.{FrontSeen, TellsOn}
 use Rattle.mpm_base.specs.Link.{LinkTold}
 use Rattle.mpm_base.specs.declared.conn.ConnName.{ConnName}
 use Rattle.mpm_base.specs.declared.conn.Tail.TheVariants.{Direct}
-use Rattle.conn_machine.specs.declared.event.Event.{Event}
 use Rattle.conn_machine.specs.declared.event.Event.TheVariants as event
-use Rattle.conn_machine.specs.declared.folded.Folded.{Folded}
-use Rattle.conn_machine.specs.declared.state.State.{State}
 use Rattle.conn_machine.specs.Folds.{opening_record}
 use Rattle.conn_machine.specs.Frames.{Frame, OwnEventsTellTheFrame, OwnEventsTellWhatWasTaken, frame_of, frames}
 use Rattle.conn_machine.specs.Made.{AreMade}
@@ -17,9 +14,7 @@ use Rattle.conn_machine.specs.Runs.{after, own_events}
 use Rattle.conn_machine.specs.States.{is_halted}
 use Rattle.table_rule.specs.declared.view.Origin.{Origin}
 use Rattle.table_rule.specs.declared.view.View.{View}
-use Rattle.board_book.specs.Book.{SeenBook}
 use Rattle.board_book.specs.Editions.{orders_in}
-use Rattle.board_book.specs.Faults.{IsRefusedFor}
 use Rattle.board_book.specs.declared.faults.BoardFault.{BoardFault}
 use Rattle.board_book.specs.declared.faults.BoardFault.TheVariants as fault
 use Rattle.board_turns.specs.Books.{book_of, state_of}
@@ -54,7 +49,7 @@ err_tells (Ok x) P tells err = tt
 err_tells (Err e) P tells err = tells e err
 
 -- a connection that was taken and given up
-given_did : (name : ConnName) (why : BoardFault) (a b : View) → TakesUntil name why a b → Did (event.Accept name.slot ∷ give_up_events why name) None a b
+pub given_did : (name : ConnName) (why : BoardFault) (a b : View) → TakesUntil name why a b → Did (event.Accept name.slot ∷ give_up_events why name) None a b
 given_did name why a b g =
     did_turns (event.Accept name.slot ∷ give_up_events why name) None a b
     (more_turns (event.Accept name.slot ∷ []) (give_up_events why name) a g.between b g.took g.given_up) g.row

@@ -1,11 +1,9 @@
 -- What the listener's events leave as it was: how many orders there were, and which connections were taken.
-use Rattle.std.proofs.Common.{◌≡◌, ℕ, ◌+◌, true, false, List, [], ◌++◌, count_by, None, Option, refl, sym, ap, subst, ◌∙◌, append-nil, arith}
+use Rattle.std.proofs.Common.{◌≡◌, ℕ, ◌+◌, true, List, [], ◌++◌, count_by, None, Option, refl, sym, ap, subst, ◌∙◌, append-nil, arith}
 use Rattle.std.proofs.lemmas.Grind.{flat_map-append}
 use Rattle.std.proofs.lemmas.List.{append_cancel_left}
 use Rattle.std.proofs.lemmas.List.Elements.{filter-append}
 use Rattle.mpm_base.specs.declared.conn.ConnName.{ConnName}
-use Rattle.conn_machine.specs.declared.event.Commanded.{Commanded}
-use Rattle.conn_machine.specs.declared.event.Commanded.TheVariants as commanded
 use Rattle.conn_machine.specs.declared.event.Entry.{Entry}
 use Rattle.conn_machine.specs.declared.event.Event.{Event}
 use Rattle.conn_machine.specs.declared.event.Event.TheVariants as event
@@ -24,7 +22,7 @@ use Rattle.listener_round.specs.Watched.{accepted_names, names_given}
 use Rattle.listener_round.proofs.NobodyLemmas.{TakesNobody, TakesNone, unnamed}
 use Rattle.listener_engine.specs.Ordered.{OwnEventsTellTheOrders}
 use Rattle.listener_engine.specs.Own.{own_of}
-use Rattle.listener_engine.proofs.StandingLemmas.{AreSilent, count_more, is_command, silent_count, silent_order}
+use Rattle.listener_engine.proofs.StandingLemmas.{AreSilent, count_more, silent_count, silent_order}
 use Rattle.listener_engine.proofs.TakenLemmas.{names_own, own_since}
 
 -- the listener's own events behind a part
@@ -34,7 +32,7 @@ own_behind events has a b number did = subst (λ (p : ℕ). own_events p b.seen 
 -- ## Orders
 
 -- the listener alone takes and refuses orders
-order_own : (e : Event) → is_order e ≡ true → is_listeners e ≡ true
+pub order_own : (e : Event) → is_order e ≡ true → is_listeners e ≡ true
 order_own (event.Accept slot) is = refl
 order_own (event.Park name kind) is = absurd (cc is)
 order_own (event.Hold name) is = refl
@@ -66,6 +64,18 @@ orders_kept law events has a b is is' silent did =
     let behind : count_by is_order (own_of b) ≡ count_by is_order (own_of a ++ events) =
     ap (count_by is_order) (own_behind events has a b is.number did) in
     omega (arith, orders_own law a is, orders_own law b is', more, none, behind)
+
+-- where none was made there are as many in the whole history
+pub ordered_same : OwnEventsTellTheOrders → (a b : View) → IsMade a → IsMade b → Did [] None a b
+    → count_events is_order b.seen ≡ count_events is_order a.seen
+ordered_same law a b is is' did =
+    let first : count_events is_order a.seen ≡ count_by is_order (own_of a) =
+    law.counted is_order a.origin.state (opening_record a.origin.passes) a.seen order_own is.made in
+    let all : count_events is_order b.seen ≡ count_by is_order (own_of b) =
+    law.counted is_order b.origin.state (opening_record b.origin.passes) b.seen order_own is'.made in
+    let own : count_by is_order (own_of b) ≡ count_by is_order (own_of a) =
+    ap (count_by is_order) (own_behind [] None a b is.number did ∙ append-nil (own_of a)) in
+    omega (arith, first, all, own)
 
 -- ## Connections
 

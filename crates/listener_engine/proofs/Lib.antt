@@ -1,5 +1,6 @@
 pub mod AnswerLemmas
 pub mod ArrivalLemmas
+pub mod BreakLemmas
 pub mod BrokenLemmas
 pub mod BroughtLemmas
 pub mod CommandLemmas

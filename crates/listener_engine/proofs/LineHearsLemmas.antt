@@ -1,5 +1,5 @@
 -- What is heard of each line that the listener reads: how it was done, and what it was answered.
-use Rattle.std.proofs.Common.{◌≡◌, ◌≢◌, ◌⊎◌, ◌+◌, inl, inr, ℕ, Bool, true, false, ◌&&◌, cond, List, [], ◌∷◌, count_by, Option, None, Some, refl, sym, ap, subst, ◌∙◌, arith}
+use Rattle.std.proofs.Common.{◌≡◌, ◌≢◌, inl, inr, ℕ, Bool, true, false, ◌&&◌, cond, List, [], ◌∷◌, count_by, Option, None, Some, refl, sym, ap, subst, ◌∙◌, arith}
 use Rattle.std.proofs.lemmas.List.Sums.{sum_by-cons}
 use Rattle.mpm_base.specs.CommandWord.{command_word}
 use Rattle.mpm_base.specs.Count.{NeverFalls}
@@ -22,7 +22,7 @@ use Rattle.run_report.specs.EndingsInside.{WritesAll}
 use Rattle.listener_parts.specs.Did.{Did}
 use Rattle.listener_parts.proofs.DidLemmas.{did_nothing}
 use Rattle.listener_round.specs.Heard.{asks_for_state, asks_to_restart}
-use Rattle.listener_round.specs.HeardInside.{WritesOn, never_answered, stop_unanswered}
+use Rattle.listener_round.specs.HeardInside.{WritesOn, stop_unanswered}
 use Rattle.listener_round.specs.LineAnswers.{IsAnswerTo}
 use Rattle.listener_round.specs.LineAnswers.IsAnswerTo.{restarted, refused, ends, ends_already, told, unknown}
 use Rattle.listener_round.specs.OrdersInside.{MayHush}
@@ -31,7 +31,7 @@ use Rattle.listener_round.proofs.HeardLineLemmas.{heard-answer, heard-command, h
 use Rattle.listener_round.proofs.LineLemmas.{other-word}
 use Rattle.listener_round.proofs.OpenLemmas.{state_text}
 use Rattle.listener_round.proofs.WrittenLemmas.{writes-none, writes-text}
-use Rattle.listener_engine.specs.Hearing.{Hears, HearsUntil, hearing}
+use Rattle.listener_engine.specs.Hearing.{Hears, hearing}
 use Rattle.listener_engine.specs.Lines.{AnswersBegin, AnswersRefused, AnswersRestart, DoesEnding}
 use Rattle.listener_engine.specs.Ordered.{OwnEventsTellTheOrders}
 use Rattle.listener_engine.specs.Standing.{Standing, standing}

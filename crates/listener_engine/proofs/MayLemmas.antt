@@ -8,6 +8,7 @@ use Rattle.conn_machine.specs.declared.child.Child.{Child}
 use Rattle.conn_machine.specs.declared.event.Entry.{Entry}
 use Rattle.conn_machine.specs.declared.event.Event.{Event}
 use Rattle.conn_machine.specs.declared.event.Event.TheVariants as event
+use Rattle.conn_machine.specs.declared.state.Going.{Going}
 use Rattle.conn_machine.specs.declared.state.State.{State}
 use Rattle.conn_machine.specs.Children.{is_empty}
 use Rattle.conn_machine.specs.Folds.{opening_record}
@@ -16,7 +17,7 @@ use Rattle.conn_machine.specs.HistoryLaws.{HistoriesKeepSizes}
 use Rattle.conn_machine.specs.Made.{AreMade}
 use Rattle.conn_machine.specs.Table.{next}
 use Rattle.conn_machine.specs.Runs.{after, own_events}
-use Rattle.conn_machine.specs.States.{is_over, is_serving, is_staffed}
+use Rattle.conn_machine.specs.States.{is_at_its_end, is_halted, is_over, is_serving, is_staffed}
 use Rattle.table_rule.specs.declared.view.Origin.{Origin}
 use Rattle.table_rule.specs.declared.view.View.{View}
 use Rattle.board_book.specs.Finds.{startable}
@@ -28,7 +29,7 @@ use Rattle.listener_parts.specs.Times.{MayPassTo, MaySignal}
 use Rattle.listener_parts.proofs.PartTimeLemmas.{IsMade}
 use Rattle.rounds.specs.TableInside.{StandsInTime}
 use Rattle.rounds.proofs.StaffLemmas.{some-children, staffed-start, staffed-started}
-use Rattle.rounds.proofs.TimelyLemmas.{not-at_end}
+use Rattle.rounds.proofs.TimelyLemmas.{not-at_end, not-at_end_serving}
 
 no_later : (m answer : ℕ) → m ≡ greatest_moment → ticks_to m (moment_for answer) ≡ []
 no_later m answer is = grind (arith, nat_tests, is)
@@ -83,7 +84,7 @@ at_once_on to events a b d did ticks =
 
 -- ## Behind children that were started
 
-frame_did : OwnEventsTellTheFrame → (events : List Event) (a b : View) → IsMade a → IsMade b → Did events None a b
+pub frame_did : OwnEventsTellTheFrame → (events : List Event) (a b : View) → IsMade a → IsMade b → Did events None a b
     → frame_of (state_of b) ≡ frames (frame_of (state_of a)) events
 frame_did law events a b is is' did =
     let first = opening_record a.origin.passes in
@@ -116,6 +117,25 @@ staffed_round law sizes e g h is is' starts origin staffed gone going none bound
   by false off =
       subst staffs (sym (frame_did law (map event.StartChild starts.children) g h is is' starts.did))
       (staffed_frames law (state_of g) starts.children (gone (ap is_serving (sym going) ∙ off)))
+
+-- where one of them could not be started, such a stop isn't at its end either
+pub unended_round : OwnEventsTellTheFrame → (g h : View) → IsMade g → IsMade h → (starts : StartsEach g h)
+    → (is_serving (state_of g).going ≡ false → is_staffed (state_of g) ≡ true) → (state_of h).going ≡ (state_of g).going → is_at_its_end (state_of h) ≡ false
+unended_round law g h is is' starts gone going = by (is_serving (state_of h).going) refl where
+  by : (serves : Bool) → is_serving (state_of h).going ≡ serves → is_at_its_end (state_of h) ≡ false
+  by true serves = not-at_end_serving (state_of h) serves
+  by false off =
+      not-at_end (state_of h)
+      (subst staffs (sym (frame_did law (map event.StartChild starts.children) g h is is' starts.did))
+      (staffed_frames law (state_of g) starts.children (gone (ap is_serving (sym going) ∙ off))))
+
+-- nor is it behind what leaves the children alone
+pub unended_on : (a b : State) → LeavesAlone a b → is_at_its_end a ≡ false → is_at_its_end b ≡ false
+unended_on a b rest before =
+    let going : is_at_its_end b ≡ (not (is_serving a.going) && not (is_halted a.going) && not (is_staffed b)) =
+    ap (λ (x : Going). not (is_serving x) && not (is_halted x) && not (is_staffed b)) rest.stands.going in
+    let children : is_staffed b ≡ is_staffed a = ap (list_any (λ (x : Child). not (is_empty x.phase))) rest.children in
+    going ∙ ap (λ (x : Bool). not (is_serving a.going) && not (is_halted a.going) && not x) children ∙ before
 
 -- ## Behind the last look
 

@@ -1,5 +1,5 @@
 -- Parts of a round that make no command and take no connection: how a run stands, what is known, counted, heard and watched behind them.
-use Rattle.std.proofs.Common.{◌≡◌, ℕ, Bool, List, [], ◌∷◌, ◌++◌, count_by, length, map, None, Option, refl, sym, ap, ◌∙◌}
+use Rattle.std.proofs.Common.{◌≡◌, ℕ, Bool, List, [], ◌∷◌, ◌++◌, count_by, length, map, None, Option, refl, ap, ◌∙◌}
 use Rattle.mpm_base.specs.Front.{FrontCounts, FrontSeen, FrontTold}
 use Rattle.mpm_base.specs.Sink.{SinkSeen}
 use Rattle.mpm_base.specs.Store.{StoreSeen, StoreTold}
@@ -69,7 +69,7 @@ quiet_more a b d first second = record {
 }
 
 -- of its events
-quiet_as : (events : List Event) (a b : View) → AreSilent events → TakesNone events → Did events None a b → StandsAs (state_of a) (state_of b) → KeepsTime a b
+pub quiet_as : (events : List Event) (a b : View) → AreSilent events → TakesNone events → Did events None a b → StandsAs (state_of a) (state_of b) → KeepsTime a b
     → Quiet a b
 quiet_as events a b silent nobody did stands timely = record {
   events = events;
@@ -84,11 +84,11 @@ quiet_as events a b silent nobody did stands timely = record {
 
 -- ## The parts of a round
 
-none_gone : (gone : List Departure) → TakesNone (gone_events gone)
+pub none_gone : (gone : List Departure) → TakesNone (gone_events gone)
 none_gone [] = refl
 none_gone (l ∷ gone) = none-both (departure_events l) (gone_events gone) (none-left l.way l.name) (none_gone gone)
 
-none_departures : (l : Departures) → TakesNone (departures_events l)
+pub none_departures : (l : Departures) → TakesNone (departures_events l)
 none_departures l =
     none-both (gone_events l.retiring ++ gone_events l.cut) (gone_events l.drained)
     (none-both (gone_events l.retiring) (gone_events l.cut) (none_gone l.retiring) (none_gone l.cut)) (none_gone l.drained)

@@ -1,5 +1,5 @@
 -- What a restart and a graceful stop do: what the listener did, and how the run stands then.
-use Rattle.std.proofs.Common.{◌≡◌, ◌⊎◌, inl, inr, ◌≤◌, ◌+◌, ℕ, suc, Bool, true, false, not, ◌&&◌, cond, List, [], ◌∷◌, ◌++◌, count_by, nat_lt, None, Option, Some, option_map, IfSome, Result, Ok, Err, IfOk, OnErr, OnOk, refl, sym, ap, subst, ◌∙◌, arith}
+use Rattle.std.proofs.Common.{◌≡◌, inl, inr, ◌≤◌, ◌+◌, ℕ, suc, Bool, true, false, not, ◌&&◌, cond, List, [], ◌∷◌, ◌++◌, count_by, nat_lt, None, Option, Some, option_map, IfSome, Result, Ok, Err, IfOk, OnErr, OnOk, refl, sym, ap, subst, ◌∙◌, arith}
 use Rattle.std.proofs.lemmas.Bool.Decides.{nat_tests}
 use Rattle.std.specs.List.{list_any}
 use Rattle.mpm_base.specs.CommandWord.{command_word}
@@ -26,7 +26,6 @@ use Rattle.conn_state.specs.Known.{KnownOutside}
 use Rattle.table_rule.specs.declared.view.View.{View}
 use Rattle.board_book.specs.Editions.{orders_in}
 use Rattle.board.specs.Editions.{GenerationsKeepTheirEditions, IsOfGeneration}
-use Rattle.board_book.specs.declared.faults.BoardFault.{BoardFault}
 use Rattle.board_turns.specs.Books.{book_of, state_of}
 use Rattle.restart_control.specs.Reload.{HasCause, IsPlan}
 use Rattle.restart_control.specs.declared.plan.Plan.{Plan}
@@ -38,7 +37,7 @@ use Rattle.listener_parts.specs.Did.{Did}
 use Rattle.listener_parts.specs.Orders.{DoesNoOrder, DoesOrder}
 use Rattle.listener_parts.proofs.DidLemmas.{edition_on}
 use Rattle.listener_parts.proofs.PartTimeLemmas.{IsMade}
-use Rattle.listener_round.specs.Generations.{Opening, config_at, head_limits_of, renewed}
+use Rattle.listener_round.specs.Generations.{Opening, config_at, renewed}
 use Rattle.listener_round.specs.Orders.{HasShape, HasSite, IsRefusedAs, ending_by, ending_moment, may_begin, shape_by}
 use Rattle.listener_round.specs.OrdersInside.{AnswersRefusal, KnowsComing, MakesOrders, ServesNewest, reason_for}
 use Rattle.listener_round.specs.StandingInside.{HasTimeout}
@@ -50,10 +49,10 @@ use Rattle.listener_round.proofs.OrderStandLemmas.{IsRenewedOnce, once-more, ris
 use Rattle.listener_round.proofs.PlanLemmas.{cause-of_order, config-of_order, knows-renewed, serves-plan, shape-of_order, site-of_order, timeout-of_order}
 use Rattle.listener_round.proofs.RestartLemmas.{in_time-ending, renewed-once}
 use Rattle.listener_round.proofs.StandingLemmas.{SameLines}
-use Rattle.listener_engine.specs.Lines.{AnswersPlan, AnswersRestart, Begins, Carries, DoesOrders, LacksMemory, Refuses}
-use Rattle.listener_engine.specs.Ordered.{IsDoneAt, IsRefusedAt, edition_behind}
+use Rattle.listener_engine.specs.Lines.{AnswersPlan, AnswersRestart, Begins, Carries, DoesOrders, Refuses}
+use Rattle.listener_engine.specs.Ordered.{IsRefusedAt, edition_behind}
 use Rattle.listener_engine.specs.Own.{own_of}
-use Rattle.listener_engine.specs.Standing.{BreaksBehind, Standing, StandsBehind, StandsBroken, StandsOn, StandsSo, standing}
+use Rattle.listener_engine.specs.Standing.{BreaksBehind, StandsBehind, StandsBroken, StandsOn, StandsSo, standing}
 use Rattle.listener_engine.proofs.BroughtLemmas.{brought_as}
 use Rattle.listener_engine.proofs.CommandLemmas.{OwnsSame, stands_ending, stands_front, stands_line, stands_order, stands_unordered}
 use Rattle.listener_engine.proofs.KeptLemmas.{own_behind}

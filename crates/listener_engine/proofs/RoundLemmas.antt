@@ -1,8 +1,5 @@
 -- The listener's events of a whole round, part by part.
-use Rattle.std.proofs.Common.{◌≡◌, inl, inr, ℕ, List, [], ◌∷◌, ◌++◌, length, map, None, Option, refl, sym, ap, subst, ◌∙◌, append-nil}
-use Rattle.std.specs.List.{flat_map}
-use Rattle.conn_machine.specs.declared.event.Commanded.{Commanded}
-use Rattle.conn_machine.specs.declared.event.Event.{Event}
+use Rattle.std.proofs.Common.{◌≡◌, inl, inr, ℕ, List, [], ◌++◌, length, map, None, refl, sym, ap, ◌∙◌, append-nil}
 use Rattle.conn_machine.specs.declared.event.Event.TheVariants as event
 use Rattle.conn_machine.specs.HistoryLaws.{HistoriesKeepSizes}
 use Rattle.table_rule.specs.declared.view.Origin.{Origin}
@@ -11,28 +8,26 @@ use Rattle.board_book.specs.declared.faults.BoardFault.{BoardFault}
 use Rattle.board_book.specs.Faults.{IsRefusedFor}
 use Rattle.board_book.specs.Moments.{known_slots, ticks_to}
 use Rattle.board_turns.specs.Books.{book_of, state_of}
-use Rattle.listener_turns.specs.Signals.{ready_events}
 use Rattle.listener_parts.specs.Did.{Did}
-use Rattle.listener_parts.specs.Letting.{AreLetGo, Departure, Departures, GivesUpDrained, IsLateWay, LetsGo, LetsGoOfConns, LetsGoUntil, departures_events, gone_events}
-use Rattle.listener_parts.specs.Rounds.{PassesTime, RetiresSome, Signals, SignalsSome, StartsEach, time_events}
+use Rattle.listener_parts.specs.Letting.{AreLetGo, Departures, LetsGoOfConns, departures_events}
+use Rattle.listener_parts.specs.Rounds.{PassesTime, RetiresSome, Signals, StartsEach, time_events}
 use Rattle.listener_parts.proofs.DidLemmas.{did_as, did_more, did_no_more, did_nothing}
-use Rattle.listener_round.specs.RoundInside.{NoneHalts}
-use Rattle.listener_round.specs.Pace.{Brought, brought, signalled, ticked}
-use Rattle.listener_engine.specs.Lines.{DoesOrders, DoesUntil}
-use Rattle.listener_engine.specs.Rounds.{AreWays, BreaksOff, EndsRound, EndsWithLines, EndsWithRetiring, FailsTaking, GoesRound, Intake, Round, TakesSome, TakesSomeUntil, intake_events, round_events}
+use Rattle.listener_round.specs.Pace.{brought, signalled, ticked}
+use Rattle.listener_engine.specs.Lines.{DoesOrders}
+use Rattle.listener_engine.specs.Rounds.{AreWays, EndsRound, EndsWithLines, EndsWithRetiring, GoesRound, Intake, Round, TakesSome, round_events}
 use Rattle.listener_engine.proofs.BroughtLemmas.{brings_both, brings_first, brings_readies, brings_time, brought_as, unbrought_departures}
 
 -- ## The front of a round
 
 -- nothing of a part
-abbrev no_departures : Departures
+abbrev pub no_departures : Departures
 no_departures = record { retiring = []; cut = []; drained = [] }
 
-none_let_go : AreLetGo no_departures
+pub none_let_go : AreLetGo no_departures
 none_let_go = record { retiring = tt; cut = tt; drained = tt }
 
 -- what a table has of slots, of whatever the pass has seen
-same_slots : HistoriesKeepSizes → (slots : List ℕ) (old new : View) → new.origin ≡ old.origin
+pub same_slots : HistoriesKeepSizes → (slots : List ℕ) (old new : View) → new.origin ≡ old.origin
     → known_slots (length (state_of new).rows) slots ≡ known_slots (length old.origin.state.rows) slots
 same_slots sizes slots old new origin =
     ap (λ n. known_slots n slots)

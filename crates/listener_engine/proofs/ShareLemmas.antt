@@ -1,5 +1,5 @@
 -- What the parts of a round make of what came with a wait, by what each of them brings.
-use Rattle.std.proofs.Common.{◌≡◌, ◌+◌, ℕ, List, [], ◌∷◌, ◌++◌, length, map, replicate, Option, None, Some, refl, sym, ap, subst, ◌∙◌, append-nil, append_assoc, arith}
+use Rattle.std.proofs.Common.{◌≡◌, ◌+◌, ℕ, List, [], ◌++◌, length, map, replicate, Option, None, Some, refl, sym, ap, subst, ◌∙◌, append-nil, append_assoc, arith}
 use Rattle.std.proofs.lemmas.List.{map-append}
 use Rattle.mpm_base.specs.Front.{FrontTold, TellsOn}
 use Rattle.mpm_base.specs.declared.script_line.CommandWord.{CommandWord}

@@ -63,16 +63,16 @@ silent_both [] b first second = second
 silent_both (e ∷ a) b first second = (first.0, silent_both a b first.1 second)
 
 -- what a silent event leaves
-record LeavesOrders (o : Opening) (orders edition : ℕ) (f : Frame) (e : Event) : Type 0 where
-  ordered : IsOrderedAt o orders edition f e
-  orders_are : orders_with e orders ≡ orders
-  edition_is : edition_with e orders edition ≡ edition
-  by_line : is_by_line e ≡ false
-  graceful : is_graceful_stop e ≡ false
-  order : is_order e ≡ false
-  refusal : is_store_refusal e ≡ false
+pub record LeavesOrders (o : Opening) (orders edition : ℕ) (f : Frame) (e : Event) : Type 0 where
+  pub ordered : IsOrderedAt o orders edition f e
+  pub orders_are : orders_with e orders ≡ orders
+  pub edition_is : edition_with e orders edition ≡ edition
+  pub by_line : is_by_line e ≡ false
+  pub graceful : is_graceful_stop e ≡ false
+  pub order : is_order e ≡ false
+  pub refusal : is_store_refusal e ≡ false
 
-silent_one : (o : Opening) (orders edition : ℕ) (f : Frame) (e : Event) → is_command e ≡ false → LeavesOrders o orders edition f e
+pub silent_one : (o : Opening) (orders edition : ℕ) (f : Frame) (e : Event) → is_command e ≡ false → LeavesOrders o orders edition f e
 silent_one o orders edition f (event.Accept slot) silent = record { ordered = tt; orders_are = refl; edition_is = refl; by_line = refl; graceful = refl; order = refl; refusal = refl }
 silent_one o orders edition f (event.Park name kind) silent = record { ordered = tt; orders_are = refl; edition_is = refl; by_line = refl; graceful = refl; order = refl; refusal = refl }
 silent_one o orders edition f (event.Hold name) silent = record { ordered = tt; orders_are = refl; edition_is = refl; by_line = refl; graceful = refl; order = refl; refusal = refl }
@@ -103,7 +103,7 @@ silent_order (event.StartChild k) silent = refl
 silent_order (event.Command c) silent = absurd (cc silent)
 silent_order (event.Retire k) silent = refl
 
-silent_ordered : (o : Opening) (orders edition : ℕ) (f : Frame) (events : List Event) → AreSilent events → AreOrderedFrom o orders edition f events
+pub silent_ordered : (o : Opening) (orders edition : ℕ) (f : Frame) (events : List Event) → AreSilent events → AreOrderedFrom o orders edition f events
 silent_ordered o orders edition f [] silent = tt
 silent_ordered o orders edition f (e ∷ events) silent =
     let one = silent_one o orders edition f e silent.0 in
@@ -120,7 +120,7 @@ pub silent_count : (test : Event → Bool) → ((e : Event) → is_command e ≡
 silent_count test none [] silent = refl
 silent_count test none (e ∷ events) silent = rw (none e silent.0, silent_count test none events silent.1) refl
 
-silent_any : (test : Event → Bool) → ((e : Event) → is_command e ≡ false → test e ≡ false) → (events : List Event) → AreSilent events → list_any test events ≡ false
+pub silent_any : (test : Event → Bool) → ((e : Event) → is_command e ≡ false → test e ≡ false) → (events : List Event) → AreSilent events → list_any test events ≡ false
 silent_any test none [] silent = refl
 silent_any test none (e ∷ events) silent = rw (none e silent.0, silent_any test none events silent.1) refl
 

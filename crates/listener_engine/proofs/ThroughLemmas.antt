@@ -1,5 +1,5 @@
 -- Connections that were taken: how a run stands, what is known, served by and heard behind them.
-use Rattle.std.proofs.Common.{◌≡◌, ℕ, Bool, List, [], count_by, None, Option, refl, sym, ap, subst, ◌∙◌}
+use Rattle.std.proofs.Common.{ℕ, Bool, List, [], None, Option, refl, sym, ap, subst, ◌∙◌}
 use Rattle.std.specs.List.{flat_map}
 use Rattle.mpm_base.specs.Front.{FrontSeen}
 use Rattle.mpm_base.specs.Sink.{SinkSeen}
@@ -32,7 +32,7 @@ use Rattle.listener_engine.proofs.HearsLemmas.{hears_kept}
 use Rattle.listener_engine.proofs.KeptLemmas.{own_behind}
 use Rattle.listener_engine.proofs.RestartLemmas.{serves_on}
 use Rattle.listener_engine.proofs.SilentLemmas.{silent_takes}
-use Rattle.listener_engine.proofs.StandingLemmas.{silent_count, silent_order, stands_silent}
+use Rattle.listener_engine.proofs.StandingLemmas.{AreSilent, silent_count, silent_order, stands_silent}
 use Rattle.listener_parts.proofs.OrderLemmas.{made_front}
 
 -- what was seen before was made too
@@ -47,16 +47,26 @@ made_before events a b did is =
           (subst (AreMade a.origin.state (opening_record a.origin.passes)) did.goes_on.1 at_end);
     }
 
+-- whatever the listener made, which was no command, and asked the front for
+module _ (f f' : FrontSeen) (a b : View) (is : IsMade a) (is' : IsMade b) (from : TakesFrom f f' a b) (events : List Event) (silent : AreSilent events) (did : Did events None a b) where
+  pub from_stands : (c : NamedConfig) (ms : ℕ) (s : StoreSeen) → StandsOn c 0 0 (standing ms s f a) (standing ms s f' b)
+  from_stands c ms s o n opened stood =
+      stands_front o n 0 0 ms s f f' b from.follows.commands
+      (stands_silent o n events (standing ms s f a) (standing ms s f b) (own_behind events None a b is.number did) silent
+      (record { stop_ms = refl; store = refl; commands = refl; origin = did.origin; serving = ap is_serving from.rest.stands.going }) stood)
+
+  pub from_heard : OwnEventsTellTheOrders → (c : NamedConfig) (made : List Brought) (old : Hearing) (ms : ℕ) (s : StoreSeen) (out : SinkSeen) (written : Bool)
+      → Hears c made None old (hearing (standing ms s f a) out written) → Hears c made None old (hearing (standing ms s f' b) out written)
+  from_heard law c made old ms s out written hears =
+      hears_kept law c events (standing ms s f a) (standing ms s f' b) is.number is.made is'.made did (silent_count is_order silent_order events silent) made old
+      out written from.heard hears
+
 module _ (f f' : FrontSeen) (a b : View) (is : IsMade a) (is' : IsMade b) (t : TakesIn f f' a b) where
   abbrev events_taken : List Event
   events_taken = flat_map intake_events t.takes.takes
 
   pub taken_stands : (c : NamedConfig) (ms : ℕ) (s : StoreSeen) → StandsOn c 0 0 (standing ms s f a) (standing ms s f' b)
-  taken_stands c ms s o n opened stood =
-      stands_front o n 0 0 ms s f f' b t.from.follows.commands
-      (stands_silent o n events_taken (standing ms s f a) (standing ms s f b) (own_behind events_taken None a b is.number t.takes.did)
-      (silent_takes t.takes.takes)
-      (record { stop_ms = refl; store = refl; commands = refl; origin = t.takes.did.origin; serving = ap is_serving t.from.rest.stands.going }) stood)
+  taken_stands c ms s = from_stands f f' a b is is' t.from events_taken (silent_takes t.takes.takes) t.takes.did c ms s
 
   pub taken_knows : (known : Option KnownOutside) (c : NamedConfig) (told : Option StoreTold) → KnowsComing known (book_of a) c told
       → KnowsComing known (book_of b) c told
@@ -69,5 +79,4 @@ module _ (f f' : FrontSeen) (a b : View) (is : IsMade a) (is' : IsMade b) (t : T
   pub taken_heard : OwnEventsTellTheOrders → (c : NamedConfig) (made : List Brought) (old : Hearing) (ms : ℕ) (s : StoreSeen) (out : SinkSeen) (written : Bool)
       → Hears c made None old (hearing (standing ms s f a) out written) → Hears c made None old (hearing (standing ms s f' b) out written)
   taken_heard law c made old ms s out written hears =
-      hears_kept law c events_taken (standing ms s f a) (standing ms s f' b) is.number is.made is'.made t.takes.did
-      (silent_count is_order silent_order events_taken (silent_takes t.takes.takes)) made old out written t.from.heard hears
+      from_heard f f' a b is is' t.from events_taken (silent_takes t.takes.takes) t.takes.did law c made old ms s out written hears

@@ -5,6 +5,8 @@ ghost use Rattle.board_turns.specs.Books.{book_of, state_of};
 ghost use Rattle.mpm_base.specs.Count.{next_count};
 ghost use Rattle.mpm_base.specs.Front.{TellsOn};
 ghost use Rattle.conn_state.specs.Known.{IsOfClient};
+ghost use Rattle.conn_machine.specs.Folds.{opening_record};
+ghost use Rattle.conn_machine.specs.Made.{AreMade};
 ghost use Rattle.board_book.specs.Editions.{orders_in};
 ghost use Rattle.worker_group.specs.Service.{IsUp, RefusalLasts};
 ghost use Rattle.listener_turns.specs.Looks.{IsSeenIn};
@@ -63,6 +65,9 @@ impl<'a, 'c, M: Room, L: Link, N: Known, B: Bell, G: Gate> Listener<'a, 'c, M, L
         ensures step { OnOk result (IsInStep (F.seen front.new).told (state_of self.new.table)) }
         ensures seen { IfOk result (IsSeenIn (state_of self.new.table)) }
         ensures taken { OnOk result (TookAll (F.seen front.new).told (state_of self.new.table)) }
+        ensures number { self.new.table.who.number ≡ 0 }
+        ensures made { AreMade self.new.table.origin.state
+            (opening_record self.new.table.origin.passes) self.new.table.seen }
         ensures others { self.new ≡ record self.old { table = self.new.table } }
     {
         show_whole_histories();
@@ -94,6 +99,9 @@ impl<'a, 'c, M: Room, L: Link, N: Known, B: Bell, G: Gate> Listener<'a, 'c, M, L
         ensures seen { IfOk result (λ o. IfSome o (IsSeenIn (state_of self.new.table))) }
         ensures taken { IfOk result
             (λ o. IfSome o (λ _. TookAll (F.seen front.new).told (state_of self.new.table))) }
+        ensures number { self.new.table.who.number ≡ 0 }
+        ensures made { AreMade self.new.table.origin.state
+            (opening_record self.new.table.origin.passes) self.new.table.seen }
         ensures others { self.new ≡ record self.old { table = self.new.table } }
     {
         show_whole_histories();
@@ -140,7 +148,7 @@ impl<'a, 'c, M: Room, L: Link, N: Known, B: Bell, G: Gate> Listener<'a, 'c, M, L
             (λ fault. FailsTaking fault self.old.table self.new.table) }
         ensures makes { OnOk result (brought self.new.table.seen
             ≡ brought self.old.table.seen ++ taken ∷ []) }
-        ensures made { OnErr result (MakesOneAtMost (book_of self.old.table) (book_of self.new.table)) }
+        ensures one { OnErr result (MakesOneAtMost (book_of self.old.table) (book_of self.new.table)) }
         ensures handed { TellsOn (HandsMany 0) (F.seen front.old).told (F.seen front.new).told }
         ensures timely { KeepsTime self.old.table self.new.table }
         ensures rest { LeavesAlone (record (state_of self.old.table)
@@ -161,6 +169,9 @@ impl<'a, 'c, M: Room, L: Link, N: Known, B: Bell, G: Gate> Listener<'a, 'c, M, L
         ensures links { OnErr result
             (EndsTaking (L.seen link).told (F.seen front.old).told (F.seen front.new).told
             (state_of self.old.table) (state_of self.new.table)) }
+        ensures number { self.new.table.who.number ≡ 0 }
+        ensures made { AreMade self.new.table.origin.state
+            (opening_record self.new.table.origin.passes) self.new.table.seen }
         ensures others { self.new ≡ record self.old { table = self.new.table } }
         ensures err { IfErr result (λ fault. RefusalLasts fault (book_of self.new.table)) }
     {

@@ -9,6 +9,8 @@
 ghost use Rattle.std.specs.Prelude.{◌≡◌, ◌≤◌, None, false, max, IfOk, IfErr, IfSome, MatchResult, OnErr, OnOk};
 ghost use Rattle.board_turns.specs.Books.{book_of, state_of};
 ghost use Rattle.mpm_base.specs.Front.{TellsOn};
+ghost use Rattle.conn_machine.specs.Folds.{opening_record};
+ghost use Rattle.conn_machine.specs.Made.{AreMade};
 ghost use Rattle.conn_machine.specs.States.{is_at_its_end, is_over};
 ghost use Rattle.board_book.specs.Moments.{moment_for};
 ghost use Rattle.worker_group.specs.Service.{IsUp, RefusalLasts};
@@ -123,6 +125,9 @@ impl<'a, 'c, M: Room, L: Link, N: Known, B: Bell, G: Gate> Listener<'a, 'c, M, L
         ensures listens { IfSome (F.seen front.new).told
             (ListensAsServed (state_of self.new.table)) }
         ensures links { OnErr result (HandsOut (F.seen front.new).told (state_of self.new.table)) }
+        ensures number { self.new.table.who.number ≡ 0 }
+        ensures made { AreMade self.new.table.origin.state
+            (opening_record self.new.table.origin.passes) self.new.table.seen }
         ensures ready { self.new.ready ≡ self.old.ready }
         ensures config { self.new.config ≡ self.old.config }
         ensures err { IfErr result (λ fault. RefusalLasts fault (book_of self.new.table)) }

@@ -48,11 +48,11 @@ pub returns-clause-err : goal.returns-clause-err
 returns-clause-err g c = refused_for _ _ _ _ _ c.take-done.result c.show_whole_histories.ensures.frame (record { number = c.show.ensures.number; made = c.show.ensures.made }) (record { number = c.show-2.ensures.number; made = c.show-2.ensures.made }) c.take-done.ensures.rest c.take-done.ensures.fails
 
 pub take-done-requires-clause-fresh : goal.take-done-requires-clause-fresh
-take-done-requires-clause-fresh g c = IfSome_then _ c.requires.arrival (λ t arrives. arrives.fresh)
+take-done-requires-clause-fresh g c κs within = IfSome_then _ c.requires.arrival (λ t arrives. arrives.fresh)
 
 pub take-done-requires-clause-arrival : goal.take-done-requires-clause-arrival
-take-done-requires-clause-arrival g c = IfSome_then _ c.requires.arrival (λ t arrives. arrives.rank)
+take-done-requires-clause-arrival g c κs within = IfSome_then _ c.requires.arrival (λ t arrives. arrives.rank)
 
 pub take-done-requires-clause-serves : goal.take-done-requires-clause-serves
-take-done-requires-clause-serves g c =
+take-done-requires-clause-serves g c κs within =
     subst (λ (site : SeenSite). parts.ServesNewest g.N.Known.known c.args.self.now.table c.args.self.now.edition.limits site) (sym c.requires.site) c.requires.serves

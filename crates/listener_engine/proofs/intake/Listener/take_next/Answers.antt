@@ -28,27 +28,27 @@ returns-in_default-clause-breaks g c =
     (until_lacking fault.NoMemory (g.F.Front.seen c.args.front.now) c.look-look.new.self (did_nothing c.look-look.new.self None c.look-look.ensures.did.row) (record { going = ap is_halted c.look-look.ensures.rest.stands.going ∙ c.requires.up }) tt (hands-step (g.F.Front.seen c.args.front.now).told (state_of c.look-look.new.self) (step-kept (g.F.Front.seen c.args.front.now).told (state_of c.args.self.now.table) (state_of c.look-look.new.self) c.look-look.ensures.rest.stands.accepted c.look-look.ensures.rest.stands.going c.requires.step)))
 
 pub take-requires-clause-up : goal.take-requires-clause-up
-take-requires-clause-up g c =
+take-requires-clause-up g c κs within =
     ap is_halted c.look-look.ensures.rest.stands.going ∙ c.requires.up
 
 pub take-requires-clause-arrival : goal.take-requires-clause-arrival
-take-requires-clause-arrival g c =
+take-requires-clause-arrival g c κs within =
     arrives-next (g.F.Front.seen c.args.front.now).told (g.L.Link.seen c.in-Some.link).told (state_of c.look-look.new.self) c.in-Some.ensures.accepts.hands.1 (step-kept (g.F.Front.seen c.args.front.now).told (state_of c.args.self.now.table) (state_of c.look-look.new.self) c.look-look.ensures.rest.stands.accepted c.look-look.ensures.rest.stands.going c.requires.step)
 
 pub take-requires-clause-client : goal.take-requires-clause-client
-take-requires-clause-client g c =
+take-requires-clause-client g c κs within =
     handed-known g.N.Known.known (g.F.Front.seen c.args.front.now).told (g.L.Link.seen c.in-Some.link).told c.requires.named c.in-Some.ensures.accepts.hands.1
 
 pub take-requires-clause-tells : goal.take-requires-clause-tells
-take-requires-clause-tells g c =
+take-requires-clause-tells g c κs within =
     alike-mapped _ (g.F.Front.seen c.args.front.now).told (g.F.Front.seen c.accept.new.self).told (g.L.Link.seen c.in-Some.link).told c.in-Some.ensures.accepts.told_is (handed-tells (g.F.Front.seen c.args.front.now).told (g.L.Link.seen c.in-Some.link).told c.in-Some.ensures.accepts.hands.1)
 
 pub take-requires-clause-site : goal.take-requires-clause-site
-take-requires-clause-site g c =
+take-requires-clause-site g c κs within =
     c.in-Ok.ensures
 
 pub take-requires-clause-serves : goal.take-requires-clause-serves
-take-requires-clause-serves g c =
+take-requires-clause-serves g c κs within =
     serves_on c.show_whole_histories.ensures.editions g.N.Known.known [] c.args.self.now.table c.look-look.new.self c.args.self.now.edition c.look-look.ensures.did c.look-look.ensures.rest.stands.newest c.requires.serves
 
 pub returns-in_err-take-clause-breaks : goal.returns-in_err-take-clause-breaks

@@ -1,4 +1,4 @@
-use Rattle.std.proofs.Common.{inl, inr, ap, sym, ◌∙◌, rules}
+use Rattle.std.proofs.Common.{inl, ap, ◌∙◌, rules}
 use Rattle.conn_machine.specs.Frames.{Frame}
 use Rattle.command_answers.specs.Answers.{generation_answer}
 use Rattle.listener_engine.proofs.orders.Listener.begin.Goals as goal

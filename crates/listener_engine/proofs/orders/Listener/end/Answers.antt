@@ -1,7 +1,7 @@
-use Rattle.std.proofs.Common.{◌≡◌, ℕ, Bool, [], None, refl, sym, ap, subst, ◌∙◌, append-nil}
+use Rattle.std.proofs.Common.{ℕ, Bool, [], None, refl, sym, ap, subst, ◌∙◌, append-nil}
 use Rattle.conn_machine.specs.Frames.{Frame}
 use Rattle.conn_machine.specs.States.{is_halted, is_serving}
-use Rattle.board_turns.specs.Books.{book_of, state_of}
+use Rattle.board_turns.specs.Books.{book_of}
 use Rattle.listener_parts.proofs.DidLemmas.{did_nothing}
 use Rattle.listener_round.specs.Orders.{ending_moment}
 use Rattle.listener_round.specs.OrdersInside.{MakesOrders, end_if}

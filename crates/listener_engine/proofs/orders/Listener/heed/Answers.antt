@@ -1,4 +1,5 @@
 mod Lines
+mod Restarts
 use Rattle.std.proofs.Common.{◌≡◌, ◌∙◌, [], ◌∷◌, None, Some, arith, refl, rules}
 use Rattle.mpm_base.specs.CommandWord.{command_word}
 use Rattle.mpm_base.specs.declared.script_line.CommandWord.TheVariants as word
@@ -13,6 +14,7 @@ use Rattle.listener_engine.proofs.HeedLemmas.{stands_more, stands_none, stands_r
 use Rattle.listener_engine.proofs.LineHearsLemmas.{hears_none, hears_stop}
 use Rattle.listener_engine.proofs.orders.Listener.heed.Goals as goal
 use Rattle.listener_engine.proofs.orders.Listener.heed.Answers.Lines as lines
+use Rattle.listener_engine.proofs.orders.Listener.heed.Answers.Restarts as restarts
 
 pub restart-requires-clause-in_time : goal.restart-requires-clause-in_time
 restart-requires-clause-in_time g c κs within =
@@ -290,58 +292,58 @@ pub loop-init : goal.loop-init
 loop-init g c = lines.loop-init g c
 
 pub loop-preserved-in-Ok-Graceful : goal.loop-preserved-in-Ok-Graceful
-loop-preserved-in-Ok-Graceful g c = lines.loop-preserved-in-Ok-Graceful g c
+loop-preserved-in-Ok-Graceful g c = restarts.loop-preserved-in-Ok-Graceful g c
 
 pub returns-in_err-restart-in-Ok-Graceful-clause-until : goal.returns-in_err-restart-in-Ok-Graceful-clause-until
-returns-in_err-restart-in-Ok-Graceful-clause-until g c = lines.returns-in_err-restart-in-Ok-Graceful-clause-until g c
+returns-in_err-restart-in-Ok-Graceful-clause-until g c = restarts.returns-in_err-restart-in-Ok-Graceful-clause-until g c
 
 pub returns-in_err-restart-in-Ok-Graceful-clause-asks : goal.returns-in_err-restart-in-Ok-Graceful-clause-asks
-returns-in_err-restart-in-Ok-Graceful-clause-asks g c = lines.returns-in_err-restart-in-Ok-Graceful-clause-asks g c
+returns-in_err-restart-in-Ok-Graceful-clause-asks g c = restarts.returns-in_err-restart-in-Ok-Graceful-clause-asks g c
 
 pub returns-in_err-restart-in-Ok-Graceful-clause-timely : goal.returns-in_err-restart-in-Ok-Graceful-clause-timely
-returns-in_err-restart-in-Ok-Graceful-clause-timely g c = lines.returns-in_err-restart-in-Ok-Graceful-clause-timely g c
+returns-in_err-restart-in-Ok-Graceful-clause-timely g c = restarts.returns-in_err-restart-in-Ok-Graceful-clause-timely g c
 
 pub returns-in_err-restart-in-Ok-Graceful-clause-in_time : goal.returns-in_err-restart-in-Ok-Graceful-clause-in_time
-returns-in_err-restart-in-Ok-Graceful-clause-in_time g c = lines.returns-in_err-restart-in-Ok-Graceful-clause-in_time g c
+returns-in_err-restart-in-Ok-Graceful-clause-in_time g c = restarts.returns-in_err-restart-in-Ok-Graceful-clause-in_time g c
 
 pub returns-in_err-restart-in-Ok-Graceful-clause-stands : goal.returns-in_err-restart-in-Ok-Graceful-clause-stands
-returns-in_err-restart-in-Ok-Graceful-clause-stands g c = lines.returns-in_err-restart-in-Ok-Graceful-clause-stands g c
+returns-in_err-restart-in-Ok-Graceful-clause-stands g c = restarts.returns-in_err-restart-in-Ok-Graceful-clause-stands g c
 
 pub returns-in_err-restart-in-Ok-Graceful-clause-serves : goal.returns-in_err-restart-in-Ok-Graceful-clause-serves
-returns-in_err-restart-in-Ok-Graceful-clause-serves g c = lines.returns-in_err-restart-in-Ok-Graceful-clause-serves g c
+returns-in_err-restart-in-Ok-Graceful-clause-serves g c = restarts.returns-in_err-restart-in-Ok-Graceful-clause-serves g c
 
 pub returns-in_err-restart-in-Ok-Graceful-clause-up : goal.returns-in_err-restart-in-Ok-Graceful-clause-up
-returns-in_err-restart-in-Ok-Graceful-clause-up g c = lines.returns-in_err-restart-in-Ok-Graceful-clause-up g c
+returns-in_err-restart-in-Ok-Graceful-clause-up g c = restarts.returns-in_err-restart-in-Ok-Graceful-clause-up g c
 
 pub returns-in_err-restart-in-Ok-Graceful-clause-moment : goal.returns-in_err-restart-in-Ok-Graceful-clause-moment
-returns-in_err-restart-in-Ok-Graceful-clause-moment g c = lines.returns-in_err-restart-in-Ok-Graceful-clause-moment g c
+returns-in_err-restart-in-Ok-Graceful-clause-moment g c = restarts.returns-in_err-restart-in-Ok-Graceful-clause-moment g c
 
 pub returns-in_err-restart-in-Ok-Graceful-clause-accepted : goal.returns-in_err-restart-in-Ok-Graceful-clause-accepted
-returns-in_err-restart-in-Ok-Graceful-clause-accepted g c = lines.returns-in_err-restart-in-Ok-Graceful-clause-accepted g c
+returns-in_err-restart-in-Ok-Graceful-clause-accepted g c = restarts.returns-in_err-restart-in-Ok-Graceful-clause-accepted g c
 
 pub returns-in_err-restart-in-Ok-Graceful-clause-step : goal.returns-in_err-restart-in-Ok-Graceful-clause-step
-returns-in_err-restart-in-Ok-Graceful-clause-step g c = lines.returns-in_err-restart-in-Ok-Graceful-clause-step g c
+returns-in_err-restart-in-Ok-Graceful-clause-step g c = restarts.returns-in_err-restart-in-Ok-Graceful-clause-step g c
 
 pub returns-in_err-restart-in-Ok-Graceful-clause-unheeded : goal.returns-in_err-restart-in-Ok-Graceful-clause-unheeded
-returns-in_err-restart-in-Ok-Graceful-clause-unheeded g c = lines.returns-in_err-restart-in-Ok-Graceful-clause-unheeded g c
+returns-in_err-restart-in-Ok-Graceful-clause-unheeded g c = restarts.returns-in_err-restart-in-Ok-Graceful-clause-unheeded g c
 
 pub returns-in_err-restart-in-Ok-Graceful-clause-counts : goal.returns-in_err-restart-in-Ok-Graceful-clause-counts
-returns-in_err-restart-in-Ok-Graceful-clause-counts g c = lines.returns-in_err-restart-in-Ok-Graceful-clause-counts g c
+returns-in_err-restart-in-Ok-Graceful-clause-counts g c = restarts.returns-in_err-restart-in-Ok-Graceful-clause-counts g c
 
 pub returns-in_err-restart-in-Ok-Graceful-clause-heard : goal.returns-in_err-restart-in-Ok-Graceful-clause-heard
-returns-in_err-restart-in-Ok-Graceful-clause-heard g c = lines.returns-in_err-restart-in-Ok-Graceful-clause-heard g c
+returns-in_err-restart-in-Ok-Graceful-clause-heard g c = restarts.returns-in_err-restart-in-Ok-Graceful-clause-heard g c
 
 pub returns-in_err-restart-in-Ok-Graceful-clause-wakes : goal.returns-in_err-restart-in-Ok-Graceful-clause-wakes
-returns-in_err-restart-in-Ok-Graceful-clause-wakes g c = lines.returns-in_err-restart-in-Ok-Graceful-clause-wakes g c
+returns-in_err-restart-in-Ok-Graceful-clause-wakes g c = restarts.returns-in_err-restart-in-Ok-Graceful-clause-wakes g c
 
 pub returns-in_err-restart-in-Ok-Graceful-clause-follows : goal.returns-in_err-restart-in-Ok-Graceful-clause-follows
-returns-in_err-restart-in-Ok-Graceful-clause-follows g c = lines.returns-in_err-restart-in-Ok-Graceful-clause-follows g c
+returns-in_err-restart-in-Ok-Graceful-clause-follows g c = restarts.returns-in_err-restart-in-Ok-Graceful-clause-follows g c
 
 pub returns-in_err-restart-in-Ok-Graceful-clause-front : goal.returns-in_err-restart-in-Ok-Graceful-clause-front
-returns-in_err-restart-in-Ok-Graceful-clause-front g c = lines.returns-in_err-restart-in-Ok-Graceful-clause-front g c
+returns-in_err-restart-in-Ok-Graceful-clause-front g c = restarts.returns-in_err-restart-in-Ok-Graceful-clause-front g c
 
 pub returns-in_err-restart-in-Ok-Graceful-clause-watched : goal.returns-in_err-restart-in-Ok-Graceful-clause-watched
-returns-in_err-restart-in-Ok-Graceful-clause-watched g c = lines.returns-in_err-restart-in-Ok-Graceful-clause-watched g c
+returns-in_err-restart-in-Ok-Graceful-clause-watched g c = restarts.returns-in_err-restart-in-Ok-Graceful-clause-watched g c
 
 pub loop-preserved-in-Ok-GracefulStop : goal.loop-preserved-in-Ok-GracefulStop
 loop-preserved-in-Ok-GracefulStop g c = lines.loop-preserved-in-Ok-GracefulStop g c

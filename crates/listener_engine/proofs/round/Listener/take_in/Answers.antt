@@ -1,4 +1,6 @@
 mod Ended
+mod Refused
+mod RefusedBehind
 use Rattle.std.proofs.Common.{◌≡◌, ◌∙◌, ℕ, true, false, List, ap, subst, sym}
 use Rattle.conn_machine.specs.States.{is_halted, is_over, is_staffed}
 use Rattle.board_book.specs.Moments.{moment_for}
@@ -11,6 +13,8 @@ use Rattle.listener_engine.proofs.MayLemmas.{leaves_more, may_pass, may_signal, 
 use Rattle.listener_engine.proofs.QuietLemmas.{quiet_knows, quiet_lets, quiet_look, quiet_more, quiet_retires, quiet_serves, quiet_signals, quiet_starts, quiet_step, quiet_time}
 use Rattle.listener_engine.proofs.round.Listener.take_in.Goals as goal
 use Rattle.listener_engine.proofs.round.Listener.take_in.Answers.Ended as ended
+use Rattle.listener_engine.proofs.round.Listener.take_in.Answers.Refused as refused
+use Rattle.listener_engine.proofs.round.Listener.take_in.Answers.RefusedBehind as behind
 
 pub heed-requires-clause-in_time : goal.heed-requires-clause-in_time
 heed-requires-clause-in_time g c κs within =
@@ -108,6 +112,24 @@ take_all-requires-clause-step g c κs within =
     (quiet_look c.retire_all.new.self c.is_gone.new.self c.is_gone.ensures.did c.is_gone.ensures.rest c.is_gone.ensures.timely))
     (quiet_starts c.is_gone.new.self c.start_further.new.self c.start_further.ensures.starts c.start_further.ensures.rest c.start_further.ensures.timely) in
     quiet_step c.heed.new.self.table c.start_further.new.self moves (g.F.Front.seen c.heed.new.front).told c.heed.ensures.step
+
+pub returns-in_err-pass_time : goal.returns-in_err-pass_time
+returns-in_err-pass_time g c = refused.in_err-pass_time g c
+
+pub returns-in_err-signal : goal.returns-in_err-signal
+returns-in_err-signal g c = refused.in_err-signal g c
+
+pub returns-in_err-let_go_of_conns : goal.returns-in_err-let_go_of_conns
+returns-in_err-let_go_of_conns g c = refused.in_err-let_go_of_conns g c
+
+pub returns-in_err-asked : goal.returns-in_err-asked
+returns-in_err-asked g c = refused.in_err-asked g c
+
+pub returns-in_err-start_further : goal.returns-in_err-start_further
+returns-in_err-start_further g c = behind.in_err-start_further g c
+
+pub returns-in_err-look : goal.returns-in_err-look
+returns-in_err-look g c = behind.in_err-look g c
 
 pub returns-then-is_overdue : goal.returns-then-is_overdue
 returns-then-is_overdue g c = ended.then-is_overdue g c

@@ -1,0 +1,17 @@
+pub mod BegunLemmas
+pub mod BoardLemmas
+pub mod CountedLemmas
+pub mod CountedStartLemmas
+pub mod DownLemmas
+pub mod EndLemmas
+pub mod FirstLemmas
+pub mod LeftLemmas
+pub mod OverLemmas
+pub mod PatienceLemmas
+pub mod RunLemmas
+pub mod StartLemmas
+pub mod StoodLemmas
+pub mod TurnLemmas
+pub mod WholeLemmas
+pub mod WholeServedLemmas
+pub mod WholeTurnLemmas
