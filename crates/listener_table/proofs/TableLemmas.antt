@@ -1,12 +1,11 @@
 -- That a table stays one.
-use Rattle.std.proofs.Common.{◌≡◌, ℕ, zero, suc, ◌+◌, ◌++◌, max, Bool, true, false, not, ◌&&◌, if◌then◌else◌, List, [], ◌∷◌, length, None, Some, Option, nat_lt, append-nil, refl, sym, ap, subst, ◌∙◌, arith, ⊎_elim}
+use Rattle.std.proofs.Common.{◌≡◌, ℕ, zero, suc, ◌+◌, ◌++◌, max, Bool, true, false, not, ◌&&◌, if◌then◌else◌, List, [], ◌∷◌, length, None, Some, Option, append-nil, refl, sym, ap, subst, ◌∙◌, arith, ⊎_elim}
 use Rattle.std.specs.Prelude.{Result, IfErr, OnErr, OnOk, is_ok, slice_index}
 use Rattle.std.specs.declared.result.Result.TheVariants.{Ok, Err}
 use Rattle.atomic_table.specs.Table.{Me}
 use Rattle.mpm_base.specs.declared.shape.Shape.{Shape}
 use Rattle.mpm_base.specs.Front.{FrontSeen}
 use Rattle.mpm_base.specs.Link.{LinkTold}
-use Rattle.mpm_base.specs.Shape.{is_in_bounds}
 use Rattle.conn_machine.specs.declared.event.Commanded.TheVariants as commanded
 use Rattle.conn_machine.specs.declared.event.Event.{Event}
 use Rattle.conn_machine.specs.declared.event.Event.TheVariants as event
@@ -22,7 +21,6 @@ use Rattle.conn_machine.specs.Passes.{EachHasItsOwn}
 use Rattle.conn_machine.specs.Runs.{after, first_row, own_events}
 use Rattle.conn_machine.specs.Sound.{IsSound}
 use Rattle.conn_machine.specs.States.{is_halted, is_serving, is_staffed}
-use Rattle.conn_machine.specs.Table.{greatest_generation, is_allowed, is_not_past}
 use Rattle.conn_state.specs.Known.{KnownOutside}
 use Rattle.table_rule.specs.declared.view.Origin.{Origin}
 use Rattle.table_rule.specs.declared.view.View.{View}
@@ -250,34 +248,6 @@ ended_none false halted staffed is = absurd (cc is)
 pub serves_before : (s : State) → is_serving s.going ≡ true → is_ended_at (frame_of s) ≡ false
 serves_before s serving = ended_none (is_serving s.going) (is_halted s.going) (is_staffed s) serving
 
--- ## Which orders are allowed
-
-serves_on : (g : Going) → is_serving g ≡ true → not (is_halted g) ≡ true
-serves_on Serving is = refl
-serves_on (Ending until) is = absurd (cc)
-serves_on (Halted why) is = absurd (cc)
-
-both : (a b : Bool) → a ≡ true → b ≡ true → (a && b) ≡ true
-both true true is is' = refl
-both true false is is' = absurd (cc)
-both false b is is' = absurd (cc)
-
-pub may_begin : (s : State) (shape : Shape) → is_serving s.going ≡ true → nat_lt s.newest greatest_generation ≡ true → is_in_bounds shape ≡ true
-    → is_allowed s (event.Command (commanded.Graceful shape)) ≡ true
-may_begin s shape serving below bounds =
-    both (not (is_halted s.going)) (is_serving s.going && nat_lt s.newest greatest_generation && is_in_bounds shape) (serves_on s.going serving)
-    (both (is_serving s.going) (nat_lt s.newest greatest_generation && is_in_bounds shape) serving
-    (both (nat_lt s.newest greatest_generation) (is_in_bounds shape) below bounds))
-
-pub may_end : (s : State) (until : Option ℕ) → is_serving s.going ≡ true → is_not_past s.moment until ≡ true
-    → is_allowed s (event.Command (commanded.GracefulStop until)) ≡ true
-may_end s until serving past =
-    both (not (is_halted s.going)) (is_serving s.going && is_not_past s.moment until) (serves_on s.going serving)
-    (both (is_serving s.going) (is_not_past s.moment until) serving past)
-
-pub may_refuse : (s : State) (reason : Refusal) → is_halted s.going ≡ false → is_allowed s (event.Command (commanded.Refused reason)) ≡ true
-may_refuse s reason going = ap (λ (halted : Bool). not halted && true) going
-
 -- ## Opening
 
 same_lists : (xs ys : List ℕ) → length xs ≡ length ys → ((k : ℕ) → slice_index xs k ≡ slice_index ys k) → xs ≡ ys
@@ -306,27 +276,3 @@ module _ {S : Type 0} (laws : TableRestsOn) {known : Option KnownOutside} {me : 
 
   pub shown_row : row_in 0 (book_of me.0) ≡ None
   shown_row = laws.turns.opens me.0.origin.passes 0 me.0.seen ∙ sym t.listener.row_is ∙ t.none
-
--- ## Whether a server is gone
-
-pub gone_serves : (serves staffed gone : Bool) → gone ≡ (not serves && not staffed) → gone ≡ true → serves ≡ false
-gone_serves true staffed gone is yes =
-    let no : gone ≡ false = is in
-    absurd (cc (no, yes))
-gone_serves false staffed gone is yes = refl
-
-pub gone_empty : (serves staffed gone : Bool) → gone ≡ (not serves && not staffed) → gone ≡ true → staffed ≡ false
-gone_empty true staffed gone is yes =
-    let no : gone ≡ false = is in
-    absurd (cc (no, yes))
-gone_empty false true gone is yes =
-    let no : gone ≡ false = is in
-    absurd (cc (no, yes))
-gone_empty false false gone is yes = refl
-
-pub gone_staffed : (serves staffed gone : Bool) → gone ≡ (not serves && not staffed) → gone ≡ false → serves ≡ false → staffed ≡ true
-gone_staffed true staffed gone is no none = absurd (cc none)
-gone_staffed false true gone is no none = refl
-gone_staffed false false gone is no none =
-    let yes : gone ≡ true = is in
-    absurd (cc (no, yes))
