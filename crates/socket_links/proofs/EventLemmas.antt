@@ -29,6 +29,10 @@ pub has_more : (xs : List ℕ) (x slot : ℕ) → has_slot (xs ++ x ∷ []) slot
 has_more [] x slot = grind (arith)
 has_more (y ∷ ys) x slot = grind (arith, has_more ys x slot)
 
+-- whether a slot is among the first of a list, by whether it is before the last of these
+pub has_step : (xs : List ℕ) (i d slot : ℕ) → i < length xs → has_slot (take (i + 1) xs) slot ≡ (has_slot (take i xs) slot || (get_or xs i d == slot))
+has_step xs i d slot l = rw (take_more xs i d l) (has_more (take i xs) (get_or xs i d) slot)
+
 pub or_cases : (a b : Bool) → (a || b) ≡ true → (a ≡ true) ⊎ (b ≡ true)
 or_cases true b h = inl refl
 or_cases false b h = inr h

@@ -67,11 +67,16 @@ pub fn gives_slot(event: &Event, lacks_room: bool) -> bool
     lacks_room || !room_alone
 }
 
-/// Whether the slot is one of these.
+#[tactic(auto, using(crate::proofs::EventLemmas::has_step))]
+/// Whether the slot is one of these. It looks at all of them, several at once.
 fn has_slot(slots: &[u32], slot: u32) -> bool
     ensures { result ≡ has_slot slots.now slot }
 {
-    slots.iter().any(|given| *given == slot)
+    let mut found = false;
+    for given in slots {
+        found = found | (*given == slot);
+    }
+    found
 }
 
 /// Puts the slot at the end, unless it is there already.
