@@ -17,11 +17,12 @@ use Rattle.conn_machine.specs.declared.counts.Standing.{Standing}
 use Rattle.conn_machine.specs.declared.counts.Totals.{Totals}
 use Rattle.conn_machine.specs.declared.row.Phase.{Phase}
 use Rattle.conn_machine.specs.declared.row.Phase.TheVariants.{Read, Write, Close}
+use Rattle.conn_machine.specs.declared.row.Place.{Place}
 use Rattle.conn_machine.specs.declared.row.Row.{Row}
-use Rattle.conn_machine.specs.Rows.{is_vacant, is_working, is_with_a_pass, is_parked_as, is_parked_lingering, is_live, is_carried_by, is_open_in, is_live_in, is_working_in, is_served_in, is_free_cell, lowest_free_cell}
+use Rattle.conn_machine.specs.Rows.{is_vacant, is_unused, is_working, is_with_a_pass, is_parked_as, is_parked_lingering, is_live, is_carried_by, is_open_in, is_live_in, is_working_in, is_served_in, is_free_cell, lowest_free_cell}
 use Rattle.conn_machine.specs.Shown.{is_served_as, phase_in}
 use Rattle.conn_machine.specs.States.{unused_row}
-use Rattle.conn_machine.specs.CountsInside.{one_if, moved_count, standing_of, changed_totals, CountsAll, no_counts, word_of, told_phase, counts_of, MovesStanding, CountsChild, IsChanged, AreOpeningCounts, IsCounted}
+use Rattle.conn_machine.specs.CountsInside.{one_if, moved_count, standing_of, changed_totals, totals_with, totals_without, CountsAll, no_counts, word_of, told_phase, counts_of, MovesStanding, CountsChild, IsChanged, AreOpeningCounts, IsCounted}
 use Rattle.conn_machine.proofs.CellLemmas.{count_by-any, count_by-none}
 use Rattle.conn_machine.proofs.CountLemmas.{count_none}
 use Rattle.conn_machine.proofs.UpdateLemmas.{count_cons}
@@ -61,6 +62,26 @@ totals_changed t rows i r r' few below is was = record {
   keep_alive = replaced_few (λ (x : Row). is_parked_as KeepAlive x.place) rows i r r' t.keep_alive few below is was.keep_alive;
   closing = replaced_few (λ (x : Row). is_parked_lingering x.place) rows i r r' t.closing few below is was.closing;
 }
+
+-- a count that goes first by what was and then by what is goes by both
+moved_twice : (n : ℕ) (before now : Bool) → moved_count (moved_count n before false) false now ≡ moved_count n before now
+moved_twice n true true = omega arith
+moved_twice n true false = omega arith
+moved_twice n false true = omega arith
+moved_twice n false false = omega arith
+
+-- one row has another place where it goes from the one and comes to the other
+pub changed_by_two : (before now : Place) (t : Totals) → totals_with now (totals_without before t) ≡ changed_totals before now t
+changed_by_two before now t =
+    rw (
+      moved_twice t.vacant (is_vacant before) (is_vacant now),
+      moved_twice t.live (not (is_unused before)) (not (is_unused now)),
+      moved_twice t.in_hand (is_with_a_pass before) (is_with_a_pass now),
+      moved_twice t.working (is_working before) (is_working now),
+      moved_twice t.writing (is_parked_as Writing before) (is_parked_as Writing now),
+      moved_twice t.keep_alive (is_parked_as KeepAlive before) (is_parked_as KeepAlive now),
+      moved_twice t.closing (is_parked_lingering before) (is_parked_lingering now),
+    ) refl
 
 -- ## The counts of one child
 

@@ -1,7 +1,8 @@
 -- What is kept of the rows beside them, so that few calls go over them: numbers that equal the counts of the rows.
 use Rattle.std.specs.Prelude.{◌≡◌, ◌==◌, ℕ, ◌+◌, ◌-◌, ◌<◌, ◌^◌, Bool, true, false, not, ◌&&◌, List, count_by, cond, if◌then◌else◌, length, min, nat_lt, replicate, slice_index_or, Option, None, Some}
 use Rattle.std.specs.Int.{bit_at}
-use Rattle.mpm_base.specs.declared.conn.Kind.TheVariants.{KeepAlive, Writing}
+use Rattle.mpm_base.specs.declared.conn.Kind.{Kind}
+use Rattle.mpm_base.specs.declared.conn.Kind.TheVariants.{Reading, KeepAlive, Writing, Linger, ShortLinger}
 use Rattle.conn_machine.specs.declared.counts.ChildCounts.{ChildCounts}
 use Rattle.conn_machine.specs.declared.counts.Counts.{Counts}
 use Rattle.conn_machine.specs.declared.counts.Standing.{Standing}
@@ -44,6 +45,40 @@ changed_totals before now t =
       keep_alive = moved_count t.keep_alive (is_parked_as KeepAlive before) (is_parked_as KeepAlive now);
       closing = moved_count t.closing (is_parked_lingering before) (is_parked_lingering now);
     }
+
+-- the counts of all rows without one at the place
+abbrev pub totals_without : Place → Totals → Totals
+totals_without place t =
+    record {
+      vacant = moved_count t.vacant (is_vacant place) false;
+      live = moved_count t.live (not (is_unused place)) false;
+      in_hand = moved_count t.in_hand (is_with_a_pass place) false;
+      working = moved_count t.working (is_working place) false;
+      writing = moved_count t.writing (is_parked_as Writing place) false;
+      keep_alive = moved_count t.keep_alive (is_parked_as KeepAlive place) false;
+      closing = moved_count t.closing (is_parked_lingering place) false;
+    }
+
+-- the counts of all rows with one more at the place
+abbrev pub totals_with : Place → Totals → Totals
+totals_with place t =
+    record {
+      vacant = moved_count t.vacant false (is_vacant place);
+      live = moved_count t.live false (not (is_unused place));
+      in_hand = moved_count t.in_hand false (is_with_a_pass place);
+      working = moved_count t.working false (is_working place);
+      writing = moved_count t.writing false (is_parked_as Writing place);
+      keep_alive = moved_count t.keep_alive false (is_parked_as KeepAlive place);
+      closing = moved_count t.closing false (is_parked_lingering place);
+    }
+
+-- the counts of all rows once one that waits for this goes, or comes
+abbrev pub moved_waits : Kind → Bool → Bool → Totals → Totals
+moved_waits Reading before now t = t
+moved_waits KeepAlive before now t = record t { keep_alive = moved_count t.keep_alive before now }
+moved_waits Writing before now t = record t { writing = moved_count t.writing before now }
+moved_waits Linger before now t = record t { closing = moved_count t.closing before now }
+moved_waits ShortLinger before now t = record t { closing = moved_count t.closing before now }
 
 -- the numbers are the counts of the rows
 pub record CountsAll (t : Totals) (rows : List Row) : Type 0 where
@@ -128,6 +163,28 @@ pub record EntersOwn (x : Standing) (old new : ChildCounts) : Type 0 where
   pub phases : (phase : Phase) (c : ℕ)
       → bit_at (word_of phase new) c
       ≡ bit_at (word_of phase old) c + one_if (is_in_cell_as phase c x.place)
+
+-- the child's words and its number of served rows, without a row at the place; all else stays
+pub record LeavesCell (place : Place) (old new : ChildCounts) : Type 0 where
+  pub carried : new.carried ≡ old.carried
+  pub open_rows : new.open_rows ≡ old.open_rows
+  pub live : new.live ≡ old.live
+  pub working : new.working ≡ moved_count old.working (is_working place) false
+  pub busy : (c : ℕ) → bit_at new.busy c ≡ bit_at old.busy c - one_if (is_in_cell c place)
+  pub phases : (phase : Phase) (c : ℕ)
+      → bit_at (word_of phase new) c
+      ≡ bit_at (word_of phase old) c - one_if (is_in_cell_as phase c place)
+
+-- the same with a row more at the place
+pub record EntersCell (place : Place) (old new : ChildCounts) : Type 0 where
+  pub carried : new.carried ≡ old.carried
+  pub open_rows : new.open_rows ≡ old.open_rows
+  pub live : new.live ≡ old.live
+  pub working : new.working ≡ moved_count old.working false (is_working place)
+  pub busy : (c : ℕ) → bit_at new.busy c ≡ bit_at old.busy c + one_if (is_in_cell c place)
+  pub phases : (phase : Phase) (c : ℕ)
+      → bit_at (word_of phase new) c
+      ≡ bit_at (word_of phase old) c + one_if (is_in_cell_as phase c place)
 
 -- the counts of a child without the row, which may be another child's
 pub record LosesStanding (k : ℕ) (x : Standing) (old new : ChildCounts) : Type 0 where

@@ -4,9 +4,8 @@ ghost use Rattle.std.specs.Prelude.{◌≡◌, ◌≢◌, ◌==◌, ℕ, ◌+◌
 ghost use Rattle.std.specs.Int.{bit_at};
 ghost use Rattle.conn_machine.specs.CountsInside as spec;
 ghost use Rattle.conn_machine.specs.Rows.{is_in_cell};
-ghost use Rattle.conn_machine.specs.Shown.{is_in_cell_as};
 
-use crate::row::{Phase, Place, Row, phase_number};
+use crate::row::{Phase, Place, Row};
 use crate::state::MOST_CHILDREN;
 use mpm_base::{Kind, NoMemory};
 use std::alloc::Global;
@@ -79,29 +78,67 @@ fn moved_count(count: u32, before: bool, now: bool) -> u32
 }
 
 impl Totals {
-    /// One row has another place.
+    /// The row at the place goes.
+    fn leave(&mut self, place: Place)
+        ensures { self.new ≡ spec.totals_without place self.old }
+    {
+        let old = *self;
+        match place {
+            Place::Vacant => self.vacant = moved_count(old.vacant, true, false),
+            Place::Spent => (),
+            Place::Held | Place::Queued | Place::Working(_, _) => {
+                self.live = moved_count(old.live, true, false);
+                self.in_hand = moved_count(old.in_hand, true, false);
+                self.working = moved_count(old.working, place.is_working(), false);
+            }
+            Place::Parked(kind) => {
+                self.live = moved_count(old.live, true, false);
+                self.change_waits(kind, true, false);
+            }
+        }
+    }
+
+    /// A row comes to the place.
+    fn enter(&mut self, place: Place)
+        ensures { self.new ≡ spec.totals_with place self.old }
+    {
+        let old = *self;
+        match place {
+            Place::Vacant => self.vacant = moved_count(old.vacant, false, true),
+            Place::Spent => (),
+            Place::Held | Place::Queued | Place::Working(_, _) => {
+                self.live = moved_count(old.live, false, true);
+                self.in_hand = moved_count(old.in_hand, false, true);
+                self.working = moved_count(old.working, false, place.is_working());
+            }
+            Place::Parked(kind) => {
+                self.live = moved_count(old.live, false, true);
+                self.change_waits(kind, false, true);
+            }
+        }
+    }
+
+    /// One row that waits for this goes, or comes.
+    fn change_waits(&mut self, kind: Kind, before: bool, now: bool)
+        ensures { self.new ≡ spec.moved_waits kind before now self.old }
+    {
+        match kind {
+            Kind::Reading => (),
+            Kind::KeepAlive => self.keep_alive = moved_count(self.keep_alive, before, now),
+            Kind::Writing => self.writing = moved_count(self.writing, before, now),
+            Kind::Linger | Kind::ShortLinger => {
+                self.closing = moved_count(self.closing, before, now);
+            }
+        }
+    }
+
+    /// One row has another place. Only the counts of the two places are touched.
+    #[tactic(auto, using(crate::proofs::KeptCounts::changed_by_two))]
     fn change(&mut self, before: Place, now: Place)
         ensures { self.new ≡ spec.changed_totals before now self.old }
     {
-        self.vacant = moved_count(self.vacant, before.is_vacant(), now.is_vacant());
-        self.live = moved_count(self.live, !before.is_unused(), !now.is_unused());
-        self.in_hand = moved_count(self.in_hand, before.is_in_hand(), now.is_in_hand());
-        self.working = moved_count(self.working, before.is_working(), now.is_working());
-        self.writing = moved_count(
-            self.writing,
-            before.is_parked_as(Kind::Writing),
-            now.is_parked_as(Kind::Writing),
-        );
-        self.keep_alive = moved_count(
-            self.keep_alive,
-            before.is_parked_as(Kind::KeepAlive),
-            now.is_parked_as(Kind::KeepAlive),
-        );
-        self.closing = moved_count(
-            self.closing,
-            before.is_parked_lingering(),
-            now.is_parked_lingering(),
-        );
+        self.leave(before);
+        self.enter(now);
     }
 }
 
@@ -154,33 +191,6 @@ fn cells_with(word: u64, place: Place) -> u64
 {
     match place {
         Place::Working(cell, _) => with_bit(word, cell),
-        _ => word,
-    }
-}
-
-/// The word of the cells whose workers are in the phase, without the row that is at the place.
-fn phase_without(word: u64, phase: Phase, place: Place) -> u64
-    ensures { (c : ℕ)
-        → bit_at result c ≡ bit_at word c - spec.one_if (is_in_cell_as phase c place) }
-{
-    match place {
-        Place::Working(_, own) if phase_number(own) == phase_number(phase) => {
-            cells_without(word, place)
-        }
-        _ => word,
-    }
-}
-
-/// The word of the cells whose workers are in the phase, with a row at the place.
-fn phase_with(word: u64, phase: Phase, place: Place) -> u64
-    requires { spec.has_bit_for word place ≡ true }
-    ensures { (c : ℕ)
-        → bit_at result c ≡ bit_at word c + spec.one_if (is_in_cell_as phase c place) }
-{
-    match place {
-        Place::Working(_, own) if phase_number(own) == phase_number(phase) => {
-            cells_with(word, place)
-        }
         _ => word,
     }
 }
@@ -265,6 +275,37 @@ impl ChildCounts {
         lowest_clear(self.busy)
     }
 
+    /// The words of cells without the row that is at the place.
+    fn leave_cell(&mut self, place: Place)
+        ensures { spec.LeavesCell place self.old self.new }
+    {
+        if let Place::Working(_, phase) = place {
+            self.working = moved_count(self.working, true, false);
+            self.busy = cells_without(self.busy, place);
+            match phase {
+                Phase::Read => self.reading = cells_without(self.reading, place),
+                Phase::Write => self.sending = cells_without(self.sending, place),
+                Phase::Close => self.finishing = cells_without(self.finishing, place),
+            }
+        }
+    }
+
+    /// The words of cells with a row at the place.
+    fn enter_cell(&mut self, place: Place)
+        requires { spec.has_bits_for self.old place ≡ true }
+        ensures { spec.EntersCell place self.old self.new }
+    {
+        if let Place::Working(_, phase) = place {
+            self.working = moved_count(self.working, false, true);
+            self.busy = cells_with(self.busy, place);
+            match phase {
+                Phase::Read => self.reading = cells_with(self.reading, place),
+                Phase::Write => self.sending = cells_with(self.sending, place),
+                Phase::Close => self.finishing = cells_with(self.finishing, place),
+            }
+        }
+    }
+
     /// Without the row, which is of the child.
     fn leave(&mut self, row: Standing)
         ensures { spec.LeavesOwn row self.old self.new }
@@ -273,11 +314,7 @@ impl ChildCounts {
         self.carried = moved_count(self.carried, row.place.is_carried(), false);
         self.open_rows = moved_count(self.open_rows, live && !row.lingering, false);
         self.live = moved_count(self.live, live, false);
-        self.working = moved_count(self.working, row.place.is_working(), false);
-        self.busy = cells_without(self.busy, row.place);
-        self.reading = phase_without(self.reading, Phase::Read, row.place);
-        self.sending = phase_without(self.sending, Phase::Write, row.place);
-        self.finishing = phase_without(self.finishing, Phase::Close, row.place);
+        self.leave_cell(row.place);
     }
 
     /// With the row, which is of the child.
@@ -289,11 +326,7 @@ impl ChildCounts {
         self.carried = moved_count(self.carried, false, row.place.is_carried());
         self.open_rows = moved_count(self.open_rows, false, live && !row.lingering);
         self.live = moved_count(self.live, false, live);
-        self.working = moved_count(self.working, false, row.place.is_working());
-        self.busy = cells_with(self.busy, row.place);
-        self.reading = phase_with(self.reading, Phase::Read, row.place);
-        self.sending = phase_with(self.sending, Phase::Write, row.place);
-        self.finishing = phase_with(self.finishing, Phase::Close, row.place);
+        self.enter_cell(row.place);
     }
 }
 
