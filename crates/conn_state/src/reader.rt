@@ -17,12 +17,11 @@ use crate::laws::{
 use crate::received::Received;
 use crate::sizes::READ_PIECE;
 use crate::stage::Stage;
-use crate::steps::{StepAnswer, read_on};
+use crate::steps::{StepAnswer, step_on};
 use http_read::{GREATEST_HEAD, HeadReader, Limits, keeps_answer, keeps_spelling};
 use mpm_base::{Got, Link, NoMemory};
 use std::alloc::Global;
 use std::marker::Model;
-use std::mem;
 
 /// What a turn of reading found.
 #[derive(Clone, Copy)]
@@ -150,10 +149,7 @@ impl RequestReader {
             self.old.stage self.new.stage result }
     {
         kept_bytes_are_readable();
-        let stage = mem::replace(&mut self.stage, Stage::Refused(0, false));
-        let (stage, step) = read_on(self.alloc, stage, &mut self.unread);
-        self.stage = stage;
-        step
+        step_on(self.alloc, &mut self.stage, &mut self.unread)
     }
 
     /// How many bytes the link is asked for: at most a piece, and no more than it takes to see that a head is too large.

@@ -1,17 +1,18 @@
 //! How far the next request is read by the bytes that are there.
 //! Why it is so stands in docs/DECISIONS.md: 28, What is kept of a request that isn't answered.
-ghost use Rattle.std.specs.Prelude.{length, take, ◌≤◌};
+ghost use Rattle.std.specs.Prelude.{◌≡◌};
 ghost use Rattle.http_read.specs.declared.request.Limits.{Limits};
-ghost use Rattle.http_read.specs.LookedAt.{HasLookedAt};
-ghost use Rattle.http_read.specs.BodyPlaces.{begun_len};
+ghost use Rattle.http_read.specs.RequestParts.{RequestParts};
+ghost use Rattle.http_read.specs.declared.body.BodyPlace.{BodyPlace};
 ghost use Rattle.conn_state.specs.declared.stage.Stage.TheVariants as stage;
 ghost use Rattle.conn_state.specs.Steps.{Steps, IsReadable};
 ghost use Rattle.conn_state.specs.StepsInside.{StartsBody};
 
 use crate::received::Received;
 use crate::stage::Stage;
-use http_read::{BodyAnswer, BodyReader, HeadAnswer, HeadReader, Request};
+use http_read::{BodyAnswer, BodyReader, HeadAnswer, Request};
 use std::alloc::Global;
+use std::mem;
 
 /// What the bytes that are there say of the next request.
 #[derive(Clone, Copy)]
@@ -30,57 +31,66 @@ pub enum StepAnswer {
     NoMemory,
 }
 
-/// Reads on in its head.
-fn read_head(alloc: Global, reader: HeadReader, unread: &mut Received) -> (Stage, StepAnswer)
-    requires within { reader.looked ≤ length unread.old }
-    requires looked { HasLookedAt (take reader.looked unread.old) reader }
-    ensures { (limits : Limits)
-        → Steps limits unread.old unread.new (stage.Head reader) result.0 result.1 }
-{
-    let mut reader = reader;
-    match reader.read(alloc, unread.as_slice()) {
-        HeadAnswer::Whole(request, len) => {
-            unread.skip(len as usize);
-            begin_body(request)
-        }
-        HeadAnswer::More => (Stage::Head(reader), StepAnswer::Wants),
-        HeadAnswer::Refused(code) => (Stage::Refused(code, false), StepAnswer::Refused),
-        HeadAnswer::NoMemory => (Stage::Head(reader), StepAnswer::NoMemory),
-    }
-}
-
 /// Goes on behind its head.
-fn begin_body(request: Request) -> (Stage, StepAnswer)
-    ensures { StartsBody request result.0 result.1 }
+fn begin_body(stage: &mut Stage, request: Request) -> StepAnswer
+    ensures { StartsBody request stage.new result }
 {
     let body = BodyReader::start(request.body());
-    if request.expects() {
-        (Stage::Body(request, body), StepAnswer::Awaited)
+    let expects = request.expects();
+    *stage = Stage::Body(request, body);
+    if expects {
+        StepAnswer::Awaited
     } else {
-        (Stage::Body(request, body), StepAnswer::Accepted)
+        StepAnswer::Accepted
     }
 }
 
-/// Reads on in its body, and drops what it reads of it.
-fn read_body(request: Request, reader: BodyReader, unread: &mut Received) -> (Stage, StepAnswer)
-    requires within { begun_len reader ≤ length unread.old }
-    ensures { (limits : Limits)
-        → Steps limits unread.old unread.new (stage.Body request reader) result.0 result.1 }
+/// Goes on behind its body, where it is in that.
+fn end_body(stage: &mut Stage)
+    ensures { (request : RequestParts) (reader : BodyPlace)
+        → stage.old ≡ stage.Body request reader → stage.new ≡ stage.Whole request }
 {
-    let mut reader = reader;
-    match reader.feed(unread.as_slice()) {
-        BodyAnswer::Took(count) => {
-            unread.skip(count as usize);
-            (Stage::Body(request, reader), StepAnswer::Wants)
-        }
-        BodyAnswer::Done(end) => {
-            unread.skip(end as usize);
-            (Stage::Whole(request), StepAnswer::Whole)
-        }
-        BodyAnswer::Bad(code) => {
-            let expected = request.expects();
-            (Stage::Refused(code, expected), StepAnswer::Refused)
-        }
+    let body = mem::replace(stage, Stage::Refused(0, false));
+    if let Stage::Body(request, _) = body {
+        *stage = Stage::Whole(request);
+    }
+}
+
+/// Reads on by the bytes that are there, and takes what they say of the next request. What was read of it stays where it is.
+pub(crate) fn step_on(alloc: Global, stage: &mut Stage, unread: &mut Received) -> StepAnswer
+    requires { IsReadable unread.old stage.old }
+    ensures { (limits : Limits) → Steps limits unread.old unread.new stage.old stage.new result }
+{
+    match stage {
+        Stage::Head(reader) => match reader.read(alloc, unread.as_slice()) {
+            HeadAnswer::Whole(request, len) => {
+                unread.skip(len as usize);
+                begin_body(stage, request)
+            }
+            HeadAnswer::More => StepAnswer::Wants,
+            HeadAnswer::Refused(code) => {
+                *stage = Stage::Refused(code, false);
+                StepAnswer::Refused
+            }
+            HeadAnswer::NoMemory => StepAnswer::NoMemory,
+        },
+        Stage::Body(request, reader) => match reader.feed(unread.as_slice()) {
+            BodyAnswer::Took(count) => {
+                unread.skip(count as usize);
+                StepAnswer::Wants
+            }
+            BodyAnswer::Done(end) => {
+                unread.skip(end as usize);
+                end_body(stage);
+                StepAnswer::Whole
+            }
+            BodyAnswer::Bad(code) => {
+                *stage = Stage::Refused(code, request.expects());
+                StepAnswer::Refused
+            }
+        },
+        Stage::Whole(_) => StepAnswer::Whole,
+        Stage::Refused(_, _) => StepAnswer::Refused,
     }
 }
 
@@ -90,10 +100,7 @@ pub fn read_on(alloc: Global, stage: Stage, unread: &mut Received) -> (Stage, St
     requires { IsReadable unread.old stage }
     ensures { (limits : Limits) → Steps limits unread.old unread.new stage result.0 result.1 }
 {
-    match stage {
-        Stage::Head(reader) => read_head(alloc, reader, unread),
-        Stage::Body(request, reader) => read_body(request, reader, unread),
-        Stage::Whole(request) => (Stage::Whole(request), StepAnswer::Whole),
-        Stage::Refused(code, expected) => (Stage::Refused(code, expected), StepAnswer::Refused),
-    }
+    let mut stage = stage;
+    let step = step_on(alloc, &mut stage, unread);
+    (stage, step)
 }
